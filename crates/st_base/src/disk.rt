@@ -1,0 +1,49 @@
+ghost use Rattle.std.specs.Prelude.{◌≡◌, IfOk};
+
+use crate::ids::{DiskId, FileId, PageNo};
+use crate::page::PageBytes;
+use std::alloc::AllocError;
+
+/// What a block says of its page: whose it is, and the birth of the mapping under which it was written.
+#[derive(Clone, Copy, Debug, PartialEq, Eq)]
+pub struct Tag {
+    pub file: FileId,
+    pub page: PageNo,
+    pub birth: u64,
+}
+
+/// A block of a disk, from 0.
+#[derive(Clone, Copy, Debug, PartialEq, Eq)]
+pub struct BlockAt {
+    pub disk: DiskId,
+    pub block: u32,
+}
+
+/// What a client asks of a disk: a whole block is read or written.
+#[derive(Drop)]
+pub enum Command {
+    Read {
+        at: BlockAt,
+    },
+    Write {
+        at: BlockAt,
+        tag: Tag,
+        bytes: PageBytes,
+    },
+}
+
+impl Command {
+    /// The same command, once more; the page is shared.
+    pub fn copy(&self) -> Result<Command, AllocError>
+        ensures { IfOk result (λ c. c ≡ self.now) }
+    {
+        match self {
+            Command::Read { at } => Ok(Command::Read { at: *at }),
+            Command::Write { at, tag, bytes } => Ok(Command::Write {
+                at: *at,
+                tag: *tag,
+                bytes: bytes.copy()?,
+            }),
+        }
+    }
+}

@@ -1,0 +1,7 @@
+use Rattle.st_codec.specs.Fits.{are_locks, is_lock_row, after_lock}
+use Rattle.st_codec.proofs.Rows.{both_true, each_fits}
+use Rattle.st_codec.proofs.row.put_locks.Goals as goal
+
+pub put_rows-requires-clause-each : goal.put_rows-requires-clause-each
+unfolding are_locks
+put_rows-requires-clause-each c = each_fits is_lock_row after_lock 1 c.args.rows.now (both_true _ _ c.requires).1

@@ -1,0 +1,7 @@
+use Rattle.st_codec.specs.Fits.{are_lost, is_lost_row, after_lost}
+use Rattle.st_codec.proofs.Rows.{both_true, each_fits}
+use Rattle.st_codec.proofs.row.put_lost.Goals as goal
+
+pub put_rows-requires-clause-each : goal.put_rows-requires-clause-each
+unfolding are_lost
+put_rows-requires-clause-each c = each_fits is_lost_row after_lost 0 c.args.rows.now (both_true _ _ c.requires).1

@@ -1,0 +1,34 @@
+ghost use Rattle.std.specs.Prelude.{◌≡◌, IfOk};
+
+use crate::patch::PatchBytes;
+use st_base::{FileId, NameAsk, PageBytes, PageNo, ServerId};
+use std::alloc::AllocError;
+
+/// What an application asks of a client.
+#[derive(Drop)]
+pub enum Ask {
+    Write(FileId, PageNo, PageBytes),
+    Read(FileId, PageNo),
+    Sync(FileId),
+    /// All pages from this one on are dropped.
+    Cut(FileId, PageNo),
+    Name(ServerId, NameAsk),
+    /// The bytes from this place in the page on become these.
+    Patch(FileId, PageNo, u16, PatchBytes),
+}
+
+impl Ask {
+    /// The same ask, once more; a page is shared.
+    pub fn copy(&self) -> Result<Ask, AllocError>
+        ensures { IfOk result (λ a. a ≡ self.now) }
+    {
+        match self {
+            Ask::Write(file, page, bytes) => Ok(Ask::Write(*file, *page, bytes.copy()?)),
+            Ask::Read(file, page) => Ok(Ask::Read(*file, *page)),
+            Ask::Sync(file) => Ok(Ask::Sync(*file)),
+            Ask::Cut(file, page) => Ok(Ask::Cut(*file, *page)),
+            Ask::Name(server, ask) => Ok(Ask::Name(*server, ask.copy()?)),
+            Ask::Patch(file, page, at, bytes) => Ok(Ask::Patch(*file, *page, *at, bytes.copy()?)),
+        }
+    }
+}

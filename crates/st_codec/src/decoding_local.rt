@@ -1,0 +1,273 @@
+ghost use Rattle.std.specs.Prelude.{◌≡◌};
+ghost use Rattle.st_codec.specs.Reading as reading;
+
+use crate::answer::AppAnswer;
+use crate::ask::Ask;
+use crate::decoding_names::read_name_ask;
+use crate::fault::{Fault, ReadError};
+use crate::field::{
+    read_byte, read_file, read_ino, read_page, read_patch_bytes, read_tag, read_whole_page,
+    read_word16_in, read_word64,
+};
+use crate::message::DiskResult;
+use crate::row::{read_lost, read_names};
+use st_base::{BlockAt, Command, FileId, PageBytes, PageNo, ServerId, Tag};
+use std::alloc::Global;
+
+#[tactic(auto, unfolding(crate::specs::Reading::file_page_at))]
+fn read_file_page(bytes: &[u8]) -> Result<((FileId, PageNo), &[u8]), ReadError>
+    ensures { reading.Gives (λ x. (x.0, x.1.now)) result (reading.file_page_at bytes.now) }
+{
+    let (file, rest) = read_file(1, bytes)?;
+    let (page, rest) = read_page(0, rest)?;
+    Ok(((file, page), rest))
+}
+
+#[tactic(auto, unfolding(crate::specs::Reading::write_at))]
+fn read_write(alloc: Global, bytes: &[u8]) -> Result<(Ask, &[u8]), ReadError>
+    ensures { reading.Gives (λ x. (x.0, x.1.now)) result (reading.write_at bytes.now) }
+{
+    let (file, rest) = read_file(1, bytes)?;
+    let (page, rest) = read_page(0, rest)?;
+    let (text, rest) = read_whole_page(alloc, rest)?;
+    Ok((Ask::Write(file, page, text), rest))
+}
+
+#[tactic(auto, unfolding(crate::specs::Reading::ask_names_at))]
+fn read_ask_names(alloc: Global, bytes: &[u8]) -> Result<(Ask, &[u8]), ReadError>
+    ensures { reading.Gives (λ x. (x.0, x.1.now)) result (reading.ask_names_at bytes.now) }
+{
+    let (server, rest) = read_word16_in(1, 65_535, bytes)?;
+    let (ask, rest) = read_name_ask(alloc, rest)?;
+    Ok((Ask::Name(ServerId(server), ask), rest))
+}
+
+#[tactic(auto, unfolding(crate::specs::Reading::ask_numbered))]
+fn read_ask_numbered(
+    alloc: Global,
+    number: u8,
+    left: usize,
+    bytes: &[u8],
+) -> Result<(Ask, &[u8]), ReadError>
+    ensures { reading.Gives (λ x. (x.0, x.1.now)) result (reading.ask_numbered number left bytes.now) }
+{
+    match number {
+        1 => read_write(alloc, bytes),
+        2 => {
+            let ((file, page), rest) = read_file_page(bytes)?;
+            Ok((Ask::Read(file, page), rest))
+        }
+        3 => {
+            let (file, rest) = read_file(1, bytes)?;
+            Ok((Ask::Sync(file), rest))
+        }
+        4 => {
+            let ((file, page), rest) = read_file_page(bytes)?;
+            Ok((Ask::Cut(file, page), rest))
+        }
+        5 => read_ask_names(alloc, bytes),
+        _ => Err(ReadError::Fault(Fault::Value(left))),
+    }
+}
+
+/// An ask of version 1.
+#[tactic(auto, unfolding(crate::specs::Reading::ask_at))]
+pub(crate) fn read_ask(alloc: Global, bytes: &[u8]) -> Result<(Ask, &[u8]), ReadError>
+    ensures { reading.Gives (λ x. (x.0, x.1.now)) result (reading.ask_at bytes.now) }
+{
+    let (number, rest) = read_byte(bytes)?;
+    read_ask_numbered(alloc, number, bytes.len(), rest)
+}
+
+#[tactic(auto, unfolding(crate::specs::Reading::patch_fields_at))]
+fn read_patch_fields(alloc: Global, bytes: &[u8]) -> Result<(Ask, &[u8]), ReadError>
+    ensures { reading.Gives (λ x. (x.0, x.1.now)) result (reading.patch_fields_at bytes.now) }
+{
+    let (file, rest) = read_file(1, bytes)?;
+    let (page, rest) = read_page(0, rest)?;
+    let (at, rest) = read_word16_in(0, 4_095, rest)?;
+    let (text, rest) = read_patch_bytes(alloc, at, rest)?;
+    Ok((Ask::Patch(file, page, at, text), rest))
+}
+
+#[tactic(auto, unfolding(crate::specs::Reading::patch_numbered))]
+fn read_patch_numbered(
+    alloc: Global,
+    number: u8,
+    left: usize,
+    bytes: &[u8],
+) -> Result<(Ask, &[u8]), ReadError>
+    ensures { reading.Gives (λ x. (x.0, x.1.now)) result (reading.patch_numbered number left bytes.now) }
+{
+    match number {
+        6 => read_patch_fields(alloc, bytes),
+        _ => Err(ReadError::Fault(Fault::Value(left))),
+    }
+}
+
+/// The ask of version 2.
+#[tactic(auto, unfolding(crate::specs::Reading::patch_at))]
+pub(crate) fn read_patch(alloc: Global, bytes: &[u8]) -> Result<(Ask, &[u8]), ReadError>
+    ensures { reading.Gives (λ x. (x.0, x.1.now)) result (reading.patch_at bytes.now) }
+{
+    let (number, rest) = read_byte(bytes)?;
+    read_patch_numbered(alloc, number, bytes.len(), rest)
+}
+
+#[tactic(auto, unfolding(crate::specs::Reading::two_words_at))]
+fn read_two_words(bytes: &[u8]) -> Result<((u64, u64), &[u8]), ReadError>
+    ensures { reading.Gives (λ x. (x.0, x.1.now)) result (reading.two_words_at bytes.now) }
+{
+    let (a, rest) = read_word64(bytes)?;
+    let (b, rest) = read_word64(rest)?;
+    Ok(((a, b), rest))
+}
+
+#[tactic(auto, unfolding(crate::specs::Reading::plain_answer))]
+fn read_plain_answer(number: u8, left: usize, bytes: &[u8]) -> Result<(AppAnswer, &[u8]), ReadError>
+    ensures { reading.Gives (λ x. (x.0, x.1.now)) result (reading.plain_answer number left bytes.now) }
+{
+    match number {
+        0 => Ok((AppAnswer::Written, bytes)),
+        2 => Ok((AppAnswer::Hard, bytes)),
+        3 => Ok((AppAnswer::Cut, bytes)),
+        17 => Ok((AppAnswer::Quiesced, bytes)),
+        18 => Ok((AppAnswer::NoFile, bytes)),
+        21 => Ok((AppAnswer::OpsFull, bytes)),
+        24 => Ok((AppAnswer::DirtyFull, bytes)),
+        25 => Ok((AppAnswer::NotHolder, bytes)),
+        26 => Ok((AppAnswer::TooManyLocks, bytes)),
+        _ => Err(ReadError::Fault(Fault::Value(left))),
+    }
+}
+
+#[tactic(auto, unfolding(crate::specs::Reading::answer_numbered))]
+fn read_answer_numbered(
+    alloc: Global,
+    number: u8,
+    left: usize,
+    bytes: &[u8],
+) -> Result<(AppAnswer, &[u8]), ReadError>
+    ensures { reading.Gives (λ x. (x.0, x.1.now)) result (reading.answer_numbered number left bytes.now) }
+{
+    match number {
+        1 => {
+            let (text, rest) = read_whole_page(alloc, bytes)?;
+            Ok((AppAnswer::Read(text), rest))
+        }
+        4 => {
+            let (ino, rest) = read_ino(bytes)?;
+            Ok((AppAnswer::Named(ino), rest))
+        }
+        5 => {
+            let (rows, rest) = read_names(alloc, bytes)?;
+            Ok((AppAnswer::Listed(rows), rest))
+        }
+        6 => {
+            let (code, rest) = read_byte(bytes)?;
+            Ok((AppAnswer::Refused(code), rest))
+        }
+        19 => {
+            let ((free, asked), rest) = read_two_words(bytes)?;
+            Ok((AppAnswer::NoSpace(free, asked), rest))
+        }
+        20 => {
+            let (command, rest) = read_word64(bytes)?;
+            Ok((AppAnswer::DiskFault(command), rest))
+        }
+        22 => {
+            let ((old, new), rest) = read_two_words(bytes)?;
+            Ok((AppAnswer::Uncertain(old, new), rest))
+        }
+        23 => {
+            let (rows, rest) = read_lost(alloc, bytes)?;
+            Ok((AppAnswer::Lost(rows), rest))
+        }
+        _ => read_plain_answer(number, left, bytes),
+    }
+}
+
+#[tactic(auto, unfolding(crate::specs::Reading::answer_at))]
+pub(crate) fn read_answer(alloc: Global, bytes: &[u8]) -> Result<(AppAnswer, &[u8]), ReadError>
+    ensures { reading.Gives (λ x. (x.0, x.1.now)) result (reading.answer_at bytes.now) }
+{
+    let (number, rest) = read_byte(bytes)?;
+    read_answer_numbered(alloc, number, bytes.len(), rest)
+}
+
+#[tactic(auto, unfolding(crate::specs::Reading::tagged_page_at))]
+fn read_tagged_page(
+    alloc: Global,
+    least: u64,
+    bytes: &[u8],
+) -> Result<((Tag, PageBytes), &[u8]), ReadError>
+    ensures { reading.Gives (λ x. (x.0, x.1.now)) result (reading.tagged_page_at least bytes.now) }
+{
+    let (tag, rest) = read_tag(least, bytes)?;
+    let (text, rest) = read_whole_page(alloc, rest)?;
+    Ok(((tag, text), rest))
+}
+
+#[tactic(auto, unfolding(crate::specs::Reading::command_numbered))]
+fn read_command_numbered(
+    alloc: Global,
+    at: BlockAt,
+    number: u8,
+    left: usize,
+    bytes: &[u8],
+) -> Result<(Command, &[u8]), ReadError>
+    ensures { reading.Gives (λ x. (x.0, x.1.now)) result (reading.command_numbered at number left bytes.now) }
+{
+    match number {
+        0 => Ok((Command::Read { at }, bytes)),
+        1 => {
+            let ((tag, bytes), rest) = read_tagged_page(alloc, 1, bytes)?;
+            Ok((Command::Write { at, tag, bytes }, rest))
+        }
+        _ => Err(ReadError::Fault(Fault::Value(left))),
+    }
+}
+
+/// A command on this block.
+#[tactic(auto, unfolding(crate::specs::Reading::command_at))]
+pub(crate) fn read_command(
+    alloc: Global,
+    at: BlockAt,
+    bytes: &[u8],
+) -> Result<(Command, &[u8]), ReadError>
+    ensures { reading.Gives (λ x. (x.0, x.1.now)) result (reading.command_at at bytes.now) }
+{
+    let (number, rest) = read_byte(bytes)?;
+    read_command_numbered(alloc, at, number, bytes.len(), rest)
+}
+
+#[tactic(auto, unfolding(crate::specs::Reading::result_numbered))]
+fn read_result_numbered(
+    alloc: Global,
+    number: u8,
+    left: usize,
+    bytes: &[u8],
+) -> Result<(DiskResult, &[u8]), ReadError>
+    ensures { reading.Gives (λ x. (x.0, x.1.now)) result (reading.result_numbered number left bytes.now) }
+{
+    match number {
+        0 => Ok((DiskResult::Failed, bytes)),
+        1 => Ok((DiskResult::WriteDone, bytes)),
+        2 => {
+            let ((tag, text), rest) = read_tagged_page(alloc, 0, bytes)?;
+            Ok((DiskResult::ReadDone(tag, text), rest))
+        }
+        _ => Err(ReadError::Fault(Fault::Value(left))),
+    }
+}
+
+#[tactic(auto, unfolding(crate::specs::Reading::disk_result_at))]
+pub(crate) fn read_disk_result(
+    alloc: Global,
+    bytes: &[u8],
+) -> Result<(DiskResult, &[u8]), ReadError>
+    ensures { reading.Gives (λ x. (x.0, x.1.now)) result (reading.disk_result_at bytes.now) }
+{
+    let (number, rest) = read_byte(bytes)?;
+    read_result_numbered(alloc, number, bytes.len(), rest)
+}

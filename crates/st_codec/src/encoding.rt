@@ -1,0 +1,209 @@
+ghost use Rattle.std.specs.Prelude.{◌≡◌, ◌++◌, true, IfOk, OnOk};
+ghost use Rattle.st_codec.specs.Fits as fits;
+ghost use Rattle.st_codec.specs.Spelling as spells;
+
+use crate::encoding_local::{put_answer, put_ask, put_command, put_disk_result};
+use crate::encoding_names::{put_name_op, put_name_reply};
+use crate::kind::Kind;
+use crate::message::{Body, Header, Message, Why};
+use crate::row::{put_extents, put_locks};
+use crate::spell::{put_block, put_byte, put_grant, put_mode, put_word16, put_word32, put_word64};
+use st_base::{GrantNo, Mode, PageNo};
+use std::alloc::{AllocError, Global};
+
+impl Why {
+    /// The number of the cause on the wire.
+    pub(crate) fn number(self) -> u8
+        ensures { result ≡ spells.why_number self }
+    {
+        match self {
+            Why::Suspect => 1,
+            Why::NoSession => 2,
+            Why::OtherEpoch => 3,
+            Why::Grace => 4,
+            Why::GraceOver => 5,
+            Why::Conflict => 6,
+            Why::NotHolder => 7,
+            Why::NoFile => 8,
+            Why::NoSpace => 9,
+            Why::TooManyLocks => 10,
+        }
+    }
+}
+
+fn put_wish(out: &mut Vec<u8>, ino: u32, mode: Mode) -> Result<(), AllocError>
+    ensures { OnOk result (out.new.items ≡ out.old.items ++ (spells.word32 ino ++ spells.mode mode)) }
+{
+    put_word32(out, ino)?;
+    put_mode(out, mode)?;
+    Ok(())
+}
+
+fn put_held(out: &mut Vec<u8>, ino: u32, g: GrantNo) -> Result<(), AllocError>
+    ensures { OnOk result (out.new.items ≡ out.old.items ++ (spells.word32 ino ++ spells.grant g)) }
+{
+    put_word32(out, ino)?;
+    put_grant(out, g)?;
+    Ok(())
+}
+
+fn put_lock(out: &mut Vec<u8>, ino: u32, g: GrantNo, mode: Mode) -> Result<(), AllocError>
+    ensures { OnOk result (out.new.items ≡ out.old.items ++ (spells.word32 ino ++ spells.grant g ++ spells.mode mode)) }
+{
+    put_word32(out, ino)?;
+    put_grant(out, g)?;
+    put_mode(out, mode)?;
+    Ok(())
+}
+
+fn put_place(out: &mut Vec<u8>, ino: u32, g: GrantNo, page: PageNo) -> Result<(), AllocError>
+    ensures { OnOk result (out.new.items ≡ out.old.items ++ (spells.word32 ino ++ spells.grant g ++ spells.word32 page.0)) }
+{
+    put_word32(out, ino)?;
+    put_grant(out, g)?;
+    put_word32(out, page.0)?;
+    Ok(())
+}
+
+fn put_run(
+    out: &mut Vec<u8>,
+    ino: u32,
+    g: GrantNo,
+    page: PageNo,
+    count: u16,
+) -> Result<(), AllocError>
+    ensures { OnOk result (out.new.items ≡ out.old.items ++ (spells.word32 ino ++ spells.grant g ++ spells.word32 page.0 ++ spells.word16 count)) }
+{
+    put_word32(out, ino)?;
+    put_grant(out, g)?;
+    put_word32(out, page.0)?;
+    put_word16(out, count)?;
+    Ok(())
+}
+
+fn put_nack(out: &mut Vec<u8>, why: Why, a: u64, b: u64) -> Result<(), AllocError>
+    ensures { OnOk result (out.new.items ≡ out.old.items ++ (spells.byte (spells.why_number why) ++ spells.word64 a ++ spells.word64 b)) }
+{
+    put_byte(out, why.number())?;
+    put_word64(out, a)?;
+    put_word64(out, b)?;
+    Ok(())
+}
+
+#[tactic(auto, unfolding(crate::specs::Spelling::body, crate::specs::Fits::is_body))]
+fn put_body(out: &mut Vec<u8>, body: &Body) -> Result<(), AllocError>
+    requires { fits.is_body body.now ≡ true }
+    ensures { OnOk result (out.new.items ≡ out.old.items ++ spells.body body.now) }
+{
+    match body {
+        Body::Acquire { ino, mode } => put_wish(out, *ino, *mode),
+        Body::Released { ino, g, to } => put_lock(out, *ino, *g, *to),
+        Body::Map { ino, g, page } => put_place(out, *ino, *g, *page),
+        Body::Allocate {
+            ino,
+            g,
+            page,
+            count,
+        } => put_run(out, *ino, *g, *page, *count),
+        Body::Cut { ino, g, from } => put_place(out, *ino, *g, *from),
+        Body::Name(op) => put_name_op(out, op),
+        Body::Reassert(rows) => put_locks(out, rows),
+        Body::DemandSeen { ino, g } => put_held(out, *ino, *g),
+        Body::Nack { why, a, b } => put_nack(out, *why, *a, *b),
+        Body::Granted { ino, g, mode } => put_lock(out, *ino, *g, *mode),
+        Body::Queued { ino, mode } => put_wish(out, *ino, *mode),
+        Body::Demand { ino, g, to } => put_lock(out, *ino, *g, *to),
+        Body::Extents { ino, rows } => {
+            put_word32(out, *ino)?;
+            put_extents(out, rows)?;
+            Ok(())
+        }
+        Body::Named(reply) => put_name_reply(out, reply),
+        Body::App { op, ask } => {
+            put_word32(out, *op)?;
+            put_ask(out, ask)?;
+            Ok(())
+        }
+        Body::AppDone { op, answer } => {
+            put_word32(out, *op)?;
+            put_answer(out, answer)?;
+            Ok(())
+        }
+        Body::Submit { command, at, what } => {
+            put_word64(out, *command)?;
+            put_block(out, *at)?;
+            put_command(out, what)?;
+            Ok(())
+        }
+        Body::Done { command, result } => {
+            put_word64(out, *command)?;
+            put_disk_result(out, result)?;
+            Ok(())
+        }
+        Body::Hello => Ok(()),
+        Body::KeepAlive => Ok(()),
+        Body::Welcome => Ok(()),
+        Body::Ack => Ok(()),
+        Body::Reasserted => Ok(()),
+        Body::Tick => Ok(()),
+    }
+}
+
+#[tactic(auto, unfolding(crate::specs::Spelling::nodes))]
+fn put_nodes(out: &mut Vec<u8>, header: &Header) -> Result<(), AllocError>
+    ensures { OnOk result (out.new.items ≡ out.old.items ++ spells.nodes header.now) }
+{
+    put_word16(out, header.from)?;
+    put_word16(out, header.to)?;
+    Ok(())
+}
+
+#[tactic(auto, unfolding(crate::specs::Spelling::ages))]
+fn put_ages(out: &mut Vec<u8>, header: &Header) -> Result<(), AllocError>
+    ensures { OnOk result (out.new.items ≡ out.old.items ++ spells.ages header.now) }
+{
+    put_word64(out, header.life)?;
+    put_word64(out, header.epoch)?;
+    Ok(())
+}
+
+#[tactic(auto, unfolding(crate::specs::Spelling::marks))]
+fn put_marks(out: &mut Vec<u8>, header: &Header) -> Result<(), AllocError>
+    ensures { OnOk result (out.new.items ≡ out.old.items ++ spells.marks header.now) }
+{
+    put_word64(out, header.number)?;
+    put_word64(out, header.stamp)?;
+    Ok(())
+}
+
+#[tactic(auto, unfolding(crate::specs::Spelling::header))]
+fn put_header(out: &mut Vec<u8>, header: &Header) -> Result<(), AllocError>
+    ensures { OnOk result (out.new.items ≡ out.old.items ++ spells.header header.now) }
+{
+    put_nodes(out, header)?;
+    put_ages(out, header)?;
+    put_marks(out, header)?;
+    Ok(())
+}
+
+#[tactic(auto, unfolding(crate::specs::Spelling::kind))]
+fn put_kind(out: &mut Vec<u8>, kind: Kind) -> Result<(), AllocError>
+    ensures { OnOk result (out.new.items ≡ out.old.items ++ spells.kind kind) }
+{
+    put_byte(out, kind.version())?;
+    put_byte(out, kind.number())?;
+    Ok(())
+}
+
+/// The one spelling of a message, as `docs/PROTOCOL.md`, "Wire", gives it table by table.
+#[tactic(auto, unfolding(crate::specs::Spelling::spelling, crate::specs::Fits::fits))]
+pub fn encode(alloc: Global, message: &Message) -> Result<Vec<u8>, AllocError>
+    requires { fits.fits message.now ≡ true }
+    ensures { IfOk result (λ bytes. bytes.items ≡ spells.spelling message.now) }
+{
+    let mut out = Vec::new(alloc);
+    put_kind(&mut out, message.body.kind())?;
+    put_header(&mut out, &message.header)?;
+    put_body(&mut out, &message.body)?;
+    Ok(out)
+}

@@ -1,0 +1,44 @@
+ghost use Rattle.std.specs.Prelude.{◌≡◌, ◌<◌, ◌≤◌, ◌++◌, true, ℕ, List, Some, None, Ok, Err, length};
+ghost use Rattle.st_codec.specs.Grammar.{Spells};
+ghost use Rattle.st_codec.specs.Fits as fits;
+ghost use Rattle.st_codec.specs.Frames as frames;
+ghost use Rattle.st_codec.specs.Reading as reading;
+ghost use Rattle.st_codec.specs.Sizes as sizes;
+ghost use Rattle.st_codec.specs.Spelling as spells;
+ghost use Rattle.st_codec.specs.Stream as streams;
+
+use crate::message::Message;
+use crate::refusal::CodecRefusal;
+
+/// A message has at most one spelling, and bytes spell at most one message.
+pub fn one_spelling()
+    ensures message { (m : Message) (a b : List ℕ) → Spells a m → Spells b m → a ≡ b }
+    ensures bytes { (bytes : List ℕ) (m n : Message) → Spells bytes m → Spells bytes n → m ≡ n }
+{}
+
+/// Bytes that follow a message are a fault of their own.
+pub fn bytes_that_follow()
+    ensures { (m : Message) (after : List ℕ) → fits.fits m ≡ true → 0 < length after → reading.decoded (spells.spelling m ++ after) ≡ Err CodecRefusal.Long }
+{}
+
+/// How long a message's spelling is, from its fields alone.
+pub fn spelled_size()
+    ensures { (m : Message) → length (spells.spelling m) ≡ sizes.size_of m }
+{}
+
+/// Every message that fits has room in a frame.
+pub fn fits_a_frame()
+    ensures { (m : Message) → fits.fits m ≡ true → sizes.size_of m ≤ 65536 }
+{}
+
+/// What a reader of frames gives doesn't depend on how the stream was cut into pieces.
+pub fn frames_in_any_pieces()
+    // After any pieces and calls of `next` the stream so far is the frames of the messages given, and what is held.
+    ensures reads { (moves : List streams.Move) → streams.AreBytes (streams.stream_of moves) → streams.Reads (streams.stream_of moves) (streams.ran moves streams.start) }
+    // No other messages are: where no frame of a message begins the rests, they and the messages are the same.
+    ensures once { (stream : List ℕ) (ms ns : List Message) (r q : List ℕ) → streams.IsStream stream ms r → streams.IsStream stream ns q → streams.IsAtEnd r → streams.IsAtEnd q → (ms ≡ ns) × (r ≡ q) }
+    // Where `next` gives no message, no frame of a message begins what is held.
+    ensures ends { (s : frames.Frames) → streams.AreBytes s.rest → s.refusal ≡ None → (frames.next s).1 ≡ None → streams.IsAtEnd s.rest }
+    // A frame's message is given, whatever follows.
+    ensures gives { (m : Message) (after : List ℕ) (s : frames.Frames) → streams.IsFramed m → s.refusal ≡ None → s.rest ≡ streams.message_frame m ++ after → (frames.next s).1 ≡ Some (Ok m) }
+{}

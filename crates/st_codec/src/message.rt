@@ -1,0 +1,345 @@
+ghost use Rattle.std.specs.Prelude.{◌≡◌, IfOk};
+
+use crate::answer::AppAnswer;
+use crate::ask::Ask;
+use st_base::{
+    BlockAt, Command, ExtentRows, GrantNo, LockRows, Mode, Name, NameRows, PageBytes, PageNo, Tag,
+};
+use std::alloc::AllocError;
+
+/// What stands in front of every message's body. A client is the node of its own number, a server is 32,768 and its
+/// number, and 0 is the node's own surroundings.
+#[derive(Clone, Copy, Debug, PartialEq, Eq)]
+pub struct Header {
+    pub from: u16,
+    pub to: u16,
+    pub life: u64,
+    pub epoch: u64,
+    pub number: u64,
+    pub stamp: u64,
+}
+
+/// Why a server refuses a request; the number of each is its place in this list, from 1.
+#[derive(Clone, Copy, Debug, PartialEq, Eq)]
+pub enum Why {
+    Suspect,
+    NoSession,
+    OtherEpoch,
+    Grace,
+    GraceOver,
+    Conflict,
+    NotHolder,
+    NoFile,
+    NoSpace,
+    TooManyLocks,
+}
+
+/// What a client asks of a server's names.
+#[derive(Drop)]
+pub enum NameOp {
+    Lookup {
+        dir: u32,
+        name: Name,
+    },
+    Create {
+        dir: u32,
+        name: Name,
+    },
+    Mkdir {
+        dir: u32,
+        name: Name,
+    },
+    /// `g` is the grant under which the client holds the file, 0 for a directory.
+    Remove {
+        dir: u32,
+        name: Name,
+        g: GrantNo,
+    },
+    Rename {
+        dir: u32,
+        name: Name,
+        dir2: u32,
+        name2: Name,
+    },
+    List {
+        dir: u32,
+        after: Name,
+    },
+}
+
+/// What a server answers to it.
+#[derive(Drop)]
+pub enum NameReply {
+    Ino(u32),
+    Listed(NameRows),
+    /// The number of the refusal, from 1 to 8.
+    Refused(u8),
+}
+
+/// How a disk command ended.
+#[derive(Drop)]
+pub enum DiskResult {
+    Failed,
+    WriteDone,
+    ReadDone(Tag, PageBytes),
+}
+
+/// What a message says, one variant per kind.
+#[derive(Drop)]
+pub enum Body {
+    Hello,
+    KeepAlive,
+    Acquire {
+        ino: u32,
+        mode: Mode,
+    },
+    Released {
+        ino: u32,
+        g: GrantNo,
+        to: Mode,
+    },
+    Map {
+        ino: u32,
+        g: GrantNo,
+        page: PageNo,
+    },
+    Allocate {
+        ino: u32,
+        g: GrantNo,
+        page: PageNo,
+        count: u16,
+    },
+    Cut {
+        ino: u32,
+        g: GrantNo,
+        from: PageNo,
+    },
+    Name(NameOp),
+    Reassert(LockRows),
+    DemandSeen {
+        ino: u32,
+        g: GrantNo,
+    },
+    Welcome,
+    Ack,
+    Nack {
+        why: Why,
+        a: u64,
+        b: u64,
+    },
+    Granted {
+        ino: u32,
+        g: GrantNo,
+        mode: Mode,
+    },
+    Queued {
+        ino: u32,
+        mode: Mode,
+    },
+    Demand {
+        ino: u32,
+        g: GrantNo,
+        to: Mode,
+    },
+    Extents {
+        ino: u32,
+        rows: ExtentRows,
+    },
+    Named(NameReply),
+    Reasserted,
+    Tick,
+    App {
+        op: u32,
+        ask: Ask,
+    },
+    AppDone {
+        op: u32,
+        answer: AppAnswer,
+    },
+    Submit {
+        command: u64,
+        at: BlockAt,
+        what: Command,
+    },
+    Done {
+        command: u64,
+        result: DiskResult,
+    },
+}
+
+/// A message of the protocol.
+#[derive(Drop)]
+pub struct Message {
+    pub header: Header,
+    pub body: Body,
+}
+
+impl NameOp {
+    /// The same op, once more.
+    pub fn copy(&self) -> Result<NameOp, AllocError>
+        ensures { IfOk result (λ o. o ≡ self.now) }
+    {
+        match self {
+            NameOp::Lookup { dir, name } => Ok(NameOp::Lookup {
+                dir: *dir,
+                name: name.copy()?,
+            }),
+            NameOp::Create { dir, name } => Ok(NameOp::Create {
+                dir: *dir,
+                name: name.copy()?,
+            }),
+            NameOp::Mkdir { dir, name } => Ok(NameOp::Mkdir {
+                dir: *dir,
+                name: name.copy()?,
+            }),
+            NameOp::Remove { dir, name, g } => Ok(NameOp::Remove {
+                dir: *dir,
+                name: name.copy()?,
+                g: *g,
+            }),
+            NameOp::Rename {
+                dir,
+                name,
+                dir2,
+                name2,
+            } => Ok(NameOp::Rename {
+                dir: *dir,
+                name: name.copy()?,
+                dir2: *dir2,
+                name2: name2.copy()?,
+            }),
+            NameOp::List { dir, after } => Ok(NameOp::List {
+                dir: *dir,
+                after: after.copy()?,
+            }),
+        }
+    }
+}
+
+impl NameReply {
+    /// The same reply, once more.
+    pub fn copy(&self) -> Result<NameReply, AllocError>
+        ensures { IfOk result (λ r. r ≡ self.now) }
+    {
+        match self {
+            NameReply::Ino(ino) => Ok(NameReply::Ino(*ino)),
+            NameReply::Listed(rows) => Ok(NameReply::Listed(rows.copy()?)),
+            NameReply::Refused(code) => Ok(NameReply::Refused(*code)),
+        }
+    }
+}
+
+impl DiskResult {
+    /// The same result, once more; a page is shared.
+    pub fn copy(&self) -> Result<DiskResult, AllocError>
+        ensures { IfOk result (λ r. r ≡ self.now) }
+    {
+        match self {
+            DiskResult::Failed => Ok(DiskResult::Failed),
+            DiskResult::WriteDone => Ok(DiskResult::WriteDone),
+            DiskResult::ReadDone(tag, bytes) => Ok(DiskResult::ReadDone(*tag, bytes.copy()?)),
+        }
+    }
+}
+
+impl Body {
+    /// The same body, once more; a page is shared.
+    pub fn copy(&self) -> Result<Body, AllocError>
+        ensures { IfOk result (λ b. b ≡ self.now) }
+    {
+        match self {
+            Body::Hello => Ok(Body::Hello),
+            Body::KeepAlive => Ok(Body::KeepAlive),
+            Body::Acquire { ino, mode } => Ok(Body::Acquire {
+                ino: *ino,
+                mode: *mode,
+            }),
+            Body::Released { ino, g, to } => Ok(Body::Released {
+                ino: *ino,
+                g: *g,
+                to: *to,
+            }),
+            Body::Map { ino, g, page } => Ok(Body::Map {
+                ino: *ino,
+                g: *g,
+                page: *page,
+            }),
+            Body::Allocate {
+                ino,
+                g,
+                page,
+                count,
+            } => Ok(Body::Allocate {
+                ino: *ino,
+                g: *g,
+                page: *page,
+                count: *count,
+            }),
+            Body::Cut { ino, g, from } => Ok(Body::Cut {
+                ino: *ino,
+                g: *g,
+                from: *from,
+            }),
+            Body::Name(op) => Ok(Body::Name(op.copy()?)),
+            Body::Reassert(rows) => Ok(Body::Reassert(rows.copy()?)),
+            Body::DemandSeen { ino, g } => Ok(Body::DemandSeen { ino: *ino, g: *g }),
+            Body::Welcome => Ok(Body::Welcome),
+            Body::Ack => Ok(Body::Ack),
+            Body::Nack { why, a, b } => Ok(Body::Nack {
+                why: *why,
+                a: *a,
+                b: *b,
+            }),
+            Body::Granted { ino, g, mode } => Ok(Body::Granted {
+                ino: *ino,
+                g: *g,
+                mode: *mode,
+            }),
+            Body::Queued { ino, mode } => Ok(Body::Queued {
+                ino: *ino,
+                mode: *mode,
+            }),
+            Body::Demand { ino, g, to } => Ok(Body::Demand {
+                ino: *ino,
+                g: *g,
+                to: *to,
+            }),
+            Body::Extents { ino, rows } => Ok(Body::Extents {
+                ino: *ino,
+                rows: rows.copy()?,
+            }),
+            Body::Named(reply) => Ok(Body::Named(reply.copy()?)),
+            Body::Reasserted => Ok(Body::Reasserted),
+            Body::Tick => Ok(Body::Tick),
+            Body::App { op, ask } => Ok(Body::App {
+                op: *op,
+                ask: ask.copy()?,
+            }),
+            Body::AppDone { op, answer } => Ok(Body::AppDone {
+                op: *op,
+                answer: answer.copy()?,
+            }),
+            Body::Submit { command, at, what } => Ok(Body::Submit {
+                command: *command,
+                at: *at,
+                what: what.copy()?,
+            }),
+            Body::Done { command, result } => Ok(Body::Done {
+                command: *command,
+                result: result.copy()?,
+            }),
+        }
+    }
+}
+
+impl Message {
+    /// The same message, once more; a page is shared.
+    pub fn copy(&self) -> Result<Message, AllocError>
+        ensures { IfOk result (λ m. m ≡ self.now) }
+    {
+        Ok(Message {
+            header: self.header,
+            body: self.body.copy()?,
+        })
+    }
+}

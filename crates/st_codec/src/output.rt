@@ -1,0 +1,90 @@
+ghost use Rattle.std.specs.Prelude.{◌≡◌};
+ghost use Rattle.st_codec.specs.declared.output.StepFault.TheVariants.{Memory};
+
+use crate::answer::AppAnswer;
+use crate::message::Message;
+use crate::patch::PatchBytes;
+use st_base::{BlockAt, ClientId, Command, FileId, Life, PageBytes, PageNo, Rows, ServerId, Stamp};
+use std::alloc::{AllocError, AllocFailed};
+use thiserror::Error;
+
+/// What a node notes of its own doing, for its surroundings.
+#[derive(Drop)]
+pub enum Note {
+    Leased {
+        server: ServerId,
+        end: Stamp,
+    },
+    Lost {
+        server: ServerId,
+        life: Life,
+    },
+    Accepted {
+        file: FileId,
+        page: PageNo,
+        bytes: PageBytes,
+    },
+    Suspected {
+        client: ClientId,
+        start: Stamp,
+    },
+    Stolen {
+        client: ClientId,
+        life: Life,
+    },
+    CutDone {
+        file: FileId,
+        from: PageNo,
+    },
+    Patched {
+        file: FileId,
+        page: PageNo,
+        at: u16,
+        bytes: PatchBytes,
+    },
+}
+
+/// What a step of a node gives to its surroundings.
+#[derive(Drop)]
+pub enum Output {
+    Send(Message),
+    /// `command` is the client's own number.
+    Submit {
+        command: u64,
+        at: BlockAt,
+        what: Command,
+    },
+    Answer {
+        op: u32,
+        answer: AppAnswer,
+    },
+    Note(Note),
+}
+
+/// The outputs of one step, in order.
+pub type Outputs = Rows<Output>;
+
+/// Why a step of a node gave nothing.
+#[derive(Clone, Copy, Debug, PartialEq, Eq, Error)]
+pub enum StepFault {
+    #[error("out of memory")]
+    Memory,
+    #[error("the node is not running")]
+    Crashed,
+}
+
+impl From<AllocError> for StepFault {
+    ghost from_gives = { λ _ e. e ≡ Memory };
+
+    fn from(_e: AllocError) -> StepFault {
+        StepFault::Memory
+    }
+}
+
+impl<T: Drop> From<AllocFailed<T>> for StepFault {
+    ghost from_gives = { λ _ e. e ≡ Memory };
+
+    fn from(_e: AllocFailed<T>) -> StepFault {
+        StepFault::Memory
+    }
+}

@@ -1,0 +1,9 @@
+pub mod Words
+pub mod Script
+pub mod Tables
+pub mod Disks
+pub mod Logs
+pub mod Directories
+pub mod ClientWords
+pub mod ClientScript
+pub mod ClientTables

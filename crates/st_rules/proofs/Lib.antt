@@ -1,0 +1,4 @@
+mod Waits
+mod Drift
+mod Exact
+mod Rates

@@ -1,0 +1,274 @@
+ghost use Rattle.std.specs.Prelude.{◌≡◌, IfOk};
+ghost use Rattle.st_rules.specs.declared.client.CacheRefusal.TheVariants as refusals;
+
+use st_base::{BlockAt, GrantNo, Mode, PageBytes, PageNo, Stamp, Tag};
+use st_codec::{Ask, Body, Message};
+use std::alloc::{AllocError, AllocFailed};
+use thiserror::Error;
+
+/// What comes to a client.
+#[derive(Drop)]
+pub enum ClientInput {
+    /// Time passed.
+    Tick,
+    App {
+        op: u32,
+        ask: Ask,
+    },
+    Control(Message),
+    /// A disk command ended: it failed, or it wrote its block, or it found this in its block.
+    Done {
+        command: u64,
+        result: Option<Option<(Tag, PageBytes)>>,
+    },
+}
+
+/// What a client may do at a moment under its lease at a server: nothing without one; read and write pages; hold what it
+/// has; write out what is dirty; or discard it all, when the lease is over.
+#[derive(Clone, Copy, Debug, PartialEq, Eq)]
+pub enum StandingKind {
+    Idle,
+    Serve,
+    Hold,
+    Drain,
+    Lost,
+}
+
+/// A lock that a client holds.
+#[derive(Clone, Copy, Debug, PartialEq, Eq)]
+pub struct HeldLock {
+    pub ino: u32,
+    pub g: GrantNo,
+    pub mode: Mode,
+}
+
+/// The greatest grant number of a file that a client has seen.
+#[derive(Clone, Copy, Debug, PartialEq, Eq)]
+pub struct SeenGrant {
+    pub ino: u32,
+    pub g: GrantNo,
+}
+
+/// A file of which a lock is demanded, and the mode to which it is to be lowered.
+#[derive(Clone, Copy, Debug, PartialEq, Eq)]
+pub struct DemandedFile {
+    pub ino: u32,
+    pub to: Mode,
+}
+
+/// A lock for which a client was told to wait, and when it was told so.
+#[derive(Clone, Copy, Debug, PartialEq, Eq)]
+pub struct LockWait {
+    pub ino: u32,
+    pub mode: Mode,
+    pub at: Stamp,
+}
+
+/// A release that is to be sent.
+#[derive(Clone, Copy, Debug, PartialEq, Eq)]
+pub struct Release {
+    pub ino: u32,
+    pub g: GrantNo,
+    pub to: Mode,
+}
+
+/// What becomes of a demand.
+#[derive(Clone, Copy, Debug, PartialEq, Eq)]
+pub enum Asked {
+    /// The lock is to be lowered.
+    Reduce,
+    NotHeld,
+    /// The lock has a later grant.
+    Stale,
+}
+
+/// Where a mapped page lies, and the birth of its mapping.
+#[derive(Clone, Copy, Debug, PartialEq, Eq)]
+pub struct Mapping {
+    pub at: BlockAt,
+    pub birth: u64,
+}
+
+/// What a client knows of a page's place: its mapping, or that it has none.
+#[derive(Clone, Copy, Debug, PartialEq, Eq)]
+pub struct KnownExtent {
+    pub ino: u32,
+    pub page: PageNo,
+    pub mapping: Option<Mapping>,
+}
+
+/// A page that a client has as it is on its disk.
+#[derive(Drop)]
+pub struct CleanPage {
+    pub ino: u32,
+    pub page: PageNo,
+    pub bytes: PageBytes,
+}
+
+/// Why a page is not written.
+#[derive(Clone, Copy, Debug, PartialEq, Eq, Error)]
+pub enum CacheRefusal {
+    #[error("64 other pages are dirty")]
+    DirtyFull,
+    #[error("out of memory")]
+    Memory,
+}
+
+/// What a disk command is for: to read its page, or to write the version of it that it carries.
+#[derive(Clone, Copy, Debug, PartialEq, Eq)]
+pub enum IoKind {
+    Read,
+    Write(u64),
+}
+
+/// A disk command that was not yet reported, by the client's own number.
+#[derive(Clone, Copy, Debug, PartialEq, Eq)]
+pub struct PageCommand {
+    pub number: u64,
+    pub ino: u32,
+    pub page: PageNo,
+    pub kind: IoKind,
+}
+
+/// How a disk command ended.
+#[derive(Clone, Copy, Debug, PartialEq, Eq)]
+pub enum Ended {
+    Unknown,
+    /// A read is done.
+    Filled,
+    /// A write is done, and the page was not changed since.
+    Hard,
+    /// A write is done, and the page was changed since.
+    Redirty,
+    Failed,
+}
+
+/// A page that was dirty when a lease was lost and of which no application was told, and the command that was to write
+/// it, or 0.
+#[derive(Clone, Copy, Debug, PartialEq, Eq)]
+pub struct LostPage {
+    pub ino: u32,
+    pub page: PageNo,
+    pub command: u64,
+}
+
+/// A request that was sent and not yet answered, and when it was last sent.
+#[derive(Drop)]
+pub struct Request {
+    pub number: u64,
+    pub body: Body,
+    pub sent: Stamp,
+}
+
+/// How far an operation has come that asks a server to cut a file or for a name.
+#[derive(Clone, Copy, Debug, PartialEq, Eq)]
+pub enum Stage {
+    Unsent,
+    /// Its request is the outstanding one.
+    Sent,
+    /// Its request ended without an answer to it.
+    Stuck,
+}
+
+/// What an application asked and was not yet answered.
+#[derive(Drop)]
+pub struct Operation {
+    pub op: u32,
+    pub ask: Ask,
+    pub stage: Stage,
+}
+
+impl From<AllocError> for CacheRefusal {
+    ghost from_gives = { λ _ e. e ≡ refusals.Memory };
+
+    fn from(_e: AllocError) -> CacheRefusal {
+        CacheRefusal::Memory
+    }
+}
+
+impl<T: Drop> From<AllocFailed<T>> for CacheRefusal {
+    ghost from_gives = { λ _ e. e ≡ refusals.Memory };
+
+    fn from(_e: AllocFailed<T>) -> CacheRefusal {
+        CacheRefusal::Memory
+    }
+}
+
+fn copy_block(block: &Option<(Tag, PageBytes)>) -> Result<Option<(Tag, PageBytes)>, AllocError>
+    ensures { IfOk result (λ b. b ≡ block.now) }
+{
+    match block {
+        None => Ok(None),
+        Some((tag, bytes)) => Ok(Some((*tag, bytes.copy()?))),
+    }
+}
+
+fn copy_result(
+    ended: &Option<Option<(Tag, PageBytes)>>,
+) -> Result<Option<Option<(Tag, PageBytes)>>, AllocError>
+    ensures { IfOk result (λ r. r ≡ ended.now) }
+{
+    match ended {
+        None => Ok(None),
+        Some(block) => Ok(Some(copy_block(block)?)),
+    }
+}
+
+impl ClientInput {
+    /// The same input, once more; a page is shared.
+    pub fn copy(&self) -> Result<ClientInput, AllocError>
+        ensures { IfOk result (λ i. i ≡ self.now) }
+    {
+        match self {
+            ClientInput::Tick => Ok(ClientInput::Tick),
+            ClientInput::App { op, ask } => Ok(ClientInput::App {
+                op: *op,
+                ask: ask.copy()?,
+            }),
+            ClientInput::Control(message) => Ok(ClientInput::Control(message.copy()?)),
+            ClientInput::Done { command, result } => Ok(ClientInput::Done {
+                command: *command,
+                result: copy_result(result)?,
+            }),
+        }
+    }
+}
+
+impl CleanPage {
+    /// The same page, once more; its bytes are shared.
+    pub fn copy(&self) -> Result<CleanPage, AllocError>
+        ensures { IfOk result (λ c. c ≡ self.now) }
+    {
+        Ok(CleanPage {
+            ino: self.ino,
+            page: self.page,
+            bytes: self.bytes.copy()?,
+        })
+    }
+}
+
+impl Request {
+    /// The same request, once more.
+    pub fn copy(&self) -> Result<Request, AllocError>
+        ensures { IfOk result (λ r. r ≡ self.now) }
+    {
+        Ok(Request {
+            number: self.number,
+            body: self.body.copy()?,
+            sent: self.sent,
+        })
+    }
+}
+
+impl Operation {
+    /// The same operation, once more; a page is shared.
+    pub fn copy(&self) -> Result<Operation, AllocError>
+        ensures { IfOk result (λ o. o ≡ self.now) }
+    {
+        Ok(Operation {
+            op: self.op,
+            ask: self.ask.copy()?,
+            stage: self.stage,
+        })
+    }
+}

@@ -1,0 +1,36 @@
+//! The protocol's definitions, and the plain rows and answers that they speak of. `docs/PROTOCOL.md` tells each rule in
+//! words, under the name that stands above its definition in `specs/`.
+#![tactic(auto)]
+
+mod authority;
+mod client;
+mod disks;
+mod extents;
+mod input;
+mod lease;
+mod locks;
+mod log;
+mod names;
+mod observation;
+mod pages;
+mod sessions;
+
+pub use authority::{ReassertRefusal, Suspect};
+pub use client::{
+    Asked, CacheRefusal, CleanPage, ClientInput, DemandedFile, Ended, HeldLock, IoKind,
+    KnownExtent, LockWait, LostPage, Mapping, Operation, PageCommand, Release, Request, SeenGrant,
+    Stage, StandingKind,
+};
+pub use disks::{Block, DiskCommand, DiskRefusal, Report};
+pub use extents::{Extent, ExtentRefusal};
+pub use input::ServerInput;
+pub use lease::{
+    Excess, Phase, accepted_advances_are_in_bound, advances_in_bound_are_accepted,
+    advances_in_bound_are_rated, rated_advances_are_in_bound, steal_wait_is_least,
+};
+pub use locks::{LockRefusal, LockRow, RowDemand, Verdict, Waiter};
+pub use log::{Cause, Change, EntryHead, Fate, LogEntry, LogOwner};
+pub use names::NameEntry;
+pub use observation::{Observation, Summary, WorldRefusal};
+pub use pages::DirtyPage;
+pub use sessions::{Hello, Session, SessionState, Taken};

@@ -1,0 +1,12 @@
+pub mod Words
+pub mod Ends
+pub mod Steps
+pub mod Numbers
+pub mod Places
+pub mod Again
+pub mod Written
+pub mod Back
+pub mod Inverse
+pub mod Found
+pub mod Heads
+pub mod Whole

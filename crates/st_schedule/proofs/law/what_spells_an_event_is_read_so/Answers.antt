@@ -1,0 +1,5 @@
+use Rattle.st_schedule.proofs.Again.{spelled_is_read}
+use Rattle.st_schedule.proofs.law.what_spells_an_event_is_read_so.Goals as goal
+
+pub returns : goal.returns
+returns c = spelled_is_read

@@ -1,0 +1,99 @@
+ghost use Rattle.std.specs.Prelude.{◌≡◌, ◌<◌, ◌≤◌, ◌^◌, IfOk};
+ghost use Rattle.st_schedule.specs.Words.{words_behind};
+ghost use Rattle.st_schedule.specs.Reading.{Gives};
+ghost use Rattle.st_schedule.specs.Reading as reading;
+
+use crate::fault::ReadError;
+use crate::place::{ends, form_at, number_at};
+use st_base::Config;
+use st_codec::Counts;
+
+const MOST_SETTING: u64 = 9_223_372_036_854_775_807;
+
+fn setting_at(rest: &[u8]) -> Result<(u64, &[u8]), ReadError>
+    ensures { Gives (λ x. (x.0, words_behind x.1.now)) result (reading.setting_at (words_behind rest.now)) }
+{
+    number_at(0, MOST_SETTING, rest)
+}
+
+#[tactic(auto, unfolding(crate::specs::Reading::three_at))]
+fn three_at(rest: &[u8]) -> Result<((u64, u64, u64), &[u8]), ReadError>
+    ensures { Gives (λ x. (x.0, words_behind x.1.now)) result (reading.three_at (words_behind rest.now)) }
+{
+    let (first, rest) = setting_at(rest)?;
+    let (second, rest) = setting_at(rest)?;
+    let (third, rest) = setting_at(rest)?;
+    Ok(((first, second, third), rest))
+}
+
+/// The grain, which the first form has not.
+#[tactic(auto, unfolding(crate::specs::Reading::grain_at))]
+fn grain_at(form: u8, rest: &[u8]) -> Result<(u64, &[u8]), ReadError>
+    ensures { Gives (λ x. (x.0, words_behind x.1.now)) result (reading.grain_at form (words_behind rest.now)) }
+{
+    if form == 2 {
+        setting_at(rest)
+    } else {
+        Ok((0, rest))
+    }
+}
+
+#[tactic(auto, unfolding(crate::specs::Reading::rate_at))]
+fn rate_at(form: u8, rest: &[u8]) -> Result<((u64, u64, u64), &[u8]), ReadError>
+    ensures { Gives (λ x. (x.0, words_behind x.1.now)) result (reading.rate_at form (words_behind rest.now)) }
+{
+    let (num, rest) = setting_at(rest)?;
+    let (den, rest) = setting_at(rest)?;
+    let (grain, rest) = grain_at(form, rest)?;
+    Ok(((num, den, grain), rest))
+}
+
+#[tactic(auto, unfolding(crate::specs::Reading::config_at))]
+fn config_at(form: u8, rest: &[u8]) -> Result<(Config, &[u8]), ReadError>
+    ensures { Gives (λ x. (x.0, words_behind x.1.now)) result (reading.config_at form (words_behind rest.now)) }
+{
+    let ((lease, renew, quiesce), rest) = three_at(rest)?;
+    let ((flush, demand, retry), rest) = three_at(rest)?;
+    let ((num, den, grain), rest) = rate_at(form, rest)?;
+    let config = Config {
+        lease,
+        renew,
+        quiesce,
+        flush,
+        demand,
+        retry,
+        num,
+        den,
+        grain,
+    };
+    Ok((config, rest))
+}
+
+#[tactic(auto, unfolding(crate::specs::Reading::counts_at))]
+fn counts_at(rest: &[u8]) -> Result<(Counts, &[u8]), ReadError>
+    ensures { Gives (λ x. (x.0, words_behind x.1.now)) result (reading.counts_at (words_behind rest.now)) }
+{
+    let (clients, rest) = number_at(1, 16, rest)?;
+    let (servers, rest) = number_at(1, 4, rest)?;
+    let (disks, rest) = number_at(servers, 8, rest)?;
+    let (blocks, rest) = number_at(1, 4096, rest)?;
+    let counts = Counts {
+        clients: clients as u16,
+        servers: servers as u16,
+        disks: disks as u16,
+        blocks: blocks as u32,
+    };
+    Ok((counts, rest))
+}
+
+/// What a head says behind its first word.
+#[tactic(auto, unfolding(crate::specs::Reading::head_at))]
+pub(crate) fn head_at(rest: &[u8]) -> Result<(Config, Counts, u8), ReadError>
+    ensures { Gives (λ x. x) result (reading.head_at (words_behind rest.now)) }
+{
+    let (form, rest) = form_at(rest)?;
+    let (config, rest) = config_at(form, rest)?;
+    let (counts, rest) = counts_at(rest)?;
+    ends(rest)?;
+    Ok((config, counts, form))
+}

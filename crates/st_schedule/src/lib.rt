@@ -1,0 +1,24 @@
+//! The text of a schedule: its lines are read with exact refusals, and events are printed back.
+#![tactic(auto)]
+
+mod asking;
+mod fault;
+mod happening;
+mod head;
+mod law;
+mod place;
+mod printing;
+mod reader;
+mod verb;
+mod word;
+
+pub use fault::ScheduleRefusal;
+pub use law::{
+    lines_are_read_as_they_are_spelled, printed_lines_are_read_back, what_is_read_is_spelled_so,
+    what_spells_an_event_is_read_so, words_spell_one_event,
+};
+pub use printing::print;
+pub use reader::{Line, Progress, ScheduleReader};
+
+#[cfg(test)]
+mod tests;

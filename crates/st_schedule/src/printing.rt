@@ -1,0 +1,265 @@
+ghost use Rattle.std.specs.Prelude.{◌≡◌, ◌∷◌, ◌++◌, IfOk, OnOk, get_or, length, map};
+ghost use Rattle.std.specs.Fmt.{decimal};
+ghost use Rattle.st_schedule.specs.Words.{line_of, spaced};
+ghost use Rattle.st_schedule.specs.Grammar as grammar;
+ghost use Rattle.st_schedule.specs.Reader.{IsReadAs};
+
+use st_base::{ClientId, FileId, NameAsk, NodeId, PageNo, ServerId};
+use st_codec::{Ask, Event};
+use std::alloc::{AllocError, Global};
+
+/// A word behind others.
+fn put_word(out: &mut Vec<u8>, word: &[u8]) -> Result<(), AllocError>
+    ensures { OnOk result (out.new.items ≡ out.old.items ++ 32 ∷ word.now) }
+{
+    out.push(b' ')?;
+    out.extend_from_slice(word)
+}
+
+fn put_number(out: &mut Vec<u8>, n: u64) -> Result<(), AllocError>
+    ensures { OnOk result (out.new.items ≡ out.old.items ++ 32 ∷ decimal n) }
+{
+    let text = format!(in *out.allocator(); "{n}")?;
+    put_word(out, text.as_bytes())
+}
+
+fn put_client(out: &mut Vec<u8>, client: ClientId) -> Result<(), AllocError>
+    ensures { OnOk result (out.new.items ≡ out.old.items ++ 32 ∷ grammar.client_text client) }
+{
+    let n = client.0;
+    let text = format!(in *out.allocator(); "c{n}")?;
+    put_word(out, text.as_bytes())
+}
+
+fn put_server(out: &mut Vec<u8>, server: ServerId) -> Result<(), AllocError>
+    ensures { OnOk result (out.new.items ≡ out.old.items ++ 32 ∷ grammar.server_text server) }
+{
+    let n = server.0;
+    let text = format!(in *out.allocator(); "s{n}")?;
+    put_word(out, text.as_bytes())
+}
+
+fn put_node(out: &mut Vec<u8>, node: NodeId) -> Result<(), AllocError>
+    ensures { OnOk result (out.new.items ≡ out.old.items ++ 32 ∷ grammar.node_text node) }
+{
+    match node {
+        NodeId::Client(client) => put_client(out, client),
+        NodeId::Server(server) => put_server(out, server),
+    }
+}
+
+fn put_file(out: &mut Vec<u8>, server: u16, ino: u32) -> Result<(), AllocError>
+    ensures { OnOk result (out.new.items ≡ out.old.items ++ 32 ∷ grammar.file_text server ino) }
+{
+    let text = format!(in *out.allocator(); "{server}:{ino}")?;
+    put_word(out, text.as_bytes())
+}
+
+fn put_place(out: &mut Vec<u8>, file: FileId, page: PageNo) -> Result<(), AllocError>
+    ensures { OnOk result (out.new.items ≡ out.old.items ++ spaced (grammar.place_words file page)) }
+{
+    put_file(out, file.server.0, file.ino)?;
+    put_number(out, u64::from(page.0))
+}
+
+/// The first of these bytes.
+fn byte_of(bytes: &[u8]) -> u8
+    ensures { result ≡ grammar.byte_of bytes.now }
+{
+    match bytes {
+        [] => 0,
+        [b, ..] => *b,
+    }
+}
+
+fn put_after(out: &mut Vec<u8>, after: &[u8]) -> Result<(), AllocError>
+    ensures { OnOk result (out.new.items ≡ out.old.items ++ 32 ∷ grammar.after_text after.now) }
+{
+    match after {
+        [] => put_word(out, b"-"),
+        _ => put_word(out, after),
+    }
+}
+
+/// A word and an entry of a directory.
+fn put_entry(
+    out: &mut Vec<u8>,
+    verb: &[u8],
+    server: u16,
+    dir: u32,
+    name: &[u8],
+) -> Result<(), AllocError>
+    ensures { OnOk result (out.new.items ≡ out.old.items ++ spaced (grammar.entry_words verb.now server dir name.now)) }
+{
+    put_word(out, verb)?;
+    put_file(out, server, dir)?;
+    put_word(out, name)
+}
+
+#[tactic(auto, unfolding(crate::specs::Grammar::name_words))]
+fn put_name(out: &mut Vec<u8>, server: u16, ask: &NameAsk) -> Result<(), AllocError>
+    ensures { OnOk result (out.new.items ≡ out.old.items ++ spaced (grammar.name_words server ask.now)) }
+{
+    match ask {
+        NameAsk::Lookup { dir, name } => put_entry(out, b"lookup", server, *dir, name.as_slice()),
+        NameAsk::Create { dir, name } => put_entry(out, b"create", server, *dir, name.as_slice()),
+        NameAsk::Mkdir { dir, name } => put_entry(out, b"mkdir", server, *dir, name.as_slice()),
+        NameAsk::Remove { dir, name, ino } => {
+            put_entry(out, b"remove", server, *dir, name.as_slice())?;
+            put_number(out, u64::from(*ino))
+        }
+        NameAsk::Rename {
+            dir,
+            name,
+            dir2,
+            name2,
+        } => {
+            put_entry(out, b"rename", server, *dir, name.as_slice())?;
+            put_number(out, u64::from(*dir2))?;
+            put_word(out, name2.as_slice())
+        }
+        NameAsk::List { dir, after } => {
+            put_word(out, b"list")?;
+            put_file(out, server, *dir)?;
+            put_after(out, after.as_slice())
+        }
+    }
+}
+
+#[tactic(auto, unfolding(crate::specs::Grammar::ask_words))]
+fn put_ask(out: &mut Vec<u8>, ask: &Ask) -> Result<(), AllocError>
+    ensures { OnOk result (out.new.items ≡ out.old.items ++ spaced (grammar.ask_words ask.now)) }
+{
+    match ask {
+        Ask::Write(file, page, bytes) => {
+            put_word(out, b"write")?;
+            put_place(out, *file, *page)?;
+            put_number(out, u64::from(byte_of(bytes.as_slice())))
+        }
+        Ask::Read(file, page) => {
+            put_word(out, b"read")?;
+            put_place(out, *file, *page)
+        }
+        Ask::Sync(file) => {
+            put_word(out, b"sync")?;
+            put_file(out, file.server.0, file.ino)
+        }
+        Ask::Cut(file, page) => {
+            put_word(out, b"cut")?;
+            put_place(out, *file, *page)
+        }
+        Ask::Name(server, ask) => put_name(out, server.0, ask),
+        Ask::Patch(file, page, at, bytes) => {
+            put_word(out, b"patch")?;
+            put_place(out, *file, *page)?;
+            put_number(out, u64::from(*at))?;
+            put_number(out, bytes.len() as u64)?;
+            put_number(out, u64::from(byte_of(bytes.as_slice())))
+        }
+    }
+}
+
+fn first_step(steps: &[u64]) -> u64
+    ensures { result ≡ get_or steps.now 0 0 }
+{
+    match steps {
+        [] => 0,
+        [d, ..] => *d,
+    }
+}
+
+fn are_equal(steps: &[u64]) -> bool
+    ensures { result ≡ grammar.are_equal steps.now }
+{
+    let first = first_step(steps);
+    steps.iter().all(|d| *d == first)
+}
+
+fn put_all(out: &mut Vec<u8>, steps: &[u64]) -> Result<(), AllocError>
+    ensures { OnOk result (out.new.items ≡ out.old.items ++ spaced (grammar.in_full steps.now)) }
+{
+    for d in steps {
+        put_number(out, *d)?;
+    }
+    Ok(())
+}
+
+/// The increments, or one where all are equal.
+fn put_steps(out: &mut Vec<u8>, steps: &[u64]) -> Result<(), AllocError>
+    ensures { OnOk result (out.new.items ≡ out.old.items ++ spaced (grammar.steps_words steps.now)) }
+{
+    if are_equal(steps) {
+        put_number(out, first_step(steps))
+    } else {
+        put_all(out, steps)
+    }
+}
+
+fn put_result(out: &mut Vec<u8>, ok: bool) -> Result<(), AllocError>
+    ensures { OnOk result (out.new.items ≡ out.old.items ++ 32 ∷ grammar.result_text ok) }
+{
+    if ok {
+        put_word(out, b"ok")
+    } else {
+        put_word(out, b"fail")
+    }
+}
+
+fn put_link(out: &mut Vec<u8>, from: NodeId, to: NodeId) -> Result<(), AllocError>
+    ensures { OnOk result (out.new.items ≡ out.old.items ++ spaced (grammar.link_words from to)) }
+{
+    put_node(out, from)?;
+    put_node(out, to)
+}
+
+fn verb(event: &Event) -> &'static [u8]
+    ensures { result.now ≡ grammar.verb event.now }
+{
+    match event {
+        Event::Tick(_) => b"tick",
+        Event::App { .. } => b"app",
+        Event::Deliver(_) => b"deliver",
+        Event::Lose(_) => b"lose",
+        Event::Cut(_, _) => b"cut",
+        Event::Heal(_, _) => b"heal",
+        Event::Advance(_) => b"adv",
+        Event::Effect(_) => b"effect",
+        Event::Report { .. } => b"report",
+        Event::Crash(_) => b"crash",
+        Event::Start(_) => b"start",
+    }
+}
+
+/// What stands behind the first word.
+#[tactic(auto, unfolding(crate::specs::Grammar::words_after))]
+fn put_rest(out: &mut Vec<u8>, event: &Event) -> Result<(), AllocError>
+    ensures { OnOk result (out.new.items ≡ out.old.items ++ spaced (grammar.words_after event.now)) }
+{
+    match event {
+        Event::Tick(node) | Event::Crash(node) | Event::Start(node) => put_node(out, *node),
+        Event::App { client, ask } => {
+            put_client(out, *client)?;
+            put_ask(out, ask)
+        }
+        Event::Deliver(k) | Event::Lose(k) | Event::Effect(k) => put_number(out, *k),
+        Event::Cut(from, to) | Event::Heal(from, to) => put_link(out, *from, *to),
+        Event::Advance(steps) => put_steps(out, steps.as_slice()),
+        Event::Report { k, ok } => {
+            put_number(out, *k)?;
+            put_result(out, *ok)
+        }
+    }
+}
+
+/// The line that spells this event; an advance whose increments are all equal has the short one. Of a write and a patch
+/// the first byte is told, so an event that no line spells has no line.
+#[tactic(auto, using(crate::proofs::Back::read_as))]
+pub fn print(alloc: Global, event: &Event) -> Result<Vec<u8>, AllocError>
+    ensures words { IfOk result (λ line. line.items ≡ line_of (grammar.words event.now)) }
+    // Behind every head with which the event has a line, it is read back as the same event.
+    ensures back { IfOk result (λ line. IsReadAs line.items event.now) }
+{
+    let mut out = Vec::from_slice(alloc, verb(event))?;
+    put_rest(&mut out, event)?;
+    Ok(out)
+}

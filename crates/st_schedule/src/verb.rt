@@ -1,0 +1,153 @@
+ghost use Rattle.std.specs.Prelude.{◌≡◌};
+ghost use Rattle.st_schedule.specs.Reading as reading;
+
+use crate::word::is;
+
+/// The first word of a line behind the head.
+#[derive(Clone, Copy, Debug, PartialEq, Eq)]
+pub enum Verb {
+    Adv,
+    Tick,
+    App,
+    Deliver,
+    Lose,
+    Cut,
+    Heal,
+    Effect,
+    Report,
+    Crash,
+    Start,
+}
+
+/// The word that says what an application asks.
+#[derive(Clone, Copy, Debug, PartialEq, Eq)]
+pub enum AskVerb {
+    Write,
+    Read,
+    Sync,
+    Cut,
+    Patch,
+    Lookup,
+    Create,
+    Mkdir,
+    Remove,
+    Rename,
+    List,
+}
+
+fn crash_or_start(word: &[u8]) -> Option<Verb>
+    ensures { result ≡ reading.crash_or_start word.now }
+{
+    if is(word, b"crash") {
+        Some(Verb::Crash)
+    } else if is(word, b"start") {
+        Some(Verb::Start)
+    } else {
+        None
+    }
+}
+
+fn link_or_later(word: &[u8]) -> Option<Verb>
+    ensures { result ≡ reading.link_or_later word.now }
+{
+    if is(word, b"cut") {
+        Some(Verb::Cut)
+    } else if is(word, b"heal") {
+        Some(Verb::Heal)
+    } else if is(word, b"effect") {
+        Some(Verb::Effect)
+    } else if is(word, b"report") {
+        Some(Verb::Report)
+    } else {
+        crash_or_start(word)
+    }
+}
+
+pub(crate) fn verb_of(word: &[u8]) -> Option<Verb>
+    ensures { result ≡ reading.verb_of word.now }
+{
+    if is(word, b"adv") {
+        Some(Verb::Adv)
+    } else if is(word, b"tick") {
+        Some(Verb::Tick)
+    } else if is(word, b"app") {
+        Some(Verb::App)
+    } else if is(word, b"deliver") {
+        Some(Verb::Deliver)
+    } else if is(word, b"lose") {
+        Some(Verb::Lose)
+    } else {
+        link_or_later(word)
+    }
+}
+
+fn name_verb_of(word: &[u8]) -> Option<AskVerb>
+    ensures { result ≡ reading.name_verb_of word.now }
+{
+    if is(word, b"lookup") {
+        Some(AskVerb::Lookup)
+    } else if is(word, b"create") {
+        Some(AskVerb::Create)
+    } else if is(word, b"mkdir") {
+        Some(AskVerb::Mkdir)
+    } else if is(word, b"remove") {
+        Some(AskVerb::Remove)
+    } else if is(word, b"rename") {
+        Some(AskVerb::Rename)
+    } else if is(word, b"list") {
+        Some(AskVerb::List)
+    } else {
+        None
+    }
+}
+
+fn patch_or_name(form: u8, word: &[u8]) -> Option<AskVerb>
+    ensures { result ≡ reading.patch_or_name form word.now }
+{
+    if form == 2 && is(word, b"patch") {
+        Some(AskVerb::Patch)
+    } else {
+        name_verb_of(word)
+    }
+}
+
+/// What is asked; a patch only under the second form.
+pub(crate) fn ask_verb_of(form: u8, word: &[u8]) -> Option<AskVerb>
+    ensures { result ≡ reading.ask_verb_of form word.now }
+{
+    if is(word, b"write") {
+        Some(AskVerb::Write)
+    } else if is(word, b"read") {
+        Some(AskVerb::Read)
+    } else if is(word, b"sync") {
+        Some(AskVerb::Sync)
+    } else if is(word, b"cut") {
+        Some(AskVerb::Cut)
+    } else {
+        patch_or_name(form, word)
+    }
+}
+
+pub(crate) fn result_of(word: &[u8]) -> Option<bool>
+    ensures { result ≡ reading.result_of word.now }
+{
+    if is(word, b"ok") {
+        Some(true)
+    } else if is(word, b"fail") {
+        Some(false)
+    } else {
+        None
+    }
+}
+
+pub(crate) fn form_of(word: &[u8]) -> Option<u8>
+    ensures { result ≡ reading.form_of word.now }
+{
+    if is(word, b"1") {
+        Some(1)
+    } else if is(word, b"2") {
+        Some(2)
+    } else {
+        None
+    }
+}

@@ -1,0 +1,4 @@
+pub mod Lines
+pub mod FirstBytes
+pub mod Wholes
+pub mod Ends

@@ -1,0 +1,149 @@
+ghost use Rattle.std.specs.Prelude.{◌≡◌, ◌≤◌, ◌⊎◌, false, IfSome, IsTrue, map, string_bytes};
+ghost use Rattle.std.specs.Io.KnownBytes.{Appends, IsAtEnd};
+ghost use Rattle.st_link.specs.Causes.{Rose};
+ghost use Rattle.st_link.specs.Prefixes.{AppendsPrefix};
+ghost use Rattle.st_world.specs.Run.{ReadsReturnLastWrites};
+ghost use Rattle.st_tank.specs.Replay.{report_of, status_of};
+ghost use Rattle.st_tank.specs.Words as words_of;
+ghost use Rattle.st_tank.specs.Words.{complaint};
+
+use crate::replay::report;
+use crate::schedule::is_text;
+use st_link::{ReadFault, Sink, Source, put_all, read_up_to};
+use st_world::reads_return_last_writes;
+use std::alloc::Global;
+
+/// The first bytes of a schedule that say all of its report, however long it is.
+const ENOUGH: usize = 25_700_515;
+
+const USAGE: &[u8] =
+    b"usage: tank replay | generate N SEED | work N SEED | node server|client ID NAME\n";
+
+fn are_right(words: &[String]) -> bool
+    ensures { result ≡ words_of.are_right (map string_bytes words.now) }
+{
+    match words {
+        [word] => is_text(b"replay", word.as_bytes()),
+        _ => false,
+    }
+}
+
+fn status(whole: bool) -> u8
+    ensures { result ≡ status_of whole }
+{
+    if whole { 0 } else { 1 }
+}
+
+/// Reads the schedule and writes its report: 0 or 1, 3 for a failed read, 4 for a failed write, 5 for want of memory.
+fn replay<I: Source, O: Sink>(alloc: Global, input: &mut I, out: &mut O) -> u8
+    ensures report { result ≤ 1 → IfSome (I.left input.old) (λ bytes.
+        (result ≡ status_of (report_of bytes).whole) × Appends (O.written out.old) (O.written out.new) (report_of bytes).text) }
+    ensures prefix { IfSome (I.left input.old) (λ bytes. AppendsPrefix (O.written out.old) (O.written out.new) (report_of bytes).text) }
+    ensures through { result ≡ 0 → IsAtEnd (I.left input.new) }
+    ensures still { result ≤ 1 → (I.faults input.new ≡ I.faults input.old) × (O.faults out.new ≡ O.faults out.old) }
+    ensures read { result ≡ 3 → Rose (I.faults input.old) (I.faults input.new) }
+    ensures write { result ≡ 4 → Rose (O.faults out.old) (O.faults out.new) }
+    ensures other { ¬ (result ≡ 2) }
+    ensures known { result ≤ 5 }
+{
+    let bytes = match read_up_to(alloc, input, ENOUGH) {
+        Ok(bytes) => bytes,
+        Err(ReadFault::Fault) => return 3,
+        Err(ReadFault::Memory) => return 5,
+    };
+    let Ok((text, whole)) = report(alloc, &bytes) else {
+        return 5;
+    };
+    match put_all(out, text.as_bytes()) {
+        Ok(()) => status(whole),
+        Err(_) => 4,
+    }
+}
+
+/// Tells the error sink a text, and whether all of it was written.
+fn tell<E: Sink>(err: &mut E, text: &[u8]) -> bool
+    ensures prefix { AppendsPrefix (E.written err.old) (E.written err.new) text.now }
+    ensures all { IsTrue result → Appends (E.written err.old) (E.written err.new) text.now }
+    ensures still { IsTrue result → E.faults err.new ≡ E.faults err.old }
+    ensures cause { result ≡ false → Rose (E.faults err.old) (E.faults err.new) }
+{
+    match put_all(err, text) {
+        Ok(()) => true,
+        Err(_) => false,
+    }
+}
+
+/// Tells the error sink that the words are wrong: 2, or 4 where that fails.
+#[tactic(auto, unfolding(crate::specs::Words::USAGE))]
+fn usage<E: Sink>(err: &mut E) -> u8
+    ensures prefix { AppendsPrefix (E.written err.old) (E.written err.new) words_of.USAGE }
+    ensures all { result ≡ 2 → Appends (E.written err.old) (E.written err.new) words_of.USAGE }
+    ensures cause { (result ≡ 2) ⊎ ((result ≡ 4) × Rose (E.faults err.old) (E.faults err.new)) }
+{
+    if tell(err, USAGE) { 2 } else { 4 }
+}
+
+/// Tells the error sink why a replay failed, if it did.
+#[tactic(auto, unfolding(crate::specs::Words::fault_text))]
+fn tell_fault<E: Sink>(err: &mut E, status: u8)
+    ensures prefix { AppendsPrefix (E.written err.old) (E.written err.new) (words_of.fault_text status) }
+    ensures all { Appends (E.written err.old) (E.written err.new) (words_of.fault_text status) ⊎ Rose (E.faults err.old) (E.faults err.new) }
+    ensures still { status ≤ 1 → err.new ≡ err.old }
+{
+    match status {
+        3 => {
+            let _ = tell(err, b"tank: read failed\n");
+        }
+        4 => {
+            let _ = tell(err, b"tank: write failed\n");
+        }
+        5 => {
+            let _ = tell(err, b"tank: out of memory\n");
+        }
+        _ => {}
+    }
+}
+
+/// The program: reads its words, and with the one word `replay` a schedule from `input`, and writes the schedule's report
+/// to `out`. The status is 0 where the schedule was read and run through its end, 1 where a line was refused, 2 for
+/// wrong words, 3 for a failed read, 4 for a failed write and 5 for want of memory; `docs/PROTOCOL.md`, "The program",
+/// has the texts that `err` is told.
+pub fn run<I: Source, O: Sink, E: Sink>(
+    alloc: Global,
+    words: &[String],
+    input: &mut I,
+    out: &mut O,
+    err: &mut E,
+) -> u8
+    // 0 and 1: the report of all that the source held was written, and nothing else; 0 exactly where it is whole.
+    ensures report { result ≤ 1 → IfSome (I.left input.old) (λ bytes.
+        (result ≡ status_of (report_of bytes).whole) × Appends (O.written out.old) (O.written out.new) (report_of bytes).text) }
+    ensures through { result ≡ 0 → IsAtEnd (I.left input.new) }
+    ensures still { result ≤ 1 → (I.faults input.new ≡ I.faults input.old) × (O.faults out.new ≡ O.faults out.old) × (E.faults err.new ≡ E.faults err.old) }
+
+    // Whatever the status, what was written is the front of that report.
+    ensures prefix { IfSome (I.left input.old) (λ bytes. AppendsPrefix (O.written out.old) (O.written out.new) (report_of bytes).text) }
+
+    // Each other status has its cause; of want of memory, 5, nothing is said.
+    ensures known { result ≤ 5 }
+    ensures words { result ≡ 2 → words_of.are_right (map string_bytes words.now) ≡ false }
+    ensures usage { words_of.are_right (map string_bytes words.now) ≡ false → (result ≡ 2) ⊎ ((result ≡ 4) × Rose (E.faults err.old) (E.faults err.new)) }
+    ensures unused { words_of.are_right (map string_bytes words.now) ≡ false → (input.new ≡ input.old) × (out.new ≡ out.old) }
+    ensures read { result ≡ 3 → Rose (I.faults input.old) (I.faults input.new) }
+    ensures write { result ≡ 4 → Rose (O.faults out.old) (O.faults out.new) ⊎ ((words_of.are_right (map string_bytes words.now) ≡ false) × Rose (E.faults err.old) (E.faults err.new)) }
+
+    // The error sink is told the status's text, all of it unless the sink failed.
+    ensures told_prefix { AppendsPrefix (E.written err.old) (E.written err.new) (complaint (words_of.are_right (map string_bytes words.now)) result) }
+    ensures told { Appends (E.written err.old) (E.written err.new) (complaint (words_of.are_right (map string_bytes words.now)) result) ⊎ Rose (E.faults err.old) (E.faults err.new) }
+
+    // In every run each read that is answered has the bytes of the last write to its page in the log at that answer.
+    ensures reads { ReadsReturnLastWrites }
+{
+    reads_return_last_writes();
+    if !are_right(words) {
+        return usage(err);
+    }
+    let status = replay(alloc, input, out);
+    tell_fault(err, status);
+    status
+}

@@ -1,0 +1,4 @@
+pub mod Pages
+pub mod Turns
+pub mod Runs
+pub mod Counts

@@ -1,0 +1,31 @@
+//! The program `tank`: it hands the standard streams and the words of the command line to the top call, and ends with
+//! its status. `docs/PROTOCOL.md`, "The program".
+#![tactic(auto)]
+
+use st_link::{ReaderSource, WriterSink};
+use st_tank::run;
+use std::env;
+use std::process::ExitCode;
+use std::rt::Env;
+
+/// The words behind the program's name; where one of them is no text, there are none, and none are wrong words.
+fn words(rt: &(impl Env + AllocGlobal)) -> Vec<String> {
+    let mut words = Vec::new(rt.alloc());
+    if let Ok(args) = env::args(rt) {
+        for word in args.skip(1) {
+            if words.push(word).is_err() {
+                return Vec::new(rt.alloc());
+            }
+        }
+    }
+    words
+}
+
+fn main(rt: HostRuntime) -> ExitCode {
+    let words = words(&rt);
+    let mut input = ReaderSource::new(rt.stdin());
+    let mut out = WriterSink::new(rt.stdout());
+    let mut err = WriterSink::new(rt.stderr());
+    let status = run(rt.alloc(), &words, &mut input, &mut out, &mut err);
+    ExitCode::from(status)
+}
