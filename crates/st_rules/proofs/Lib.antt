@@ -2,3 +2,4 @@ mod Waits
 mod Drift
 mod Exact
 mod Rates
+mod Runs

@@ -17,3 +17,9 @@ pub mod ClientReplies
 pub mod ClientPasses
 pub mod Client
 pub mod Rules
+pub mod World
+pub mod Admissible
+pub mod Events
+pub mod Run
+pub mod History
+pub mod Report

@@ -13,7 +13,9 @@ mod log;
 mod names;
 mod observation;
 mod pages;
+mod run;
 mod sessions;
+mod world;
 
 pub use authority::{ReassertRefusal, Suspect};
 pub use client::{
@@ -33,4 +35,6 @@ pub use log::{Cause, Change, EntryHead, Fate, LogEntry, LogOwner};
 pub use names::NameEntry;
 pub use observation::{Observation, Summary, WorldRefusal};
 pub use pages::DirtyPage;
+pub use run::{runs_go_on_in_parts, traced_runs_are_runs};
 pub use sessions::{Hello, Session, SessionState, Taken};
+pub use world::{Carried, CutLink, FlushStep, IssuedCommand, LeaseLife, SentMessage};

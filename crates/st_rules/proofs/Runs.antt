@@ -1,0 +1,40 @@
+-- A run goes on from where it led, and a traced run is the run.
+use Rattle.std.proofs.Common.{◌≡◌, List, [], ◌∷◌, ◌++◌, Option, Some, None, Result, Ok, Err, refl, ap}
+use Rattle.st_codec.specs.declared.event.Event.{Event}
+use Rattle.st_rules.specs.declared.observation.Observation.{Observation}
+use Rattle.st_rules.specs.declared.observation.WorldRefusal.{WorldRefusal}
+use Rattle.st_rules.specs.World.{World}
+use Rattle.st_rules.specs.Events.{Scene, world_step}
+use Rattle.st_rules.specs.Run.{Run, RunsInParts, behind, go_on, no_run, run, run_on}
+use Rattle.st_rules.specs.History.{Traced, TracedRun, TracedRunIsRun, history_after, trace, trace_on, traced_after}
+
+chained : {A : Type 0} {x y z : A} → x ≡ y → y ≡ z → x ≡ z
+chained p q = rw p q
+
+-- what stands before a run stands before what goes on from it
+behind_on : (seen : List Observation) (more : List Event) (r : Run) (refused : Option WorldRefusal) → behind (seen ∷ []) (run_on more r refused) ≡ run_on more (behind (seen ∷ []) r) refused
+unfolding run_on
+behind_on seen more r None = refl
+behind_on seen more r (Some f) = refl
+
+-- the first event of a run that goes on
+first_on : (es more : List Event) (w : World) (x : Result Scene WorldRefusal) → ((v : World) → run (es ++ more) v ≡ run_on more (run es v) (run es v).refused) → go_on (run (es ++ more)) w x ≡ run_on more (go_on (run es) w x) (go_on (run es) w x).refused
+unfolding go_on run_on
+first_on es more w (Err f) rest = refl
+first_on es more w (Ok sc) rest = chained (ap (behind (sc.seen ∷ [])) (rest sc.world)) (behind_on sc.seen more (run es sc.world) (run es sc.world).refused)
+
+pub in_parts : RunsInParts
+unfolding run run_on
+in_parts [] more w = refl
+in_parts (e ∷ es) more w = first_on es more w (world_step w e) (in_parts es more)
+
+-- the first event of a traced run
+first_traced : (es : List Event) (e : Event) (t : Traced) (x : Result Scene WorldRefusal) → ((u : Traced) → (trace es u).run ≡ run es u.world) → (trace_on (trace es) e t x).run ≡ go_on (run es) t.world x
+unfolding trace_on go_on
+first_traced es e t (Err f) rest = refl
+first_traced es e t (Ok sc) rest = ap (behind (sc.seen ∷ [])) (rest (traced_after e t sc))
+
+pub traced_is_run : TracedRunIsRun
+unfolding trace run
+traced_is_run [] t = refl
+traced_is_run (e ∷ es) t = first_traced es e t (world_step t.world e) (traced_is_run es)

@@ -1,0 +1,263 @@
+#!/usr/bin/env python3
+"""Writes the worked rows of the world.
+
+Run from the repository's top as `tools/world_rows.py ORACLE`, ORACLE being the folder that holds the package tank_oracle and
+the folder rows. Each row is a schedule there with its report. Its events, what is observed at each, and the counts or the
+refusal are written as the contract of a function, into crates/st_rows/src/world_*.rt. No number of a row is typed by hand,
+and what is written has the row's report as its text.
+"""
+import pathlib
+import re
+import sys
+
+sys.path.insert(0, sys.argv[1])
+sys.path.insert(0, str(pathlib.Path(__file__).parent))
+sys.dont_write_bytecode = True
+from client_rows import answer_text, ask_text, body_text, bytes_text, list_text, name_patches, overlaid  # noqa: E402,F401
+from tank_oracle import report, schedule, world  # noqa: E402
+from tank_oracle.base import is_client, server_id  # noqa: E402
+from tank_oracle.wire import ReadBlock  # noqa: E402
+
+ROWS = pathlib.Path(sys.argv[1]) / "rows"
+# the file of a row, the function and what its doc says; one file of functions a group
+FILES = {
+    "world_reads": [
+        ("row-03-own-write", "own_write", "A client reads what it wrote."),
+        ("row-R1a-no-message", "no_message", "A request is answered again with its kept reply, and a message that was not sent is refused."),
+        ("row-20-operations-full", "operations_full", "The seventeenth operation of a client is refused."),
+        ("row-R16a-patch", "patch", "A patch of a written page; its effect makes both entries hard, also after a crash."),
+        ("row-R16b-patch-of-a-new-page", "patch_of_a_new_page", "A patch of a page that is first read from its disk."),
+        ("row-19-cut", "cut", "A file is cut, and its page reads as zeros."),
+    ],
+    "world_names": [
+        ("row-21-names", "names", "A name that is there is refused."),
+        ("row-R7a-cycle", "cycle", "A directory doesn't come under itself."),
+        ("row-17-reused-block", "reused_block", "A block that a removed file gave back has a new birth."),
+    ],
+    "world_leases": [
+        ("row-04-dating", "dating", "A lease is dated from the greeting's sending."),
+        ("row-05-keep-alive", "keep_alive", "A keep-alive is sent from renewal on, and dates the lease."),
+        ("row-07-equality", "equality", "A lease is over from its end on."),
+        ("row-07-late-reply", "late_reply", "A reply at the lease end comes too late."),
+    ],
+    "world_clocks": [
+        ("row-06-rate-boundary", "rate_boundary", "An advance at the bound, and one beyond it."),
+        ("row-R15-drift-of-clients", "drift_of_clients", "Clocks that drift apart over three advances."),
+        ("row-R15-drift-from-rest", "drift_from_rest", "Clocks that stand while another runs."),
+    ],
+    "world_theft": [
+        ("row-08-theft", "theft", "A crashed client's lock is stolen when its timer ends."),
+        ("row-R15-theft", "theft_with_a_grain", "With a grain the timer is longer."),
+    ],
+    "world_cuts": [
+        ("row-09-one-sided-cut", "one_sided_cut", "A client that is cut off one way flushes its pages before its lock is stolen."),
+        ("row-09-link-cut", "link_cut", "A message of a cut direction is not delivered."),
+        ("row-R2-healed", "healed", "A healed direction delivers."),
+        ("row-R2-link-cut", "cut_twice", "A direction that was cut twice is cut."),
+        ("row-R2-lost-message", "lost_message", "A message that was lost is not delivered."),
+        ("row-R2-no-node", "no_node", "A node that is not there."),
+    ],
+    "world_locks": [
+        ("row-10-demand-before-grant", "demand_before_grant", "A demand that comes before its grant."),
+        ("row-11-repeated-release", "repeated_release", "A release that comes again changes nothing."),
+    ],
+    "world_disks": [
+        ("row-12-late-disk", "late_disk", "An effect before the lease end of a crashed client."),
+        ("row-12-late-disk-refused", "late_disk_refused", "An effect at the lease end is refused."),
+        ("row-12-flush-missed", "flush_missed", "An advance to the lease end of a client that has not flushed is refused."),
+        ("row-R3-flush-missed", "flush_outstanding", "So is one while the flush is outstanding."),
+        ("row-R4a-sync", "sync", "A sync is answered when its page is hard."),
+        ("row-R4b-late-read", "late_read", "A read that is reported after the page was written gives the application the written page."),
+    ],
+    "world_failures": [
+        ("row-13-failed-flush", "failed_flush", "A write whose flush failed is dropped, and the next sync is told so."),
+        ("row-14-ambiguous-failure", "ambiguous_failure", "A command that was reported failed and had its effect."),
+    ],
+    "world_restarts": [
+        ("row-15-restart-while-a-timer-runs", "restart_while_a_timer_runs", "A server that starts again while a timer runs accepts the client's locks."),
+        ("row-15-second-reassert", "second_reassertion", "A reassertion that comes again is answered again."),
+    ],
+    "world_reassertion": [
+        ("row-16-repeated-reassertion", "repeated_reassertion", "A reassertion that comes again when grace is over brings no lock back."),
+    ],
+}
+
+
+def node(n):
+    return f"(client_node {n})" if is_client(n) else f"(server_node {server_id(n)})"
+
+
+def event_text(e):
+    match e:
+        case schedule.TickNode(n):
+            return f"(events.Tick {node(n)})"
+        case schedule.AppAsk(client, ask):
+            return f"(ask {client} {ask_text(ask)})"
+        case schedule.Deliver(k):
+            return f"(events.Deliver {k})"
+        case schedule.Lose(k):
+            return f"(events.Lose {k})"
+        case schedule.CutLink(a, b):
+            return f"(events.Cut {node(a)} {node(b)})"
+        case schedule.HealLink(a, b):
+            return f"(events.Heal {node(a)} {node(b)})"
+        case schedule.Advance(steps):
+            return f"(events.Advance {list_text([str(s) for s in steps])})"
+        case schedule.Effect(k):
+            return f"(events.Effect {k})"
+        case schedule.Report(k, ok):
+            return f"(events.Report {k} {'true' if ok else 'false'})"
+        case schedule.Crash(n):
+            return f"(events.Crash {node(n)})"
+        case schedule.Start(n):
+            return f"(events.Start {node(n)})"
+
+
+def seen_text(o):
+    match o:
+        case world.Sent(k, m):
+            return f"sent {k} {m.sender} {m.receiver} {m.life} {m.epoch} {m.number} {m.stamp} {body_text(m.body)}"
+        case world.Submitted(k, c, number, ReadBlock(at)):
+            return f"read_out {k} {c} {number} {at.disk} {at.block}"
+        case world.Submitted(k, c, number, what):
+            tag = what.tag
+            return (f"write_out {k} {c} {number} {what.at.disk} {what.at.block} {tag.file.server} {tag.file.ino} {tag.page} "
+                    f"{tag.birth} {bytes_text(what.data)}")
+        case world.Answered(c, op, answer):
+            return f"answered {c} {op} {answer_text(answer)}"
+        case world.Wrote(i, c, f, p, data):
+            return f"wrote {i} {c} {f.server} {f.ino} {p} {bytes_text(data)}"
+        case world.PatchedAt(i, c, f, p, at, data):
+            return f"patched {i} {c} {f.server} {f.ino} {p} {at} {bytes_text(data)}"
+        case world.CutAt(i, f, p):
+            return f"cut {i} {f.server} {f.ino} {p}"
+        case world.Hardened(i):
+            return f"seen.Hardened {i}"
+        case world.Dropped(i, None):
+            return f"dropped {i}"
+        case world.Dropped(i, k):
+            return f"failed {i} {k}"
+        case world.Leased(c, s, end):
+            return f"leased {c} {s} {end}"
+        case world.LostLease(c, s, life):
+            return f"lost {c} {s} {life}"
+        case world.Suspected(s, c, start):
+            return f"suspected {s} {c} {start}"
+        case world.Stolen(s, c, life):
+            return f"stolen {s} {c} {life}"
+
+
+def refusal_text(refusal):
+    """A refusal as the report prints it."""
+    name, *values = str(refusal).split()
+    out = []
+    for i, v in enumerate(values):
+        kind, number = v[0], v[1:]
+        if name == "FlushMissed":
+            out.append(f"(c {number})" if kind == "c" else f"(server {number})")
+        elif name == "LateDisk":
+            out.append(f"(stamp {v})")
+        elif kind in "cs":
+            out.append(f"({'client' if kind == 'c' else 'server'}_node {number})")
+        else:
+            out.append(v)
+    return " ".join([f"refusals.{name}", *out])
+
+
+class Row:
+    """A schedule, step by step: its events, what is observed at each, the counts, and the refusal that ends it."""
+
+    def __init__(self, path):
+        text = (ROWS / f"{path}.schedule").read_bytes()
+        self.told, self.events, self.refused = [], [], None
+        reader = schedule.ScheduleReader()
+        lines = []
+        for number, line in enumerate(schedule.split_lines(text), 1):
+            item = reader.line(line)
+            if isinstance(item, schedule.Head):
+                self.head = item
+                self.world = world.World(item.config, item.counts, item.form)
+                lines.append("tank report 1")
+            elif not isinstance(item, schedule.End):
+                self.events.append(item)
+                try:
+                    seen = self.world.step(item)
+                except world.WorldRefusal as refusal:
+                    self.refused = refusal
+                    lines.append(f"line {number} {refusal}")
+                    break
+                self.told.append(seen)
+                lines += [f"{len(self.told)} {report.observation_text(o)}" for o in seen]
+        if self.refused is None:
+            lines.append(f"end {self.world.summary()}")
+        wanted = (ROWS / f"{path}.report").read_text()
+        assert "".join(line + "\n" for line in lines) == wanted, path
+
+    def fresh(self):
+        c = self.head.counts
+        counts = f"{c.clients} {c.servers} {c.disks} {c.blocks}"
+        return f"(world_of {counts})" if self.head.form == 1 else f"(grainy_world {self.head.config.grain} {counts})"
+
+    def counts(self):
+        return "(counts " + " ".join(re.findall(r"\d+", self.world.summary())) + ")"
+
+    def text(self, name, doc):
+        events = "".join(f"        {'∷ ' if i else ''}{event_text(e)}\n" for i, e in enumerate(self.events))
+        seen = ""
+        for i, os in enumerate(self.told):
+            seen += f"        {'∷ ' if i else ''}({' ∷ '.join([*map(seen_text, os), '[]'])})\n" if os else f"        {'∷ ' if i else ''}[]\n"
+        refused = f"(Some ({refusal_text(self.refused)}))" if self.refused else "None"
+        return (f"\n/// {doc}\n#[tactic(auto, unfolding(crate::specs::WorldWords::world_words_open))]\n"
+                f"pub fn {name}()\n    ensures {{ told (run (\n{events}        ∷ []) {self.fresh()})\n"
+                f"        ≡ tells (\n{seen}        ∷ []) {self.counts()} {refused} }}\n{{}}\n")
+
+
+USES = [
+    ("st_base.specs.Page.{filled}", "filled "),
+    ("st_base.specs.declared.mode.Mode.TheVariants as modes", "modes."),
+    ("st_base.specs.declared.names.NameAsk.TheVariants as names", "names."),
+    ("st_codec.specs.declared.answer.AppAnswer.TheVariants as answers", "answers."),
+    ("st_codec.specs.declared.ask.Ask.TheVariants as asks", "asks."),
+    ("st_codec.specs.declared.event.Event.TheVariants as events", "events."),
+    ("st_codec.specs.declared.message.Body.TheVariants as bodies", "bodies."),
+    ("st_codec.specs.declared.message.NameOp.TheVariants as ops", "ops."),
+    ("st_codec.specs.declared.message.NameReply.TheVariants as replies", "replies."),
+    ("st_codec.specs.declared.message.Why.TheVariants as why", "why."),
+    ("st_rules.specs.FlatLog.{overlay}", "overlay "),
+    ("st_rules.specs.Run.{run}", "run "),
+    ("st_rules.specs.declared.observation.Observation.TheVariants as seen", "seen."),
+    ("st_rules.specs.declared.observation.WorldRefusal.TheVariants as refusals", "refusals."),
+]
+WORDS = {
+    "st_rows.specs.ClientWords": ["lost_row", "on", "server", "tag_of"],
+    "st_rows.specs.Words": ["c", "entry", "extent", "g", "page", "stamp"],
+    "st_rows.specs.WorldWords": [
+        "answered", "ask", "client_node", "counts", "cut", "dropped", "failed", "grainy_world", "leased", "lost", "patched",
+        "read_out", "sent", "server_node", "stolen", "suspected", "tells", "told", "world_of", "write_out", "wrote",
+    ],
+}
+
+
+def write_file(name, rows):
+    body = "".join(Row(path).text(title, doc) for path, title, doc in rows)
+    code = re.sub(r"///.*|pub fn \w+", "", body)
+
+    def used(word):
+        return re.search(rf"(?<![\w.]){word}(?![\w.])", code)
+
+    prelude = ["◌≡◌", "◌∷◌", "[]"] + [w for w in ("None", "Some", "codes", "false", "true") if used(w)]
+    head = f"ghost use Rattle.std.specs.Prelude.{{{', '.join(prelude)}}};\n"
+    for path, mark in USES:
+        if mark in code:
+            head += f"ghost use Rattle.{path};\n"
+    for path, words in WORDS.items():
+        there = [w for w in words if used(w)]
+        if there:
+            head += f"ghost use Rattle.{path}.{{{', '.join(there)}}};\n"
+    (pathlib.Path("crates/st_rows/src") / f"{name}.rt").write_text(head + body)
+
+
+if __name__ == "__main__":
+    for name, rows in FILES.items():
+        write_file(name, rows)
+        print(name, len(rows), "rows")
