@@ -7,3 +7,4 @@ pub mod Directories
 pub mod ClientWords
 pub mod ClientScript
 pub mod ClientTables
+pub mod WorldWords

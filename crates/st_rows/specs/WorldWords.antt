@@ -15,8 +15,10 @@ use Rattle.st_rules.specs.declared.observation.Observation.{Observation}
 use Rattle.st_rules.specs.declared.observation.Observation.TheVariants as seen
 use Rattle.st_rules.specs.declared.observation.Summary.{Summary}
 use Rattle.st_rules.specs.declared.observation.WorldRefusal.{WorldRefusal}
+use Rattle.st_codec.specs.Sizes.{size_of}
+use Rattle.st_rules.specs.Rules.{rules_open}
 use Rattle.st_rules.specs.World.{World, fresh_world}
-use Rattle.st_rules.specs.Events.{summary, events_open}
+use Rattle.st_rules.specs.Events.{summary}
 use Rattle.st_rules.specs.Run.{Run, run, run_open}
 use Rattle.st_rows.specs.Words.{c, life, page, stamp, at}
 use Rattle.st_rows.specs.ClientWords.{on, server, tag_of}
@@ -105,5 +107,5 @@ abbrev pub tells : List (List Observation) → Summary → Option WorldRefusal �
 tells seen counts refused = record { seen = seen; counts = counts; refused = refused }
 
 unfoldable pub world_words_open : ⊤
-unfolding run_open world_of grainy_world
+unfolding rules_open run_open size_of world_of grainy_world
 world_words_open = tt
