@@ -206,10 +206,11 @@ class Row:
         seen = ""
         for i, os in enumerate(self.told):
             seen += f"        {'∷ ' if i else ''}({' ∷ '.join([*map(seen_text, os), '[]'])})\n" if os else f"        {'∷ ' if i else ''}[]\n"
+        seen = f"(\n{seen}        ∷ [])" if self.told else "[]"
         refused = f"(Some ({refusal_text(self.refused)}))" if self.refused else "None"
         return (f"\n/// {doc}\n#[tactic(auto, unfolding(crate::specs::WorldWords::world_words_open))]\n"
                 f"pub fn {name}()\n    ensures {{ told (run (\n{events}        ∷ []) {self.fresh()})\n"
-                f"        ≡ tells (\n{seen}        ∷ []) {self.counts()} {refused} }}\n{{}}\n")
+                f"        ≡ tells {seen} {self.counts()} {refused} }}\n{{}}\n")
 
 
 USES = [

@@ -165,6 +165,5 @@ pub fn no_node()
     ensures { told (run (
         (events.Cut (client_node 1) (client_node 9))
         ∷ []) (world_of 2 1 1 8))
-        ≡ tells (
-        ∷ []) (counts 0 0 0 0 0 0 0 0) (Some (refusals.NoNode (client_node 9))) }
+        ≡ tells [] (counts 0 0 0 0 0 0 0 0) (Some (refusals.NoNode (client_node 9))) }
 {}
