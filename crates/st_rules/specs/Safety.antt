@@ -210,11 +210,9 @@ AtEachOf x fact = AtEach fact x.after.world x.before.world.log x.seen
 
 -- Reads return the last write: each answer of a read has the page's bytes in the log at that answer. These are zeros, changed
 -- by the writes, patches and cuts that touch the page and are not gone, in the order of the log.
-pub record IsLastRead (asked : Option Ask) (es : List LogEntry) (bytes : List ℕ) : Type 0 where
-  pub file : FileId
-  pub page : PageNo
-  pub ask : asked ≡ Some (asks.Read file page)
-  pub last : bytes ≡ log.content es file page
+abbrev pub IsLastRead : Option Ask → List LogEntry → List ℕ → Type 0
+IsLastRead (Some (asks.Read f p)) es bytes = bytes ≡ log.content es f p
+IsLastRead asked es bytes = ⊥
 
 -- an answer that is no read owes nothing
 abbrev pub IsLastAnswer : List Step → Step → ClientId → ℕ → List LogEntry → AppAnswer → Type 0
@@ -545,6 +543,6 @@ EveryRunIsSafe = (k : Config) (clients servers disks blocks form : ℕ) (es : Li
 
 -- opens all of this file
 unfoldable pub safety_open : ⊤
-unfolding steps_on steps ask_of_client log_behind keep_hard replied_from
+unfolding steps_on steps Throughout ask_of_client log_behind AtEach keep_hard replied_from
 safety_open = tt
 
