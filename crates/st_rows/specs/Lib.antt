@@ -8,3 +8,4 @@ pub mod ClientWords
 pub mod ClientScript
 pub mod ClientTables
 pub mod WorldWords
+pub mod CheckWords
