@@ -287,13 +287,18 @@ WORDS = {
 
 
 def write_file(name, rows):
-    body = "".join(Row(row).text(title, doc) for row, title, doc in rows)
+    write_code(name, "".join(Row(row).text(title, doc) for row, title, doc in rows))
+
+
+def write_code(name, body):
+    """Writes functions behind the names that they use."""
     code = re.sub(r"///.*|pub fn \w+", "", body)
 
     def used(word):
         return re.search(rf"(?<![\w.]){word}(?![\w.])", code)
 
     prelude = ["◌≡◌", "◌∷◌", "[]"] + [w for w in ("None", "Some", "codes", "false", "true") if used(w)]
+    prelude += ["◌++◌"] if "++" in code else []
     head = f"ghost use Rattle.std.specs.Prelude.{{{', '.join(prelude)}}};\n"
     for path, mark in USES:
         if mark in code:

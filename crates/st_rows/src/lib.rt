@@ -34,4 +34,5 @@ pub mod world_reads;
 pub mod world_reassertion;
 pub mod world_refusals;
 pub mod world_restarts;
+pub mod world_texts;
 pub mod world_theft;
