@@ -2,9 +2,9 @@
 """Writes the worked rows of the world.
 
 Run from the repository's top as `tools/world_rows.py ORACLE`, ORACLE being the folder that holds the package tank_oracle and
-the folder rows. Each row is a schedule there with its report. Its events, what is observed at each, and the counts or the
-refusal are written as the contract of a function, into crates/st_rows/src/world_*.rt. No number of a row is typed by hand,
-and what is written has the row's report as its text.
+the folder rows. Each row is a schedule there, or one in tools/rows, with its report beside it. Its events, what is observed at
+each, and the counts or the refusal are written as the contract of a function, into crates/st_rows/src/world_*.rt. No number of
+a row is typed by hand, and what is written has the row's report as its text. The reports in tools/rows are the oracle's.
 """
 import pathlib
 import re
@@ -20,74 +20,111 @@ from tank_oracle.wire import ReadBlock  # noqa: E402
 
 ROWS = pathlib.Path(sys.argv[1]) / "rows"
 ROWS_CRATE = pathlib.Path("crates/st_rows")
-# the file of a row, the function and what its doc says; one file of functions a group
+OWN_ROWS = pathlib.Path(__file__).parent / "rows"
+# the name of a row, the function and what its doc says; one file of functions a group. Of several rows with one name, `#2` is the
+# second.
 FILES = {
     "world_reads": [
-        ("row-03-own-write", "own_write", "A client reads what it wrote."),
-        ("row-R1a-no-message", "no_message", "A request is answered again with its kept reply, and a message that was not sent is refused."),
-        ("row-20-operations-full", "operations_full", "The seventeenth operation of a client is refused."),
-        ("row-R16a-patch", "patch", "A patch of a written page; its effect makes both entries hard, also after a crash."),
-        ("row-R16b-patch-of-a-new-page", "patch_of_a_new_page", "A patch of a page that is first read from its disk."),
-        ("row-19-cut", "cut", "A file is cut, and its page reads as zeros."),
+        ("own-write", "own_write", "A client reads what it wrote."),
+        ("no-message", "no_message", "A request is answered again with its kept reply, and a message that was not sent is refused."),
+        ("operations-full", "operations_full", "The seventeenth operation of a client is refused."),
+        ("patch", "patch", "A patch of a written page; its effect makes both entries hard, also after a crash."),
+        ("patch-of-a-new-page", "patch_of_a_new_page", "A patch of a page that is first read from its disk."),
+        ("cut", "cut", "A file is cut, and its page reads as zeros."),
     ],
     "world_names": [
-        ("row-21-names", "names", "A name that is there is refused."),
-        ("row-R7a-cycle", "cycle", "A directory doesn't come under itself."),
-        ("row-17-reused-block", "reused_block", "A block that a removed file gave back has a new birth."),
+        ("names", "names", "A name that is there is refused."),
+        ("cycle", "cycle", "A directory doesn't come under itself."),
+        ("reused-block", "reused_block", "A block that a removed file gave back has a new birth."),
     ],
     "world_leases": [
-        ("row-04-dating", "dating", "A lease is dated from the greeting's sending."),
-        ("row-05-keep-alive", "keep_alive", "A keep-alive is sent from renewal on, and dates the lease."),
-        ("row-07-equality", "equality", "A lease is over from its end on."),
-        ("row-07-late-reply", "late_reply", "A reply at the lease end comes too late."),
+        ("dating", "dating", "A lease is dated from the greeting's sending."),
+        ("keep-alive", "keep_alive", "A keep-alive is sent from renewal on, and dates the lease."),
+        ("equality", "equality", "A lease is over from its end on."),
+        ("late-reply", "late_reply", "A reply at the lease end comes too late."),
     ],
     "world_clocks": [
-        ("row-06-rate-boundary", "rate_boundary", "An advance at the bound, and one beyond it."),
-        ("row-R15-drift-of-clients", "drift_of_clients", "Clocks that drift apart over three advances."),
-        ("row-R15-drift-from-rest", "drift_from_rest", "Clocks that stand while another runs."),
+        ("rate-boundary", "rate_boundary", "An advance at the bound, and one beyond it."),
+        ("drift-of-clients", "drift_of_clients", "Clocks that drift apart over three advances."),
+        ("drift-from-rest", "drift_from_rest", "Clocks that stand while another runs."),
     ],
     "world_theft": [
-        ("row-08-theft", "theft", "A crashed client's lock is stolen when its timer ends."),
-        ("row-R15-theft", "theft_with_a_grain", "With a grain the timer is longer."),
+        ("theft", "theft", "A crashed client's lock is stolen when its timer ends."),
+        ("theft#2", "theft_with_a_grain", "With a grain the timer is longer."),
     ],
     "world_cuts": [
-        ("row-09-one-sided-cut", "one_sided_cut", "A client that is cut off one way flushes its pages before its lock is stolen."),
-        ("row-09-link-cut", "link_cut", "A message of a cut direction is not delivered."),
-        ("row-R2-healed", "healed", "A healed direction delivers."),
-        ("row-R2-link-cut", "cut_twice", "A direction that was cut twice is cut."),
-        ("row-R2-lost-message", "lost_message", "A message that was lost is not delivered."),
-        ("row-R2-no-node", "no_node", "A node that is not there."),
+        ("one-sided-cut", "one_sided_cut", "A client that is cut off one way flushes its pages before its lock is stolen."),
+        ("link-cut", "link_cut", "A reply of a cut direction is not delivered."),
+        ("healed", "healed", "A healed direction delivers."),
+        ("link-cut#2", "request_cut", "A request of a cut direction is not delivered."),
+        ("cut-twice", "cut_twice", "A direction that was cut twice is healed once; a cut speaks of its own direction alone."),
+        ("lost-message", "lost_message", "A message that was lost is not delivered."),
+        ("no-node", "no_node", "A node that is not there."),
     ],
     "world_locks": [
-        ("row-10-demand-before-grant", "demand_before_grant", "A demand that comes before its grant."),
-        ("row-11-repeated-release", "repeated_release", "A release that comes again changes nothing."),
+        ("demand-before-grant", "demand_before_grant", "A demand that comes before its grant."),
+        ("repeated-release", "repeated_release", "A release that comes again changes nothing."),
     ],
     "world_disks": [
-        ("row-12-late-disk", "late_disk", "An effect before the lease end of a crashed client."),
-        ("row-12-late-disk-refused", "late_disk_refused", "An effect at the lease end is refused."),
-        ("row-12-flush-missed", "flush_missed", "An advance to the lease end of a client that has not flushed is refused."),
-        ("row-R3-flush-missed", "flush_outstanding", "So is one while the flush is outstanding."),
-        ("row-R4a-sync", "sync", "A sync is answered when its page is hard."),
-        ("row-R4b-late-read", "late_read", "A read that is reported after the page was written gives the application the written page."),
+        ("late-disk", "late_disk", "An effect before the lease end of a crashed client."),
+        ("late-disk-refused", "late_disk_refused", "An effect at the lease end is refused."),
+        ("flush-missed", "flush_missed", "An advance to the lease end of a client that has not flushed is refused."),
+        ("flush-missed#2", "flush_outstanding", "So is one while the flush is outstanding."),
+        ("sync", "sync", "A sync is answered when its page is hard."),
+        ("late-read", "late_read", "A read that is reported after the page was written gives the application the written page."),
     ],
     "world_failures": [
-        ("row-13-failed-flush", "failed_flush", "A write whose flush failed is dropped, and the next sync is told so."),
-        ("row-14-ambiguous-failure", "ambiguous_failure", "A command that was reported failed and had its effect."),
+        ("failed-flush", "failed_flush", "A write whose flush failed is dropped, and the next sync is told so."),
+        ("ambiguous-failure", "ambiguous_failure", "A command that was reported failed and had its effect."),
     ],
     "world_restarts": [
-        ("row-15-restart-while-a-timer-runs", "restart_while_a_timer_runs", "A server that starts again while a timer runs accepts the client's locks."),
-        ("row-15-second-reassert", "second_reassertion", "A reassertion that comes again is answered again."),
+        ("restart-while-a-timer-runs", "restart_while_a_timer_runs", "A server that starts again while a timer runs accepts the client's locks."),
+        ("second-reassert", "second_reassertion", "A reassertion that comes again is answered again."),
     ],
     "world_reassertion": [
-        ("row-16-repeated-reassertion", "repeated_reassertion", "A reassertion that comes again when grace is over brings no lock back."),
+        ("repeated-reassertion", "repeated_reassertion", "A reassertion that comes again when grace is over brings no lock back."),
+    ],
+    "world_refusals": [
+        ("no-client", "no_client", "A client that is not there is asked nothing."),
+        ("not-running", "not_running", "A message is not delivered to a server that doesn't run."),
+        ("stopped-client", "stopped_client", "A client that doesn't run takes no step, and its clock goes on."),
+        ("stopped-twice", "stopped_twice", "A server that doesn't run can't stop."),
+        ("running", "running", "A client that starts again is in its next life; a server that runs can't start."),
+        ("lost-twice", "lost_twice", "A message is lost once."),
+        ("no-command", "no_command", "A command that was not submitted has no effect."),
+        ("no-command-to-report", "no_command_to_report", "Nor has it a report."),
+    ],
+    "world_commands": [
+        ("effect-twice", "effect_twice", "A command has its effect once."),
+        ("effect-of-a-reported-command", "effect_of_a_reported_command", "A command that was reported has no effect."),
+        ("success-without-effect", "success_without_effect", "A command without an effect is not reported as done."),
+        ("failed-read", "failed_read", "A failed read is told; a report for a client that was started again tells nobody; and there is one report."),
+    ],
+    "world_lives": [
+        ("later-life-waits", "later_life_waits", "A client that is greeted while its locks of an earlier life stand waits until they are stolen."),
+        ("later-life-replaces", "later_life_replaces", "Without locks its new life is welcome at once; an older greeting, request and welcome are passed over."),
+        ("uncertain-at-a-loss", "uncertain_at_a_loss", "A name that was asked is uncertain at a loss, though the server gave it."),
+        ("two-servers", "two_servers", "A client with leases at two servers, each with its own disk, loses them in rising order."),
+        ("condemned", "condemned", "A client that is refused as a suspect serves nothing new, flushes, and loses its lease."),
+    ],
+    "world_epochs": [
+        ("new-epoch", "new_epoch", "A name that was asked in an epoch that is over is uncertain; without locks an empty reassertion is accepted."),
+        ("grace", "grace", "In grace no greeting is welcome; the first grant after it has a number of the new epoch."),
+        ("late-reassertion", "late_reassertion", "A reassertion that comes when grace is over is refused, and finds its client's lease lost."),
+    ],
+    "world_asks": [
+        ("no-file", "no_file", "A server that is not there and an inode that is no file have no files."),
+        ("not-the-holder", "not_the_holder", "A remove of an entry that is another file than the asker means is refused."),
+        ("directories", "directories", "Directories are made, filled, listed and removed; one with entries is not removed."),
+        ("lowered-demand", "lowered_demand", "A demand is repeated on a tick and lowered when its waiter wants more; the lock is given up in two steps."),
     ],
 }
 # the rows over which every promise is computed
 SAFE = [
-    ("row-08-theft", "theft_is_safe", "Every promise is kept in the row of the theft."),
-    ("row-09-one-sided-cut", "one_sided_cut_is_safe", "Every promise is kept in the row of the one-sided cut."),
-    ("row-13-failed-flush", "failed_flush_is_safe", "Every promise is kept in the row of the failed flush."),
-    ("row-15-restart-while-a-timer-runs", "restart_is_safe", "Every promise is kept in the row of the restart while a timer runs."),
+    ("theft", "theft_is_safe", "Every promise is kept in the row of the theft."),
+    ("one-sided-cut", "one_sided_cut_is_safe", "Every promise is kept in the row of the one-sided cut."),
+    ("failed-flush", "failed_flush_is_safe", "Every promise is kept in the row of the failed flush."),
+    ("restart-while-a-timer-runs", "restart_is_safe", "Every promise is kept in the row of the restart while a timer runs."),
 ]
 
 
@@ -172,11 +209,21 @@ def refusal_text(refusal):
     return " ".join([f"refusals.{name}", *out])
 
 
+def row_path(name):
+    """The schedule of a row: one of ours, or one beside the oracle, where a number stands before the name."""
+    if (OWN_ROWS / f"{name}.schedule").exists():
+        return OWN_ROWS / f"{name}.schedule"
+    plain, _, which = name.partition("#")
+    there = sorted(p for p in ROWS.glob("row-*.schedule") if re.fullmatch(rf"row-[^-]+-{plain}", p.stem))
+    return there[int(which or 1) - 1]
+
+
 class Row:
     """A schedule, step by step: its events, what is observed at each, the counts, and the refusal that ends it."""
 
-    def __init__(self, path):
-        text = (ROWS / f"{path}.schedule").read_bytes()
+    def __init__(self, name):
+        path = row_path(name)
+        text = path.read_bytes()
         self.told, self.events, self.refused = [], [], None
         reader = schedule.ScheduleReader()
         lines = []
@@ -198,7 +245,7 @@ class Row:
                 lines += [f"{len(self.told)} {report.observation_text(o)}" for o in seen]
         if self.refused is None:
             lines.append(f"end {self.world.summary()}")
-        wanted = (ROWS / f"{path}.report").read_text()
+        wanted = path.with_suffix(".report").read_text()
         assert "".join(line + "\n" for line in lines) == wanted, path
 
     def fresh(self):
@@ -276,13 +323,19 @@ WORDS = {
 }
 
 
-def write_file(name, body):
+def write_file(name, rows):
+    write_code(name, "".join(Row(row).text(title, doc) for row, title, doc in rows))
+
+
+def write_code(name, body):
+    """Writes functions behind the names that they use."""
     code = re.sub(r"///.*|pub fn \w+", "", body)
 
     def used(word):
         return re.search(rf"(?<![\w.]){word}(?![\w.])", code)
 
     prelude = [w for w in ("◌≡◌",) if "≡" in code] + ["◌∷◌", "[]"] + [w for w in ("None", "Some", "codes", "false", "true") if used(w)]
+    prelude += ["◌++◌"] if "++" in code else []
     head = f"ghost use Rattle.std.specs.Prelude.{{{', '.join(prelude)}}};\n"
     for path, mark in USES:
         if mark in code:
@@ -302,8 +355,8 @@ def write_answer(name, text):
 
 if __name__ == "__main__":
     for name, rows in FILES.items():
-        write_file(name, "".join(Row(path).text(title, doc) for path, title, doc in rows))
+        write_file(name, rows)
         print(name, len(rows), "rows")
-    write_file("world_safety", "".join(Row(path).safe_text(title, doc) for path, title, doc in SAFE))
-    for path, title, _ in SAFE:
-        write_answer(title, Row(path).safe_answer(title))
+    write_code("world_safety", "".join(Row(row).safe_text(title, doc) for row, title, doc in SAFE))
+    for row, title, _ in SAFE:
+        write_answer(title, Row(row).safe_answer(title))

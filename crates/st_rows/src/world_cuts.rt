@@ -70,7 +70,7 @@ pub fn one_sided_cut()
         ∷ []) (counts 24 15 1 1 0 1 0 1) None }
 {}
 
-/// A message of a cut direction is not delivered.
+/// A reply of a cut direction is not delivered.
 #[tactic(auto, unfolding(crate::specs::WorldWords::world_words_open))]
 pub fn link_cut()
     ensures { told (run (
@@ -131,9 +131,9 @@ pub fn healed()
         ∷ []) (counts 4 2 0 0 0 0 0 0) None }
 {}
 
-/// A direction that was cut twice is cut.
+/// A request of a cut direction is not delivered.
 #[tactic(auto, unfolding(crate::specs::WorldWords::world_words_open))]
-pub fn cut_twice()
+pub fn request_cut()
     ensures { told (run (
         (ask 1 (asks.Read (on 1 2) (page 0)))
         ∷ (events.Cut (client_node 1) (server_node 1))
@@ -143,6 +143,32 @@ pub fn cut_twice()
         (sent 1 1 32769 1 0 0 0 bodies.Hello ∷ [])
         ∷ []
         ∷ []) (counts 2 1 0 0 0 0 0 0) (Some (refusals.LinkCut (client_node 1) (server_node 1))) }
+{}
+
+/// A direction that was cut twice is healed once; a cut speaks of its own direction alone.
+#[tactic(auto, unfolding(crate::specs::WorldWords::world_words_open))]
+pub fn cut_twice()
+    ensures { told (run (
+        (ask 1 (asks.Read (on 1 2) (page 0)))
+        ∷ (events.Cut (client_node 1) (server_node 1))
+        ∷ (events.Cut (client_node 1) (server_node 1))
+        ∷ (events.Heal (client_node 1) (server_node 1))
+        ∷ (events.Heal (server_node 1) (client_node 1))
+        ∷ (events.Deliver 1)
+        ∷ (events.Cut (server_node 1) (client_node 1))
+        ∷ (events.Deliver 1)
+        ∷ (events.Deliver 2)
+        ∷ []) (world_of 2 1 1 8))
+        ≡ tells (
+        (sent 1 1 32769 1 0 0 0 bodies.Hello ∷ [])
+        ∷ []
+        ∷ []
+        ∷ []
+        ∷ []
+        ∷ (sent 2 32769 1 1 1 0 0 bodies.Welcome ∷ [])
+        ∷ []
+        ∷ (sent 3 32769 1 1 1 0 0 bodies.Welcome ∷ [])
+        ∷ []) (counts 8 3 0 0 0 0 0 0) (Some (refusals.LinkCut (server_node 1) (client_node 1))) }
 {}
 
 /// A message that was lost is not delivered.
