@@ -20,6 +20,7 @@ from tank_oracle.wire import ReadBlock  # noqa: E402
 
 ROWS = pathlib.Path(sys.argv[1]) / "rows"
 OWN_ROWS = pathlib.Path(__file__).parent / "rows"
+ROWS_CRATE = pathlib.Path("crates/st_rows")
 # the name of a row, the function and what its doc says; one file of functions a group. Of several rows with one name, `#2` is the
 # second.
 FILES = {
@@ -118,6 +119,13 @@ FILES = {
         ("lowered-demand", "lowered_demand", "A demand is repeated on a tick and lowered when its waiter wants more; the lock is given up in two steps."),
     ],
 }
+# the rows over which every promise is computed
+SAFE = [
+    ("theft", "theft_is_safe", "Every promise is kept in the row of the theft."),
+    ("one-sided-cut", "one_sided_cut_is_safe", "Every promise is kept in the row of the one-sided cut."),
+    ("failed-flush", "failed_flush_is_safe", "Every promise is kept in the row of the failed flush."),
+    ("restart-while-a-timer-runs", "restart_is_safe", "Every promise is kept in the row of the restart while a timer runs."),
+]
 
 
 def node(n):
@@ -248,6 +256,34 @@ class Row:
     def counts(self):
         return "(counts " + " ".join(re.findall(r"\d+", self.world.summary())) + ")"
 
+    def safe_text(self, name, doc):
+        """The contract that says that every promise is kept over the row."""
+        events = "".join(f"        {'∷ ' if i else ''}{event_text(e)}\n" for i, e in enumerate(self.events))
+        return (f"\n/// {doc}\n#[tactic(auto, unfolding(crate::specs::WorldWords::world_words_open))]\n"
+                f"pub fn {name}()\n    ensures {{ IsSafeRun {self.fresh()} (\n{events}        ∷ []) }}\n{{}}\n")
+
+    def safe_answer(self, name):
+        """Its proof: each promise computes, step by step."""
+        def owed(o):
+            return "refl" if isinstance(o, world.Answered) and o.answer.word == "read" else "tt"
+
+        def nested(items):
+            return "".join(f"({i}, " for i in items) + "tt" + ")" * len(items)
+
+        def each(step):
+            return nested([step(os) for os in self.told])
+
+        def at_each(fact):
+            return each(lambda os: nested([fact(o) for o in os]))
+
+        plain = each(lambda os: "refl")
+        fields = {f: plain for f in ("alone", "reads", "causes", "stays", "hard", "thefts", "dates", "waits", "conflicts")}
+        fields["reads"], fields["hard"] = at_each(owed), at_each(lambda o: "refl")
+        lines = "".join(f"      {f} = {v};\n" for f, v in fields.items())
+        return ("use Rattle.std.proofs.Common.{refl}\nuse Rattle.st_rows.specs.WorldWords.{world_words_open}\n"
+                f"use Rattle.st_rows.proofs.world_safety.{name}.Goals as goal\n\npub returns : goal.returns\n"
+                f"unfolding world_words_open\nreturns c =\n    record {{\n{lines}    }}\n")
+
     def text(self, name, doc):
         events = "".join(f"        {'∷ ' if i else ''}{event_text(e)}\n" for i, e in enumerate(self.events))
         seen = ""
@@ -273,6 +309,7 @@ USES = [
     ("st_codec.specs.declared.message.Why.TheVariants as why", "why."),
     ("st_rules.specs.FlatLog.{overlay}", "overlay "),
     ("st_rules.specs.Run.{run}", "run "),
+    ("st_rules.specs.Safety.{IsSafeRun}", "IsSafeRun "),
     ("st_rules.specs.declared.observation.Observation.TheVariants as seen", "seen."),
     ("st_rules.specs.declared.observation.WorldRefusal.TheVariants as refusals", "refusals."),
 ]
@@ -286,18 +323,14 @@ WORDS = {
 }
 
 
-def write_file(name, rows):
-    write_code(name, "".join(Row(row).text(title, doc) for row, title, doc in rows))
-
-
-def write_code(name, body):
+def write_file(name, body):
     """Writes functions behind the names that they use."""
     code = re.sub(r"///.*|pub fn \w+", "", body)
 
     def used(word):
         return re.search(rf"(?<![\w.]){word}(?![\w.])", code)
 
-    prelude = ["◌≡◌", "◌∷◌", "[]"] + [w for w in ("None", "Some", "codes", "false", "true") if used(w)]
+    prelude = [w for w in ("◌≡◌",) if "≡" in code] + ["◌∷◌", "[]"] + [w for w in ("None", "Some", "codes", "false", "true") if used(w)]
     prelude += ["◌++◌"] if "++" in code else []
     head = f"ghost use Rattle.std.specs.Prelude.{{{', '.join(prelude)}}};\n"
     for path, mark in USES:
@@ -307,10 +340,19 @@ def write_code(name, body):
         there = [w for w in words if used(w)]
         if there:
             head += f"ghost use Rattle.{path}.{{{', '.join(there)}}};\n"
-    (pathlib.Path("crates/st_rows/src") / f"{name}.rt").write_text(head + body)
+    (ROWS_CRATE / "src" / f"{name}.rt").write_text(head + body)
+
+
+def write_answer(name, text):
+    folder = ROWS_CRATE / "proofs" / "world_safety" / name
+    folder.mkdir(parents=True, exist_ok=True)
+    (folder / "Answers.antt").write_text(text)
 
 
 if __name__ == "__main__":
     for name, rows in FILES.items():
-        write_file(name, rows)
+        write_file(name, "".join(Row(path).text(title, doc) for path, title, doc in rows))
         print(name, len(rows), "rows")
+    write_file("world_safety", "".join(Row(path).safe_text(title, doc) for path, title, doc in SAFE))
+    for path, title, _ in SAFE:
+        write_answer(title, Row(path).safe_answer(title))

@@ -9,3 +9,4 @@ pub mod ClientScript
 pub mod ClientTables
 pub mod WorldWords
 pub mod CheckWords
+pub mod Broken

@@ -20,6 +20,8 @@ use Rattle.st_rules.specs.Rules.{rules_open}
 use Rattle.st_rules.specs.World.{World, fresh_world}
 use Rattle.st_rules.specs.Events.{summary}
 use Rattle.st_rules.specs.Run.{Run, run, run_open}
+use Rattle.st_rules.specs.History.{history_open}
+use Rattle.st_rules.specs.Safety.{safety_open}
 use Rattle.st_rows.specs.Words.{c, life, page, stamp, at}
 use Rattle.st_rows.specs.ClientWords.{on, server, tag_of}
 use Rattle.st_rows.specs.Script.{settings}
@@ -107,5 +109,5 @@ abbrev pub tells : List (List Observation) → Summary → Option WorldRefusal �
 tells seen counts refused = record { seen = seen; counts = counts; refused = refused }
 
 unfoldable pub world_words_open : ⊤
-unfolding rules_open run_open size_of world_of grainy_world
+unfolding rules_open run_open history_open safety_open size_of world_of grainy_world
 world_words_open = tt

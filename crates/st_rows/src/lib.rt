@@ -1,6 +1,7 @@
 //! Worked rows of the definitions: equations that hold by computation. A wrong definition breaks one.
 #![tactic(auto)]
 
+pub mod broken;
 pub mod client_epochs;
 pub mod client_leases;
 pub mod client_limits;
@@ -34,5 +35,6 @@ pub mod world_reads;
 pub mod world_reassertion;
 pub mod world_refusals;
 pub mod world_restarts;
+pub mod world_safety;
 pub mod world_texts;
 pub mod world_theft;

@@ -23,3 +23,4 @@ pub mod Events
 pub mod Run
 pub mod History
 pub mod Report
+pub mod Safety
