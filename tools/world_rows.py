@@ -71,7 +71,7 @@ FILES = {
         ("flush-missed", "flush_missed", "An advance to the lease end of a client that has not flushed is refused."),
         ("flush-missed#2", "flush_outstanding", "So is one while the flush is outstanding."),
         ("sync", "sync", "A sync is answered when its page is hard."),
-        ("late-read", "late_read", "A read that is reported after the page was written gives the application the written page."),
+        ("late-read", "late_read", "A request that is sent again renews the lease by its new stamp; the effect of a read at the lease end is refused."),
     ],
     "world_failures": [
         ("failed-flush", "failed_flush", "A write whose flush failed is dropped, and the next sync is told so."),
