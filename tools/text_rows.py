@@ -145,7 +145,7 @@ def whole(name):
 if __name__ == "__main__":
     world_rows.USES.append(("st_rules.specs.Report as text", "text."))
     world_rows.USES.sort()
-    world_rows.write_code("world_texts", "".join([
+    world_rows.write_file("world_texts", "".join([
         function("requests", "What clients send.", observations(REQUESTS)),
         function("replies", "What servers send.", observations(REPLIES)),
         function("answers_to_applications", "What applications are answered.", observations(ANSWERS)),

@@ -19,8 +19,8 @@ from tank_oracle.base import is_client, server_id  # noqa: E402
 from tank_oracle.wire import ReadBlock  # noqa: E402
 
 ROWS = pathlib.Path(sys.argv[1]) / "rows"
-ROWS_CRATE = pathlib.Path("crates/st_rows")
 OWN_ROWS = pathlib.Path(__file__).parent / "rows"
+ROWS_CRATE = pathlib.Path("crates/st_rows")
 # the name of a row, the function and what its doc says; one file of functions a group. Of several rows with one name, `#2` is the
 # second.
 FILES = {
@@ -71,7 +71,7 @@ FILES = {
         ("flush-missed", "flush_missed", "An advance to the lease end of a client that has not flushed is refused."),
         ("flush-missed#2", "flush_outstanding", "So is one while the flush is outstanding."),
         ("sync", "sync", "A sync is answered when its page is hard."),
-        ("late-read", "late_read", "A read that is reported after the page was written gives the application the written page."),
+        ("late-read", "late_read", "A request that is sent again renews the lease by its new stamp; the effect of a read at the lease end is refused."),
     ],
     "world_failures": [
         ("failed-flush", "failed_flush", "A write whose flush failed is dropped, and the next sync is told so."),
@@ -323,11 +323,7 @@ WORDS = {
 }
 
 
-def write_file(name, rows):
-    write_code(name, "".join(Row(row).text(title, doc) for row, title, doc in rows))
-
-
-def write_code(name, body):
+def write_file(name, body):
     """Writes functions behind the names that they use."""
     code = re.sub(r"///.*|pub fn \w+", "", body)
 
@@ -355,8 +351,8 @@ def write_answer(name, text):
 
 if __name__ == "__main__":
     for name, rows in FILES.items():
-        write_file(name, rows)
+        write_file(name, "".join(Row(path).text(title, doc) for path, title, doc in rows))
         print(name, len(rows), "rows")
-    write_code("world_safety", "".join(Row(row).safe_text(title, doc) for row, title, doc in SAFE))
-    for row, title, _ in SAFE:
-        write_answer(title, Row(row).safe_answer(title))
+    write_file("world_safety", "".join(Row(path).safe_text(title, doc) for path, title, doc in SAFE))
+    for path, title, _ in SAFE:
+        write_answer(title, Row(path).safe_answer(title))

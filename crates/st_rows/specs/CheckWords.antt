@@ -1,12 +1,17 @@
--- Short words for the checks of an event in a world that no short run leads to.
-use Rattle.std.specs.Prelude.{ℕ, List, ⊤}
+-- Short words for what no short run leads to: checks of an event in such a world, and a server with many locks; and what opens
+-- the texts of a report.
+use Rattle.std.specs.Prelude.{ℕ, List, [], ◌∷◌, map, None, ⊤}
 use Rattle.std.specs.Fmt.{digits}
 use Rattle.st_base.specs.declared.disk.Command.TheVariants as commands
 use Rattle.st_codec.specs.declared.event.Event.{Event}
 use Rattle.st_rules.specs.Disks as disks
+use Rattle.st_rules.specs.Extents.{numbers}
 use Rattle.st_rules.specs.Report.{report_open}
 use Rattle.st_rules.specs.Run.{run}
+use Rattle.st_rules.specs.Server.{ServerState}
 use Rattle.st_rules.specs.World.{World}
+use Rattle.st_rows.specs.Script.{server_with}
+use Rattle.st_rows.specs.Tables.{living, sessions, shared, table}
 use Rattle.st_rows.specs.Words.{at}
 use Rattle.st_rows.specs.WorldWords.{world_of, world_words_open}
 
@@ -25,6 +30,10 @@ with_command w = record w { disks = disks.submit w.disks (commands.Read (at 1 0)
 -- the world of two clients and a server after some events
 abbrev pub after : List Event → World
 after es = (run es (world_of 2 1 1 8)).world
+
+-- a server whose first client has locks on so many files, from 10 on
+abbrev pub crowded_server : ℕ → ServerState
+crowded_server count = record (server_with 8) { locks = table count (map shared (numbers 10 count)) []; sessions = sessions (living 1 1 0 None ∷ []) }
 
 -- opens the words of whole runs and all texts
 unfoldable pub texts_open : ⊤

@@ -8,5 +8,5 @@ pub mod ClientWords
 pub mod ClientScript
 pub mod ClientTables
 pub mod WorldWords
-pub mod Broken
 pub mod CheckWords
+pub mod Broken

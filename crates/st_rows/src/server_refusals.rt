@@ -3,6 +3,7 @@ ghost use Rattle.st_base.specs.declared.mode.Mode.TheVariants as modes;
 ghost use Rattle.st_codec.specs.declared.message.Body.TheVariants as bodies;
 ghost use Rattle.st_codec.specs.declared.message.NameOp.TheVariants as ops;
 ghost use Rattle.st_codec.specs.declared.message.Why.TheVariants as why;
+ghost use Rattle.st_rows.specs.CheckWords.{crowded_server};
 ghost use Rattle.st_rows.specs.Script.{Input, said, server_with};
 ghost use Rattle.st_rows.specs.Words.{from, g, page, to};
 
@@ -25,5 +26,15 @@ pub fn cuts_and_removes_want_the_exclusive_lock()
         ∷ to 1 1 1 4 0 (bodies.Nack why.NoFile 99 0)
         ∷ to 1 1 1 5 0 (bodies.Nack why.NoFile 99 0)
         ∷ to 1 1 1 6 0 (bodies.Nack why.NoFile 99 0)
+        ∷ [] }
+{}
+
+/// A client with locks on 1,024 files gets no other one.
+#[tactic(auto, unfolding(crate::specs::Script::script_open))]
+pub fn a_lock_may_be_one_too_many()
+    ensures { said (
+        (Input 0 (from 1 1 1 1 0 (bodies.Acquire 2 modes.S)))
+        ∷ []) (crowded_server 1024)
+        ≡ to 1 1 1 1 0 (bodies.Nack why.TooManyLocks 1024 0)
         ∷ [] }
 {}
