@@ -1,0 +1,4 @@
+mod Numbers
+mod Pairs
+mod Firsts
+mod Laws

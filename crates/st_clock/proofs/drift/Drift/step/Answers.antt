@@ -1,0 +1,8 @@
+use Rattle.st_clock.proofs.Laws.{judges, keeps}
+use Rattle.st_clock.proofs.drift.Drift.step.Goals as goal
+
+pub returns-clause-law : goal.returns-clause-law
+returns-clause-law c = judges c.accepted_advances_are_in_bound.ensures c.advances_in_bound_are_accepted.ensures _ _ _ _ _ _ _ c.requires.nodes c.advance.ensures.exact
+
+pub returns-clause-kept : goal.returns-clause-kept
+returns-clause-kept c = keeps _ _ _ _ _ _ _ c.requires.nodes c.advance.ensures.exact

@@ -1,0 +1,17 @@
+//! What is told of clocks: the steal wait, the bound on the rates of clocks without a grain and with one, and the clocks
+//! themselves. `docs/PROTOCOL.md`, "Clocks and leases" and "Clocks of a node", has the rules.
+#![tactic(auto)]
+
+mod clock;
+mod drift;
+mod monotonic;
+mod row;
+#[cfg(test)]
+mod tests;
+mod wait;
+
+pub use clock::{Clock, MemoryClock};
+pub use drift::Drift;
+pub use monotonic::MonotonicClock;
+pub use st_rules::Excess;
+pub use wait::{elapsed, rate_ok, steal_wait};

@@ -1,0 +1,57 @@
+// The clock of the machine.
+ghost use Rattle.std.specs.Prelude.{◌≡◌, ◌≤◌, ◌^◌, None, max, min};
+
+use crate::clock::Clock;
+use st_base::Stamp;
+use std::time::Clock as SystemClock;
+
+/// The highest reading that a clock gives.
+const LAST: u64 = 1 << 62;
+
+/// A clock that counts the milliseconds of the machine's monotonic clock. It keeps its greatest reading, which it gives again
+/// where that clock fails or went back, so it never fails and never falls. It tells no readings to come: that the machine's
+/// clock runs in time is not proved.
+#[derive(Drop)]
+pub struct MonotonicClock<S: SystemClock + Drop> {
+    system: S,
+    greatest: u64,
+    ghost most: { greatest ≤ 2 ^ 62 },
+}
+
+/// The reading at so many milliseconds, after a greatest one: it does not fall, and does not pass the last reading.
+fn later(greatest: u64, millis: u128) -> u64
+    requires { greatest ≤ 2 ^ 62 }
+    ensures { result ≡ max greatest (min millis (2 ^ 62)) }
+{
+    greatest.max(millis.min(LAST as u128) as u64)
+}
+
+impl<S: SystemClock + Drop> MonotonicClock<S> {
+    /// A clock over this system's clock that was not read yet.
+    pub fn new(system: S) -> MonotonicClock<S>
+        ensures latest { ⟦<MonotonicClock<S> as Clock>⟧.latest result ≡ 0 }
+        ensures readings { ⟦<MonotonicClock<S> as Clock>⟧.readings result ≡ None }
+    {
+        MonotonicClock {
+            system,
+            greatest: 0,
+        }
+    }
+}
+
+impl<S: SystemClock + Drop> Clock for MonotonicClock<S> {
+    ghost latest = { λ c. c.greatest };
+
+    ghost readings = { λ _. None };
+
+    /// It takes no memory.
+    fn now(&mut self) -> Stamp {
+        match self.system.monotonic() {
+            Ok(time) => {
+                self.greatest = later(self.greatest, time.as_millis());
+                Stamp(self.greatest)
+            }
+            Err(_) => Stamp(self.greatest),
+        }
+    }
+}

@@ -1,0 +1,48 @@
+-- What the calls on disks need, and what they leave.
+use Rattle.std.specs.Prelude.{◌≡◌, ◌≤◌, ◌<◌, ◌+◌, ℕ, List, length, Some, None, Result, Ok, Err}
+use Rattle.std.specs.declared.option.Option.{Option}
+use Rattle.st_base.specs.declared.disk.BlockAt.{BlockAt}
+use Rattle.st_base.specs.declared.disk.Tag.{Tag}
+use Rattle.st_base.specs.declared.disk.Command.{Command}
+use Rattle.st_base.specs.declared.disk.Command.TheVariants.{Read, Write}
+use Rattle.st_rules.specs.declared.disks.Block.{Block}
+use Rattle.st_rules.specs.declared.disks.DiskRefusal.{DiskRefusal}
+use Rattle.st_rules.specs.declared.disks.DiskRefusal.TheVariants as refusals
+use Rattle.st_rules.specs.declared.disks.DiskCommand.{DiskCommand}
+use Rattle.st_rules.specs.Disks.{Disks, command_at}
+
+-- the block that a command is on
+abbrev pub place : Command → BlockAt
+place (Read at) = at
+place (Write at tag bytes) = at
+
+-- the block is one of these disks': disks are numbered from 1, and their blocks from 0
+pub record HasBlock (d : Disks) (at : BlockAt) : Type 0 where
+  pub some : 1 ≤ at.disk.0
+  pub disk : at.disk.0 ≤ d.disks
+  pub block : at.block < d.blocks
+
+-- as many disks, of as many blocks
+pub record SameSize (old new : Disks) : Type 0 where
+  pub disks : new.disks ≡ old.disks
+  pub blocks : new.blocks ≡ old.blocks
+
+-- a call did what the rule says, or found no memory; where it refused, nothing changed
+abbrev pub Answers : Disks → Disks → Result Unit DiskRefusal → Result Disks DiskRefusal → Type 0
+Answers old new (Ok u) rule = rule ≡ Ok new
+Answers old new (Err refusals.Memory) rule = new ≡ old
+Answers old new (Err f) rule = (rule ≡ Err f) × (new ≡ old)
+
+-- what a call leaves, or its refusal
+abbrev pub ended : Result Unit DiskRefusal → Disks → Result Disks DiskRefusal
+ended (Ok u) d = Ok d
+ended (Err f) d = Err f
+
+-- the tag and the bytes of a block
+abbrev pub shown : Block → Tag × List ℕ
+shown b = (b.tag, b.bytes)
+
+-- where the command of a number is
+abbrev pub IsIndex : List DiskCommand → ℕ → Option ℕ → Type 0
+IsIndex cs n None = command_at cs n ≡ None
+IsIndex cs n (Some i) = (n ≡ i + 1) × (i < length cs)

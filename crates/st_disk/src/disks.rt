@@ -1,0 +1,191 @@
+// The disks.
+ghost use Rattle.std.specs.Prelude.{◌≡◌, ◌<◌, ◌+◌, IfOk, OnOk, OnErr, Some, length, slice_get};
+ghost use Rattle.std.specs.Option.{option_map};
+ghost use Rattle.st_rules.specs.declared.disks.DiskCommand.{DiskCommand};
+ghost use Rattle.st_rules.specs.Disks as rules;
+ghost use Rattle.st_disk.specs.Calls.{Answers, HasBlock, SameSize, ended, place, shown};
+
+use crate::blocks::{find_block, put_block};
+use crate::commands::{command_at, effect_command, index_of, report_command, sample_command};
+use st_base::{BlockAt, Command, FileId, PageBytes, PageNo, ServerId, Tag};
+use st_rules::{Block, DiskCommand, DiskRefusal, Report};
+use std::alloc::{AllocError, Global};
+use std::marker::Model;
+
+/// Disks with their blocks and commands. A block that was never written takes no page.
+#[derive(Drop)]
+pub struct Disks {
+    disks: u16,
+    blocks: u32,
+    written: Vec<Block>,
+    commands: Vec<DiskCommand>,
+    zeros: PageBytes,
+}
+
+impl Model for Disks {
+    ghost use Rattle.std.specs.Prelude.{◌≡◌};
+    ghost use Rattle.st_base.specs.Page.{filled};
+    ghost use Rattle.st_rules.specs.Disks as rules;
+
+    ghost Value = { rules.Disks };
+
+    ghost view = { λ d. record { disks = d.disks; blocks = d.blocks; written = d.written.items; commands = d.commands.items } };
+
+    ghost invariant = { λ d. d.zeros ≡ filled 0 };
+}
+
+const FRESH_TAG: Tag = Tag {
+    file: FileId {
+        server: ServerId(0),
+        ino: 0,
+    },
+    page: PageNo(0),
+    birth: 0,
+};
+
+impl Disks {
+    /// So many disks with so many blocks each, none of which was written, and no commands.
+    pub fn new(alloc: Global, disks: u16, blocks: u32) -> Result<Disks, AllocError>
+        ensures { IfOk result (λ d. d ≡ rules.fresh_disks disks blocks) }
+    {
+        Ok(Disks {
+            disks,
+            blocks,
+            written: Vec::new(alloc),
+            commands: Vec::new(alloc),
+            zeros: PageBytes::filled(alloc, 0)?,
+        })
+    }
+
+    /// Takes a command, and gives its number: 1, 2 and so on. It has no effect yet.
+    pub fn submit(&mut self, command: Command) -> Result<u64, AllocError>
+        requires exists { HasBlock self.old (place command) }
+        ensures ok { OnOk result (self.new ≡ rules.submit self.old command) }
+        ensures number { IfOk result (λ n. n ≡ length self.new.commands) }
+        ensures size { SameSize self.old self.new }
+        ensures err { OnErr result (self.new ≡ self.old) }
+    {
+        self.commands.push(DiskCommand {
+            what: command,
+            effected: false,
+            report: Report::Open,
+            sample: None,
+        })?;
+        Ok(self.commands.len() as u64)
+    }
+
+    /// The tag and the bytes of a block; birth 0 and zeros where it was never written. It takes no memory.
+    pub fn block(&self, at: BlockAt) -> (Tag, &PageBytes)
+        requires exists { HasBlock self.now at }
+        ensures tag { result.0 ≡ (rules.block self.now at).tag }
+        ensures bytes { result.1.now ≡ (rules.block self.now at).bytes }
+    {
+        match find_block(&self.written, at) {
+            Some(block) => (block.tag, &block.bytes),
+            None => (FRESH_TAG, &self.zeros),
+        }
+    }
+
+    /// The tag and the bytes that a read found when it had its effect; `None` exactly where the command is no read with an
+    /// effect. It takes no memory.
+    pub fn sample(&self, n: u64) -> Option<(Tag, &PageBytes)>
+        ensures exact { option_map (λ s. (s.0, s.1.now)) result ≡ option_map shown (rules.sample self.now n) }
+    {
+        let command = command_at(&self.commands, n)?;
+        let block = command.sample.as_ref()?;
+        Some((block.tag, &block.bytes))
+    }
+
+    fn found(&self, at: BlockAt) -> Result<Block, AllocError>
+        ensures { IfOk result (λ b. b ≡ rules.block self.now at) }
+    {
+        match find_block(&self.written, at) {
+            Some(block) => block.copy(),
+            None => Ok(Block {
+                at,
+                tag: FRESH_TAG,
+                bytes: self.zeros.copy()?,
+            }),
+        }
+    }
+
+    fn read(&mut self, index: usize, at: BlockAt) -> Result<(), AllocError>
+        requires { index < length self.old.commands }
+        ensures ok { (c : DiskCommand) → slice_get self.old.commands index ≡ Some c → OnOk result (self.new ≡ rules.with_command (index + 1) (rules.sampled (rules.block self.old at) c) self.old) }
+        ensures size { SameSize self.old self.new }
+        ensures err { OnErr result (self.new ≡ self.old) }
+    {
+        let found = self.found(at)?;
+        sample_command(&mut self.commands, index, found);
+        Ok(())
+    }
+
+    fn write(&mut self, index: usize, block: Block) -> Result<(), AllocError>
+        requires { index < length self.old.commands }
+        ensures ok { (c : DiskCommand) → slice_get self.old.commands index ≡ Some c → OnOk result (self.new ≡ rules.with_block block (rules.with_command (index + 1) (rules.effected c) self.old)) }
+        ensures size { SameSize self.old self.new }
+        ensures err { OnErr result (self.new ≡ self.old) }
+    {
+        put_block(&mut self.written, block)?;
+        effect_command(&mut self.commands, index);
+        Ok(())
+    }
+
+    #[tactic(auto, unfolding(st_rules::specs::Disks::effect_of))]
+    fn act(&mut self, index: usize, what: Command) -> Result<(), AllocError>
+        requires { index < length self.old.commands }
+        ensures ok { (c : DiskCommand) → slice_get self.old.commands index ≡ Some c → OnOk result (self.new ≡ rules.effect_of self.old (index + 1) c what) }
+        ensures size { SameSize self.old self.new }
+        ensures err { OnErr result (self.new ≡ self.old) }
+    {
+        match what {
+            Command::Read { at } => self.read(index, at),
+            Command::Write { at, tag, bytes } => self.write(index, Block { at, tag, bytes }),
+        }
+    }
+
+    /// Gives a command its effect: a write makes the whole block its tag and bytes, and a read keeps the block as it finds
+    /// it. It is refused, in this order, where there is no such command (`NoCommand`), where it was reported (`Reported`),
+    /// and where it had its effect (`Twice`); a refusal changes nothing, nor does want of memory.
+    #[tactic(auto, unfolding(st_rules::specs::Disks::disks_open))]
+    pub fn effect(&mut self, n: u64) -> Result<(), DiskRefusal>
+        ensures exact { Answers self.old self.new result (rules.effect self.old n) }
+        ensures size { SameSize self.old self.new }
+    {
+        let Some(index) = index_of(&self.commands, n) else {
+            return Err(DiskRefusal::NoCommand(n));
+        };
+        let command = &self.commands[index];
+        if command.report != Report::Open {
+            return Err(DiskRefusal::Reported(n));
+        }
+        if command.effected {
+            return Err(DiskRefusal::Twice(n));
+        }
+        let what = command.what.copy()?;
+        Ok(self.act(index, what)?)
+    }
+
+    /// Reports a command, which ends it. It is refused, in this order, where there is no such command (`NoCommand`), where
+    /// it was reported (`Twice`), and where success is reported without an effect (`NotEffected`); a refusal changes
+    /// nothing. It takes no memory.
+    #[tactic(auto, unfolding(st_rules::specs::Disks::disks_open))]
+    pub fn done(&mut self, n: u64, ok: bool) -> Result<(), DiskRefusal>
+        ensures exact { ended result self.new ≡ rules.done self.old n ok }
+        ensures size { SameSize self.old self.new }
+        ensures err { OnErr result (self.new ≡ self.old) }
+    {
+        let Some(index) = index_of(&self.commands, n) else {
+            return Err(DiskRefusal::NoCommand(n));
+        };
+        let command = &self.commands[index];
+        if command.report != Report::Open {
+            return Err(DiskRefusal::Twice(n));
+        }
+        if ok && !command.effected {
+            return Err(DiskRefusal::NotEffected(n));
+        }
+        report_command(&mut self.commands, index, ok);
+        Ok(())
+    }
+}

@@ -1,0 +1,13 @@
+//! Shared disks: blocks with their tags, and the commands that read and write them. `docs/PROTOCOL.md`, "Disks", has the
+//! rules.
+#![tactic(auto)]
+
+mod blocks;
+mod commands;
+mod disks;
+#[cfg(test)]
+mod tests;
+
+pub use disks::Disks;
+pub use st_base::{BlockAt, Command, Tag};
+pub use st_rules::{Block, DiskCommand, DiskRefusal, Report};
