@@ -1,6 +1,12 @@
-//! The flat log of accepted writes, against which every read is measured. `docs/PROTOCOL.md`, "The flat log".
+//! The flat log: every write, patch and cut that was accepted, with its fate. Every read is measured against it.
+//! `docs/PROTOCOL.md`, "The flat log".
 #![tactic(auto)]
 
 mod log;
+mod marks;
+mod pages;
+#[cfg(test)]
+mod tests;
 
-pub use log::{FlatLog, WriteEntry};
+pub use log::FlatLog;
+pub use st_rules::{Cause, Change, EntryHead, Fate, LogEntry, LogOwner};

@@ -1,11 +1,12 @@
 -- The dirty pages of the client, next to the log.
-use Rattle.std.proofs.Common.{◌≡◌, ℕ, Bool, true, false, not, cond, List, [], ◌∷◌, ◌++◌, filter, find, Option, Some, None, refl, ◌∙◌, ap, arith}
+use Rattle.std.proofs.Common.{◌≡◌, ℕ, Bool, true, false, ◌&&◌, not, cond, List, [], ◌∷◌, ◌++◌, filter, find, Option, Some, None, refl, ◌∙◌, ap, arith}
 use Rattle.std.proofs.lemmas.Grind.{common_steps}
 use Rattle.st_base.specs.Page.{filled}
 use Rattle.st_base.specs.declared.ids.FileId.{FileId}
 use Rattle.st_base.specs.declared.ids.PageNo.{PageNo}
-use Rattle.st_model.specs.declared.log.WriteEntry.{WriteEntry}
-use Rattle.st_model.specs.Log.{touches, content_from, content}
+use Rattle.st_rules.specs.declared.log.LogEntry.{LogEntry}
+use Rattle.st_rules.specs.FlatLog.{after, content}
+use Rattle.st_model.proofs.Lasts.{content-push}
 use Rattle.st_world.specs.declared.rows.DirtyPage.{DirtyPage}
 use Rattle.st_world.specs.Client.{is_page, dirty_of}
 use Rattle.st_world.specs.World.{entry}
@@ -21,13 +22,20 @@ bytes_of None = filled 0
 bytes_of (Some d) = d.bytes
 
 -- every page has, dirty or as zeros, what was last written to it
-abbrev pub DirtyIsLast : List WriteEntry → List DirtyPage → Type 0
+abbrev pub DirtyIsLast : List LogEntry → List DirtyPage → Type 0
 DirtyIsLast log dirty = (file : FileId) (page : PageNo) → bytes_of (dirty_of dirty file page) ≡ content log file page
 
-content_from-push : (bytes : List ℕ) (file : FileId) (page : PageNo) (log : List WriteEntry) (e : WriteEntry) →
-    content_from bytes file page (log ++ e ∷ []) ≡ cond (touches file page e) e.bytes (content_from bytes file page log)
-content_from-push bytes file page [] e = refl
-content_from-push bytes file page (d ∷ log) e = content_from-push (cond (touches file page d) d.bytes bytes) file page log e
+and_true : (b : Bool) → (b && true) ≡ b
+and_true true = refl
+and_true false = refl
+
+-- the bytes of a page after one more write
+content-write : (log : List LogEntry) (d : DirtyPage) (file : FileId) (page : PageNo) →
+    content (log ++ entry d.file d.page d.bytes ∷ []) file page ≡ cond (is_page file page d) d.bytes (content log file page)
+unfolding after
+content-write log d file page =
+    content-push file page log (entry d.file d.page d.bytes)
+    ∙ ap (λ b. cond b d.bytes (content log file page)) (and_true (is_page file page d))
 
 find-filter_none : {X : Type 0} (q r : X → Bool) → ((x : X) → q x ≡ true → r x ≡ true) → (xs : List X) →
     find q (filter (λ x. not (r x)) xs) ≡ None
@@ -66,17 +74,17 @@ put_at dirty d file page false h =
     find-push_other (is_page file page) _ d h
     ∙ find-filter_other (is_page file page) (is_page d.file d.page) (λ e m. other_page file page e d h m) dirty
 
-bytes_at : (dirty : List DirtyPage) (d : DirtyPage) (file : FileId) (page : PageNo) (log : List WriteEntry) (b : Bool) →
+bytes_at : (dirty : List DirtyPage) (d : DirtyPage) (file : FileId) (page : PageNo) (log : List LogEntry) (b : Bool) →
     bytes_of (dirty_of dirty file page) ≡ content log file page →
     bytes_of (cond b (Some d) (dirty_of dirty file page)) ≡ cond b d.bytes (content log file page)
 bytes_at dirty d file page log true k = refl
 bytes_at dirty d file page log false k = k
 
 -- a write that is accepted is the last one of its page
-pub put-DirtyIsLast : (log : List WriteEntry) (dirty : List DirtyPage) (file : FileId) (page : PageNo) (bytes : List ℕ) → DirtyIsLast log dirty →
+pub put-DirtyIsLast : (log : List LogEntry) (dirty : List DirtyPage) (file : FileId) (page : PageNo) (bytes : List ℕ) → DirtyIsLast log dirty →
     DirtyIsLast (log ++ entry file page bytes ∷ [])
     (filter (λ e. not (is_page file page e)) dirty ++ record { file = file; page = page; bytes = bytes } ∷ [])
 put-DirtyIsLast log dirty file page bytes k = λ other at.
     let d : DirtyPage = record { file = file; page = page; bytes = bytes } in
-    rw (put_at dirty d other at (is_page other at d) refl, content_from-push (filled 0) other at log (entry file page bytes))
+    rw (put_at dirty d other at (is_page other at d) refl, content-write log d other at)
     (bytes_at dirty d other at log (is_page other at d) (k other at))

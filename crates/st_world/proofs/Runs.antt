@@ -11,7 +11,8 @@ use Rattle.st_codec.specs.declared.output.Output.{Output}
 use Rattle.st_codec.specs.declared.output.Output.TheVariants.{Send, Answer, Note}
 use Rattle.st_codec.specs.declared.event.Event.{Event}
 use Rattle.st_codec.specs.declared.event.Event.TheVariants.{App, Deliver}
-use Rattle.st_model.specs.declared.log.WriteEntry.{WriteEntry}
+use Rattle.st_rules.specs.declared.log.LogEntry.{LogEntry}
+use Rattle.st_rules.specs.FlatLog.{accept, content, content_from}
 use Rattle.st_world.specs.declared.rows.ClientInput.TheVariants as inputs
 use Rattle.st_world.specs.declared.rows.Observation.{Observation}
 use Rattle.st_world.specs.declared.fault.WorldRefusal.TheVariants as refusals
@@ -22,26 +23,26 @@ use Rattle.st_world.specs.Run.{added, IsLast, ReadsLast, asks_of, in_order, run,
 use Rattle.st_world.proofs.Turns.{logged, log_with, IsLastAnswer, AnswersLast, IsSound, IsSoundTurn, client_step_ok}
 
 -- the log after these observations
-abbrev pub log_after : List WriteEntry → List Observation → List WriteEntry
+abbrev pub log_after : List LogEntry → List Observation → List LogEntry
 log_after log [] = log
 log_after log (o ∷ os) = log_after (log ++ added o) os
 
-log_after-append : (log : List WriteEntry) (xs ys : List Observation) → log_after log (xs ++ ys) ≡ log_after (log_after log xs) ys
+log_after-append : (log : List LogEntry) (xs ys : List Observation) → log_after log (xs ++ ys) ≡ log_after (log_after log xs) ys
 log_after-append log [] ys = refl
 log_after-append log (x ∷ xs) ys = log_after-append (log ++ added x) xs ys
 
-ReadsLast-append : (all : List Ask) (log : List WriteEntry) (xs ys : List Observation) →
+ReadsLast-append : (all : List Ask) (log : List LogEntry) (xs ys : List Observation) →
     ReadsLast all log xs → ReadsLast all (log_after log xs) ys → ReadsLast all log (xs ++ ys)
 ReadsLast-append all log [] ys k h = h
 ReadsLast-append all log (x ∷ xs) ys k h = (k.0, ReadsLast-append all (log ++ added x) xs ys k.1 h)
 
 -- a scene whose observations, since this log, are those of its world
-pub record IsSoundScene (all : List Ask) (log : List WriteEntry) (s : Scene) : Type 0 where
+pub record IsSoundScene (all : List Ask) (log : List LogEntry) (s : Scene) : Type 0 where
   pub log_is : s.world.log ≡ log_after log s.seen
   pub reads : ReadsLast all log s.seen
 
 -- one more observation
-seen_more : (all : List Ask) (log : List WriteEntry) (s : Scene) (o : Observation) → IsSoundScene all log s → IsLast all s.world.log o →
+seen_more : (all : List Ask) (log : List LogEntry) (s : Scene) (o : Observation) → IsSoundScene all log s → IsLast all s.world.log o →
     (w : World) → w.log ≡ s.world.log ++ added o → IsSoundScene all log (scene w (s.seen ++ o ∷ []))
 seen_more all log s o k h w e = record {
   log_is = e ∙ ap (λ l. l ++ added o) k.log_is ∙ sym (log_after-append log s.seen (o ∷ []));
@@ -51,13 +52,14 @@ seen_more all log s o k h w e = record {
 unchanged : (w : World) → w.log ≡ w.log ++ []
 unchanged w = grind (arith, common_steps)
 
-answer_ok : (all : List Ask) (log : List WriteEntry) (s : Scene) (op : ℕ) (a : AppAnswer) → IsSoundScene all log s →
+answer_ok : (all : List Ask) (log : List LogEntry) (s : Scene) (op : ℕ) (a : AppAnswer) → IsSoundScene all log s →
     IsLastAnswer all s.world.log (Answer op a) → IsSoundScene all log (emit s (Answer op a))
 answer_ok all log s op (answers.Read bytes) k h = seen_more all log s _ k h _ (unchanged s.world)
 answer_ok all log s op a k h = seen_more all log s _ k tt _ (unchanged s.world)
 
-emit_ok : (all : List Ask) (log : List WriteEntry) (s : Scene) (o : Output) → IsSoundScene all log s → IsLastAnswer all s.world.log o →
+emit_ok : (all : List Ask) (log : List LogEntry) (s : Scene) (o : Output) → IsSoundScene all log s → IsLastAnswer all s.world.log o →
     IsSoundScene all log (emit s o)
+unfolding accept
 emit_ok all log s (Send m) k h = seen_more all log s _ k tt _ (unchanged s.world)
 emit_ok all log s (Answer op a) k h = answer_ok all log s op a k h
 emit_ok all log s (Note (Leased server end)) k h = seen_more all log s _ k tt _ (unchanged s.world)
@@ -65,12 +67,13 @@ emit_ok all log s (Note (Accepted file page bytes)) k h = seen_more all log s _ 
 emit_ok all log s o k h = k
 
 -- what an output changes of the world
-pub record IsEmitted (s t : Scene) (log : List WriteEntry) : Type 0 where
+pub record IsEmitted (s t : Scene) (log : List LogEntry) : Type 0 where
   pub client : t.world.client ≡ s.world.client
   pub asked : t.world.asked ≡ s.world.asked
   pub log_is : t.world.log ≡ log
 
 emit_keeps : (s : Scene) (o : Output) → IsEmitted s (emit s o) (s.world.log ++ logged o)
+unfolding accept
 emit_keeps s (Send m) = record { client = refl; asked = refl; log_is = unchanged s.world }
 emit_keeps s (Answer op a) = record { client = refl; asked = refl; log_is = unchanged s.world }
 emit_keeps s (Note (Leased server end)) = record { client = refl; asked = refl; log_is = unchanged s.world }
@@ -88,7 +91,7 @@ emit_all_keeps s (o ∷ os) =
       log_is = rest.log_is ∙ ap (λ l. log_with l os) one.log_is;
     }
 
-emit_all_ok : (all : List Ask) (log : List WriteEntry) (s : Scene) (os : List Output) → IsSoundScene all log s → AnswersLast all s.world.log os →
+emit_all_ok : (all : List Ask) (log : List LogEntry) (s : Scene) (os : List Output) → IsSoundScene all log s → AnswersLast all s.world.log os →
     IsSoundScene all log (emit_all s os)
 emit_all_ok all log s [] k h = k
 emit_all_ok all log s (o ∷ os) k h =
@@ -96,7 +99,7 @@ emit_all_ok all log s (o ∷ os) k h =
     (subst (λ l. AnswersLast all l os) (sym (emit_keeps s o).log_is) h.1)
 
 -- what an event gives from a world with a sound client, when so many asks were made
-pub record GoesOn (all : List Ask) (old : List WriteEntry) (asked : ℕ) (s : Scene) : Type 0 where
+pub record GoesOn (all : List Ask) (old : List LogEntry) (asked : ℕ) (s : Scene) : Type 0 where
   pub client : IsSound all s.world.log s.world.client
   pub asked_is : s.world.asked ≡ asked
   pub seen : IsSoundScene all old s
@@ -160,4 +163,5 @@ run_ok all done (Deliver k ∷ events) w e n sound =
 run_ok all done (other ∷ events) w e n k = tt
 
 pub all_runs : ReadsReturnLastWrites
+unfolding content content_from
 all_runs events = run_ok (asks_of events) [] events fresh_world refl refl (record { waiting = tt; dirty = λ file page. refl })

@@ -19,8 +19,8 @@ use Rattle.st_codec.specs.declared.answer.AppAnswer.TheVariants as answers
 use Rattle.st_codec.specs.declared.output.Note.TheVariants.{Accepted}
 use Rattle.st_codec.specs.declared.output.Output.{Output}
 use Rattle.st_codec.specs.declared.output.Output.TheVariants.{Send, Answer, Note}
-use Rattle.st_model.specs.declared.log.WriteEntry.{WriteEntry}
-use Rattle.st_model.specs.Log.{content}
+use Rattle.st_rules.specs.declared.log.LogEntry.{LogEntry}
+use Rattle.st_rules.specs.FlatLog.{content}
 use Rattle.st_world.specs.declared.rows.DirtyPage.{DirtyPage}
 use Rattle.st_world.specs.declared.rows.KnownPage.{KnownPage}
 use Rattle.st_world.specs.declared.rows.Pending.{Pending}
@@ -33,27 +33,27 @@ use Rattle.st_world.specs.Run.{IsLastRead}
 use Rattle.st_world.proofs.Pages.{cond_keeps, bytes_of, DirtyIsLast, put-DirtyIsLast}
 
 -- what an output adds to the log
-abbrev pub logged : Output → List WriteEntry
+abbrev pub logged : Output → List LogEntry
 logged (Note (Accepted file page bytes)) = entry file page bytes ∷ []
 logged o = []
 
-abbrev pub log_with : List WriteEntry → List Output → List WriteEntry
+abbrev pub log_with : List LogEntry → List Output → List LogEntry
 log_with log [] = log
 log_with log (o ∷ os) = log_with (log ++ logged o) os
 
-abbrev pub IsLastAnswer : List Ask → List WriteEntry → Output → Type 0
+abbrev pub IsLastAnswer : List Ask → List LogEntry → Output → Type 0
 IsLastAnswer asks log (Answer op (answers.Read bytes)) = IsLastRead asks log op bytes
 IsLastAnswer asks log o = Unit {0}
 
-abbrev pub AnswersLast : List Ask → List WriteEntry → List Output → Type 0
+abbrev pub AnswersLast : List Ask → List LogEntry → List Output → Type 0
 AnswersLast asks log [] = Unit {0}
 AnswersLast asks log (o ∷ os) = IsLastAnswer asks log o × AnswersLast asks (log ++ logged o) os
 
-log_with-push : (log : List WriteEntry) (os : List Output) (o : Output) → log_with log (os ++ o ∷ []) ≡ log_with log os ++ logged o
+log_with-push : (log : List LogEntry) (os : List Output) (o : Output) → log_with log (os ++ o ∷ []) ≡ log_with log os ++ logged o
 log_with-push log [] o = refl
 log_with-push log (p ∷ os) o = log_with-push (log ++ logged p) os o
 
-AnswersLast-push : (asks : List Ask) (log : List WriteEntry) (os : List Output) (o : Output) →
+AnswersLast-push : (asks : List Ask) (log : List LogEntry) (os : List Output) (o : Output) →
     AnswersLast asks log os → IsLastAnswer asks (log_with log os) o → AnswersLast asks log (os ++ o ∷ [])
 AnswersLast-push asks log [] o k h = (h, tt)
 AnswersLast-push asks log (p ∷ os) o k h = (k.0, AnswersLast-push asks (log ++ logged p) os o k.1 h)
@@ -67,20 +67,20 @@ all-push P [] x k p = (p, tt)
 all-push P (y ∷ ys) x k p = (k.0, all-push P ys x k.1 p)
 
 -- a client's state, next to what was asked and the log
-pub record IsSound (asks : List Ask) (log : List WriteEntry) (s : ClientState) : Type 0 where
+pub record IsSound (asks : List Ask) (log : List LogEntry) (s : ClientState) : Type 0 where
   pub waiting : AllByRecursion (IsAsked asks) s.pending
   pub dirty : DirtyIsLast log s.dirty
 
 -- the same within a step that began at this log
-pub record IsSoundTurn (asks : List Ask) (log : List WriteEntry) (t : Turn) : Type 0 where
+pub record IsSoundTurn (asks : List Ask) (log : List LogEntry) (t : Turn) : Type 0 where
   pub state : IsSound asks (log_with log t.out) t.state
   pub answers : AnswersLast asks log t.out
 
-begun : (asks : List Ask) (log : List WriteEntry) (s : ClientState) → IsSound asks log s → IsSoundTurn asks log (turn s [])
+begun : (asks : List Ask) (log : List LogEntry) (s : ClientState) → IsSound asks log s → IsSoundTurn asks log (turn s [])
 begun asks log s k = record { state = k; answers = tt }
 
 -- a rule that leaves the dirty pages and the operations alone
-same_pages : (asks : List Ask) (log : List WriteEntry) (t : Turn) (s : ClientState) → IsSoundTurn asks log t →
+same_pages : (asks : List Ask) (log : List LogEntry) (t : Turn) (s : ClientState) → IsSoundTurn asks log t →
     s.pending ≡ t.state.pending → s.dirty ≡ t.state.dirty → IsSoundTurn asks log (become t s)
 same_pages asks log t s k p d = record {
   state = record {
@@ -91,44 +91,44 @@ same_pages asks log t s k p d = record {
 }
 
 -- an output, where the state is sound for the log that it leaves
-said : (asks : List Ask) (log : List WriteEntry) (t : Turn) (o : Output) → AnswersLast asks log t.out →
+said : (asks : List Ask) (log : List LogEntry) (t : Turn) (o : Output) → AnswersLast asks log t.out →
     IsLastAnswer asks (log_with log t.out) o → IsSound asks (log_with log t.out ++ logged o) t.state →
     IsSoundTurn asks log (say t o)
 said asks log t o k h sound =
     record { state = rw (log_with-push log t.out o) sound; answers = AnswersLast-push asks log t.out o k h }
 
-nothing_added : (asks : List Ask) (log : List WriteEntry) (s : ClientState) → IsSound asks log s → IsSound asks (log ++ []) s
+nothing_added : (asks : List Ask) (log : List LogEntry) (s : ClientState) → IsSound asks log s → IsSound asks (log ++ []) s
 nothing_added asks log s k = subst (λ l. IsSound asks l s) (grind (arith, common_steps)) k
 
 -- an output that adds nothing to the log
-quiet : (asks : List Ask) (log : List WriteEntry) (t : Turn) (o : Output) → IsSoundTurn asks log t →
+quiet : (asks : List Ask) (log : List LogEntry) (t : Turn) (o : Output) → IsSoundTurn asks log t →
     IsLastAnswer asks (log_with log t.out) o → logged o ≡ [] → IsSoundTurn asks log (say t o)
 quiet asks log t o k h none =
     said asks log t o k.answers h (rw none (nothing_added asks (log_with log t.out) t.state k.state))
 
 -- The rules, in their order. Each keeps it.
 
-waits_ok : (asks : List Ask) (log : List WriteEntry) (t : Turn) (p : Pending) → IsSoundTurn asks log t → IsAsked asks p → IsSoundTurn asks log (waits t p)
+waits_ok : (asks : List Ask) (log : List LogEntry) (t : Turn) (p : Pending) → IsSoundTurn asks log t → IsAsked asks p → IsSoundTurn asks log (waits t p)
 waits_ok asks log t p k a = record {
   state = record { waiting = all-push (IsAsked asks) t.state.pending p k.state.waiting a; dirty = k.state.dirty };
   answers = k.answers;
 }
 
-app_ok : (asks : List Ask) (log : List WriteEntry) (t : Turn) (op : ℕ) (ask : Ask) → IsSoundTurn asks log t → slice_get asks (op - 1) ≡ Some ask →
+app_ok : (asks : List Ask) (log : List LogEntry) (t : Turn) (op : ℕ) (ask : Ask) → IsSoundTurn asks log t → slice_get asks (op - 1) ≡ Some ask →
     IsSoundTurn asks log (app t op ask)
 app_ok asks log t op ask k a =
     cond_keeps (IsSoundTurn asks log) (nat_lt (length t.state.pending) 16) _ _
     (waits_ok asks log t (record { op = op; ask = ask }) k a)
     (quiet asks log t (Answer op answers.OpsFull) k tt refl)
 
-begin_lease_ok : (asks : List Ask) (log : List WriteEntry) (t : Turn) (h : Header) → IsSoundTurn asks log t → IsSoundTurn asks log (begin_lease t h)
+begin_lease_ok : (asks : List Ask) (log : List LogEntry) (t : Turn) (h : Header) → IsSoundTurn asks log t → IsSoundTurn asks log (begin_lease t h)
 begin_lease_ok asks log t h k =
     quiet asks log _ (lease_note h.stamp) (same_pages asks log t (leased t.state h.epoch h.stamp) k refl refl) tt refl
 
-welcome_ok : (asks : List Ask) (log : List WriteEntry) (t : Turn) (h : Header) → IsSoundTurn asks log t → IsSoundTurn asks log (welcome t h)
+welcome_ok : (asks : List Ask) (log : List LogEntry) (t : Turn) (h : Header) → IsSoundTurn asks log t → IsSoundTurn asks log (welcome t h)
 welcome_ok asks log t h k = cond_keeps (IsSoundTurn asks log) (may_begin t.state h) _ _ (begin_lease_ok asks log t h k) k
 
-renew_ok : (asks : List Ask) (log : List WriteEntry) (t : Turn) (stamp : ℕ) → IsSoundTurn asks log t → IsSoundTurn asks log (renew t stamp)
+renew_ok : (asks : List Ask) (log : List LogEntry) (t : Turn) (stamp : ℕ) → IsSoundTurn asks log t → IsSoundTurn asks log (renew t stamp)
 renew_ok asks log t stamp k =
     cond_keeps (IsSoundTurn asks log) (nat_lt t.state.date stamp) _ _
     (quiet asks log _ (lease_note stamp) (same_pages asks log t (record t.state { date = stamp }) k refl refl) tt refl)
@@ -154,7 +154,7 @@ take_reply_keeps s request (bodies.Granted ino g mode) = record { pending = refl
 take_reply_keeps s request (bodies.Extents ino rows) = learn_keeps s request rows
 take_reply_keeps s request body = record { pending = refl; dirty = refl }
 
-reply_to_request_ok : (asks : List Ask) (log : List WriteEntry) (t : Turn) (h : Header) (body : Body) (r : Option Request) → IsSoundTurn asks log t →
+reply_to_request_ok : (asks : List Ask) (log : List LogEntry) (t : Turn) (h : Header) (body : Body) (r : Option Request) → IsSoundTurn asks log t →
     IsSoundTurn asks log (reply_to_request t h body r)
 reply_to_request_ok asks log t h body None k = k
 reply_to_request_ok asks log t h body (Some r) k =
@@ -164,16 +164,16 @@ reply_to_request_ok asks log t h body (Some r) k =
     (renew_ok asks log (end_request t) h.stamp (same_pages asks log t (record t.state { outstanding = None }) k refl refl))
     kept.pending kept.dirty
 
-reply_ok : (asks : List Ask) (log : List WriteEntry) (t : Turn) (h : Header) (body : Body) → IsSoundTurn asks log t → IsSoundTurn asks log (reply t h body)
+reply_ok : (asks : List Ask) (log : List LogEntry) (t : Turn) (h : Header) (body : Body) → IsSoundTurn asks log t → IsSoundTurn asks log (reply t h body)
 reply_ok asks log t h body k =
     cond_keeps (IsSoundTurn asks log) (counts t.state.outstanding h body) _ _ (reply_to_request_ok asks log t h body t.state.outstanding k) k
 
-control_in_ok : (asks : List Ask) (log : List WriteEntry) (t : Turn) (h : Header) (body : Body) → IsSoundTurn asks log t →
+control_in_ok : (asks : List Ask) (log : List LogEntry) (t : Turn) (h : Header) (body : Body) → IsSoundTurn asks log t →
     IsSoundTurn asks log (control_in t h body)
 control_in_ok asks log t h Welcome k = welcome_ok asks log t h k
 control_in_ok asks log t h body k = cond_keeps (IsSoundTurn asks log) (is_of_session t.state h) _ _ (reply_ok asks log t h body k) k
 
-accepts_ok : (asks : List Ask) (log : List WriteEntry) (t : Turn) (op : ℕ) (file : FileId) (page : PageNo) (bytes : List ℕ) → IsSoundTurn asks log t →
+accepts_ok : (asks : List Ask) (log : List LogEntry) (t : Turn) (op : ℕ) (file : FileId) (page : PageNo) (bytes : List ℕ) → IsSoundTurn asks log t →
     IsSoundTurn asks log (accepts t op file page bytes)
 accepts_ok asks log t op file page bytes k =
     let d : DirtyPage = record { file = file; page = page; bytes = bytes } in
@@ -182,7 +182,7 @@ accepts_ok asks log t op file page bytes k =
     (record { waiting = k.state.waiting; dirty = put-DirtyIsLast (log_with log t.out) t.state.dirty file page bytes k.state.dirty }))
     tt refl
 
-serve_read_ok : (asks : List Ask) (log : List WriteEntry) (t : Turn) (p : Pending) (file : FileId) (page : PageNo) (found : Option (List ℕ)) →
+serve_read_ok : (asks : List Ask) (log : List LogEntry) (t : Turn) (p : Pending) (file : FileId) (page : PageNo) (found : Option (List ℕ)) →
     IsSoundTurn asks log t → IsAsked asks p → p.ask ≡ asked.Read file page →
     IfSome found (λ bytes. bytes ≡ content (log_with log t.out) file page) →
     IsSoundTurn asks log (serve_read t p found)
@@ -200,14 +200,14 @@ cached_last : (s : ClientState) (file : FileId) (page : PageNo) (found : Option 
 cached_last s file page None last e = unmapped_last (known_of s.known file.ino page.0) last e
 cached_last s file page (Some d) last e = e
 
-readable_last : (asks : List Ask) (log : List WriteEntry) (s : ClientState) (file : FileId) (page : PageNo) → IsSound asks log s →
+readable_last : (asks : List Ask) (log : List LogEntry) (s : ClientState) (file : FileId) (page : PageNo) → IsSound asks log s →
     IfSome (readable s file page) (λ bytes. bytes ≡ content log file page)
 readable_last asks log s file page k =
     cond_keeps (λ o. IfSome o (λ bytes. bytes ≡ content log file page)) (has_mode (lock_of s.locks file.ino) S)
     (cached_bytes s file page (dirty_of s.dirty file page)) None
     (cached_last s file page (dirty_of s.dirty file page) (content log file page) (k.dirty file page)) tt
 
-serve_ok : (asks : List Ask) (log : List WriteEntry) (t : Turn) (p : Pending) (ask : Ask) → p.ask ≡ ask → IsSoundTurn asks log t → IsAsked asks p →
+serve_ok : (asks : List Ask) (log : List LogEntry) (t : Turn) (p : Pending) (ask : Ask) → p.ask ≡ ask → IsSoundTurn asks log t → IsAsked asks p →
     IsSoundTurn asks log (serve t p ask)
 serve_ok asks log t p (asked.Write file page bytes) e k a =
     cond_keeps (IsSoundTurn asks log) (may_write t.state file page) _ _ (accepts_ok asks log t p.op file page bytes k) (waits_ok asks log t p k a)
@@ -215,27 +215,27 @@ serve_ok asks log t p (asked.Read file page) e k a =
     serve_read_ok asks log t p file page (readable t.state file page) k a e (readable_last asks (log_with log t.out) t.state file page k.state)
 serve_ok asks log t p ask e k a = waits_ok asks log t p k a
 
-serve_all_ok : (asks : List Ask) (log : List WriteEntry) (t : Turn) (ps : List Pending) → IsSoundTurn asks log t → AllByRecursion (IsAsked asks) ps →
+serve_all_ok : (asks : List Ask) (log : List LogEntry) (t : Turn) (ps : List Pending) → IsSoundTurn asks log t → AllByRecursion (IsAsked asks) ps →
     IsSoundTurn asks log (serve_all t ps)
 serve_all_ok asks log t [] k a = k
 serve_all_ok asks log t (p ∷ ps) k a = serve_all_ok asks log (serve t p p.ask) ps (serve_ok asks log t p p.ask refl k a.0) a.1
 
-operations_ok : (asks : List Ask) (log : List WriteEntry) (t : Turn) → IsSoundTurn asks log t → IsSoundTurn asks log (operations t)
+operations_ok : (asks : List Ask) (log : List LogEntry) (t : Turn) → IsSoundTurn asks log t → IsSoundTurn asks log (operations t)
 operations_ok asks log t k =
     serve_all_ok asks log _ t.state.pending (record { state = record { waiting = tt; dirty = k.state.dirty }; answers = k.answers }) k.state.waiting
 
-greet_ok : (asks : List Ask) (log : List WriteEntry) (t : Turn) → IsSoundTurn asks log t → IsSoundTurn asks log (greet t)
+greet_ok : (asks : List Ask) (log : List LogEntry) (t : Turn) → IsSoundTurn asks log t → IsSoundTurn asks log (greet t)
 greet_ok asks log t k =
     cond_keeps (IsSoundTurn asks log) (must_greet t.state) _ _
     (quiet asks log _ (Send (message_of t.state 0 Hello)) (same_pages asks log t (record t.state { greeting = true }) k refl refl) tt refl)
     k
 
-ask_with_ok : (asks : List Ask) (log : List WriteEntry) (t : Turn) (body : Option Body) → IsSoundTurn asks log t → IsSoundTurn asks log (ask_with t body)
+ask_with_ok : (asks : List Ask) (log : List LogEntry) (t : Turn) (body : Option Body) → IsSoundTurn asks log t → IsSoundTurn asks log (ask_with t body)
 ask_with_ok asks log t None k = k
 ask_with_ok asks log t (Some body) k =
     quiet asks log _ (Send (message_of t.state t.state.next body)) (same_pages asks log t (requested t.state body) k refl refl) tt refl
 
-ask_ok : (asks : List Ask) (log : List WriteEntry) (t : Turn) → IsSoundTurn asks log t → IsSoundTurn asks log (ask t)
+ask_ok : (asks : List Ask) (log : List LogEntry) (t : Turn) → IsSoundTurn asks log t → IsSoundTurn asks log (ask t)
 ask_ok asks log t k =
     cond_keeps (IsSoundTurn asks log) (may_ask t.state) _ _ (ask_with_ok asks log t (first_want t.state t.state.pending) k) k
 
@@ -244,13 +244,13 @@ abbrev pub CameFrom : List Ask → ClientInput → Type 0
 CameFrom asks (App op ask) = slice_get asks (op - 1) ≡ Some ask
 CameFrom asks (Control m) = Unit {0}
 
-take_ok : (asks : List Ask) (log : List WriteEntry) (t : Turn) (input : ClientInput) → IsSoundTurn asks log t → CameFrom asks input →
+take_ok : (asks : List Ask) (log : List LogEntry) (t : Turn) (input : ClientInput) → IsSoundTurn asks log t → CameFrom asks input →
     IsSoundTurn asks log (take t input)
 take_ok asks log t (App op ask) k a = app_ok asks log t op ask k a
 take_ok asks log t (Control m) k a =
     cond_keeps (IsSoundTurn asks log) (is_for t.state m.header) _ _ (control_in_ok asks log t m.header m.body k) k
 
-pub client_step_ok : (asks : List Ask) (log : List WriteEntry) (s : ClientState) (input : ClientInput) → IsSound asks log s → CameFrom asks input →
+pub client_step_ok : (asks : List Ask) (log : List LogEntry) (s : ClientState) (input : ClientInput) → IsSound asks log s → CameFrom asks input →
     IsSoundTurn asks log (client_step s input)
 unfolding client_step
 client_step_ok asks log s input k a =

@@ -19,7 +19,7 @@ use Rattle.st_codec.specs.declared.answer.AppAnswer.TheVariants as answers
 use Rattle.st_codec.specs.declared.output.Note.TheVariants.{Leased, Accepted}
 use Rattle.st_codec.specs.declared.output.Output.{Output}
 use Rattle.st_codec.specs.declared.output.Output.TheVariants.{Send, Answer, Note}
-use Rattle.st_model.specs.Log.{same_file}
+use Rattle.st_rules.specs.Keys.{same_file}
 use Rattle.st_world.specs.declared.rows.HeldLock.{HeldLock}
 use Rattle.st_world.specs.declared.rows.KnownPage.{KnownPage}
 use Rattle.st_world.specs.declared.rows.DirtyPage.{DirtyPage}

@@ -7,8 +7,8 @@ use Rattle.st_codec.specs.declared.ask.Ask.TheVariants as asked
 use Rattle.st_codec.specs.declared.answer.AppAnswer.TheVariants as answers
 use Rattle.st_codec.specs.declared.event.Event.{Event}
 use Rattle.st_codec.specs.declared.event.Event.TheVariants.{App}
-use Rattle.st_model.specs.declared.log.WriteEntry.{WriteEntry}
-use Rattle.st_model.specs.Log.{content}
+use Rattle.st_rules.specs.declared.log.LogEntry.{LogEntry}
+use Rattle.st_rules.specs.FlatLog.{content}
 use Rattle.st_world.specs.declared.rows.Observation.{Observation}
 use Rattle.st_world.specs.declared.rows.Observation.TheVariants.{Answered, Wrote}
 use Rattle.st_world.specs.declared.fault.WorldRefusal.{WorldRefusal}
@@ -44,23 +44,23 @@ asks_of (App client ask ∷ es) = ask ∷ asks_of es
 asks_of (e ∷ es) = asks_of es
 
 -- the answer to this ask is what was last written to the page that it asks for
-pub record IsLastRead (asks : List Ask) (log : List WriteEntry) (op : ℕ) (bytes : List ℕ) : Type 0 where
+pub record IsLastRead (asks : List Ask) (log : List LogEntry) (op : ℕ) (bytes : List ℕ) : Type 0 where
   pub file : FileId
   pub page : PageNo
   pub ask : slice_get asks (op - 1) ≡ Some (asked.Read file page)
   pub last : bytes ≡ content log file page
 
 -- what an observation adds to the log
-abbrev pub added : Observation → List WriteEntry
+abbrev pub added : Observation → List LogEntry
 added (Wrote index client file page bytes) = entry file page bytes ∷ []
 added o = []
 
-abbrev pub IsLast : List Ask → List WriteEntry → Observation → Type 0
+abbrev pub IsLast : List Ask → List LogEntry → Observation → Type 0
 IsLast asks log (Answered client op (answers.Read bytes)) = IsLastRead asks log op bytes
 IsLast asks log o = Unit {0}
 
 -- each of these observations that answers a read has the bytes that were last written before it
-abbrev pub ReadsLast : List Ask → List WriteEntry → List Observation → Type 0
+abbrev pub ReadsLast : List Ask → List LogEntry → List Observation → Type 0
 ReadsLast asks log [] = Unit {0}
 ReadsLast asks log (o ∷ os) = IsLast asks log o × ReadsLast asks (log ++ added o) os
 

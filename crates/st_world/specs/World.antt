@@ -3,6 +3,7 @@ use Rattle.std.specs.Prelude.{ℕ, zero, suc, ◌+◌, ◌≤◌, Bool, false, �
 use Rattle.st_base.specs.declared.ids.ClientId.{ClientId}
 use Rattle.st_base.specs.declared.ids.FileId.{FileId}
 use Rattle.st_base.specs.declared.ids.PageNo.{PageNo}
+use Rattle.st_base.specs.declared.ids.Life.{Life}
 use Rattle.st_codec.specs.declared.message.Message.{Message}
 use Rattle.st_codec.specs.declared.ask.Ask.{Ask}
 use Rattle.st_codec.specs.declared.ask.Ask.TheVariants.{Write, Read}
@@ -13,7 +14,9 @@ use Rattle.st_codec.specs.declared.output.Output.{Output}
 use Rattle.st_codec.specs.declared.output.Output.TheVariants.{Send, Answer, Note}
 use Rattle.st_codec.specs.declared.event.Event.{Event}
 use Rattle.st_codec.specs.declared.event.Event.TheVariants as events
-use Rattle.st_model.specs.declared.log.WriteEntry.{WriteEntry}
+use Rattle.st_rules.specs.declared.log.LogEntry.{LogEntry}
+use Rattle.st_rules.specs.declared.log.Change.TheVariants as entries
+use Rattle.st_rules.specs.FlatLog.{accept, owner, pending}
 use Rattle.st_world.specs.declared.rows.ClientInput.{ClientInput}
 use Rattle.st_world.specs.declared.rows.ClientInput.TheVariants as inputs
 use Rattle.st_world.specs.declared.rows.Observation.{Observation}
@@ -27,7 +30,7 @@ pub record World : Type 0 where
   pub client : ClientState
   pub server : ServerState
   pub sent : List Message
-  pub log : List WriteEntry
+  pub log : List LogEntry
   pub asked : ℕ
   pub reads : ℕ
   pub events : ℕ
@@ -87,12 +90,16 @@ sends s m = see s (record s.world { sent = s.world.sent ++ m ∷ [] }) (seen.Sen
 abbrev pub answers_with : Scene → ℕ → AppAnswer → Scene
 answers_with s op answer = see s (record s.world { reads = s.world.reads + is_read answer }) (seen.Answered THE_CLIENT op answer)
 
-abbrev pub entry : FileId → PageNo → List ℕ → WriteEntry
-entry file page bytes = record { client = THE_CLIENT; life = record { 0 = 1 }; file = file; page = page; bytes = bytes }
+abbrev pub THE_LIFE : Life
+THE_LIFE = record { 0 = 1 }
+
+-- the entry of an accepted write
+abbrev pub entry : FileId → PageNo → List ℕ → LogEntry
+entry file page bytes = pending (owner THE_CLIENT THE_LIFE file page) (entries.Write bytes)
 
 abbrev pub writes : Scene → FileId → PageNo → List ℕ → Scene
 writes s file page bytes =
-    see s (record s.world { log = s.world.log ++ entry file page bytes ∷ [] }) (seen.Wrote (length s.world.log + 1) THE_CLIENT file page bytes)
+    see s (record s.world { log = accept s.world.log THE_CLIENT THE_LIFE file page bytes }) (seen.Wrote (length s.world.log + 1) THE_CLIENT file page bytes)
 
 abbrev pub emit : Scene → Output → Scene
 emit s (Send m) = sends s m

@@ -1,0 +1,2 @@
+mod Fates
+pub mod Lasts
