@@ -1,13 +1,36 @@
 -- A schedule's first bytes say all of its report: no line of more than 256 bytes is read, and no event past the last.
-use Rattle.std.proofs.Common.{◌≡◌, ℕ, zero, suc, ◌+◌, ◌-◌, ◌*◌, ◌<◌, ◌≤◌, inl, inr, Bool, true, false, ◌&&◌, not, cond, List, [], ◌∷◌, length, take, Option, Some, None, refl, sym, ◌∙◌, ap, arith}
-use Rattle.std.specs.Prelude.{◌==◌, nat_lt, if◌then◌else◌, codes}
-use Rattle.std.proofs.lemmas.Bool.{cases_lt, lt-ltb, le-ltb, and_right, and_parts}
+use Rattle.std.proofs.Common.{◌≡◌, ℕ, zero, suc, ◌+◌, ◌-◌, ◌*◌, ◌^◌, ◌<◌, ◌≤◌, inl, inr, Bool, true, false, cond, List, [], ◌∷◌, ◌++◌, length, map, take, refl, sym, ◌∙◌, ap, subst, arith}
+use Rattle.std.specs.Prelude.{◌==◌, nat_lt, if◌then◌else◌, Option, Some, None, Result, Ok, Err, codes}
+use Rattle.std.specs.Fmt.{decimal}
+use Rattle.std.specs.Str.{bytes_eq}
+use Rattle.std.proofs.lemmas.Bool.{cases_lt, lt-ltb, le-ltb}
+use Rattle.std.proofs.lemmas.Bool.Decides.{nat_tests}
+use Rattle.std.proofs.lemmas.Fmt.{length-decimal-le}
 use Rattle.std.proofs.lemmas.List.{length-take-le}
+use Rattle.st_base.specs.Config.{check}
+use Rattle.st_base.specs.declared.config.Config.{Config}
+use Rattle.st_base.specs.declared.config.ConfigRefusal.{ConfigRefusal}
+use Rattle.st_codec.specs.declared.event.Counts.{Counts}
 use Rattle.st_codec.specs.declared.event.Event.{Event}
+use Rattle.st_schedule.specs.declared.fault.Fault.{Fault}
+use Rattle.st_schedule.specs.declared.fault.ScheduleRefusal.TheVariants.{LineTooLong}
+use Rattle.st_schedule.specs.declared.reader.Line.{Line}
+use Rattle.st_schedule.specs.declared.reader.Line.TheVariants as said
+use Rattle.st_schedule.specs.declared.reader.Progress.{Progress}
+use Rattle.st_schedule.specs.declared.reader.Progress.TheVariants as progress
+use Rattle.st_schedule.specs.Words.{split, room, is_long}
+use Rattle.st_schedule.specs.Grammar.{MOST_SETTING, grains, counts_of, head_numbers, head_words, AreCounts, IsForm, FitsHead}
+use Rattle.st_schedule.specs.Reading.{line_event, head_at}
+use Rattle.st_schedule.specs.Reader as head
+use Rattle.st_schedule.specs.Reader.{Told, started, checked, head_of_words, first_line, counted, with_line, nodes_of, later_line, short_line, read_line, MOST_EVENTS, SpellsLine}
+use Rattle.st_schedule.proofs.Words.{room-split}
+use Rattle.st_schedule.proofs.Inverse.{chosen}
+use Rattle.st_schedule.proofs.Found.{end_is_spelled}
+use Rattle.st_schedule.proofs.Whole.{line_is_spelled}
 use Rattle.st_world.specs.World.{fresh_world}
-use Rattle.st_tank.specs.Schedule.{onto, lines_of, is_long, is_tank, is_text, event_line, built_line, HEAD, Past_end, Unread, Too_many, Schedule, stop, begin, after_end, with_next, with_event, schedule_of}
-use Rattle.st_tank.specs.Replay.{behind_text, refused, report_from, report_events, from_tank, lacks_head, from_head, report_of}
-use Rattle.st_tank.proofs.Lines.{cond_true, cond_false}
+use Rattle.st_tank.specs.Schedule.{onto, lines_of, Stopped, Schedule, stop, before, with_told, schedule_of}
+use Rattle.st_tank.specs.Replay.{behind_text, refused, not_built, line_refusal, report_from, is_path_head, with_head, from_head, report_of}
+use Rattle.st_tank.proofs.Newlines.{cond_true, cond_false}
 
 -- The lines of the first bytes.
 
@@ -60,93 +83,174 @@ lines_of-take zero bs = sym (cut-zero (lines_of bs))
 lines_of-take (suc n) [] = refl
 lines_of-take (suc n) (b ∷ bs) = cut-step b n (lines_of (take n bs)) (lines_of bs) (b == 10) (lines_of-take n bs)
 
--- Texts and events of lines.
+-- What lines that are read may take.
 
-pub is_text-length : (p l : List ℕ) → is_text p l ≡ true → length p ≡ length l
-is_text-length [] [] e = refl
-is_text-length [] (b ∷ bs) e = absurd (cc)
-is_text-length (p ∷ ps) [] e = absurd (cc)
-is_text-length (p ∷ ps) (b ∷ bs) e = ap suc (is_text-length ps bs (and_parts (p == b) (is_text ps bs) e).1)
+-- so many bytes of what follows say how a reader that is so far goes on: the head and its newline, the events, the line
+-- `end`, and one line more
+abbrev pub needs : Progress → ℕ
+needs progress.Nothing = 25700515
+needs (progress.Reading form counts done) = 257 * (100000 - done) + 261
+needs progress.Ended = 257
 
-is_text_longer : (p l : List ℕ) → length p < length l → is_text p l ≡ false
-is_text_longer [] [] h = absurd (omega arith)
-is_text_longer [] (b ∷ bs) h = refl
-is_text_longer (p ∷ ps) [] h = refl
-is_text_longer (p ∷ ps) (b ∷ bs) h = and_right (p == b) (is_text ps bs) (is_text_longer ps bs (omega arith))
+needs_some : (p : Progress) → 257 ≤ needs p
+needs_some progress.Nothing = omega arith
+needs_some (progress.Reading form counts done) = omega arith
+needs_some progress.Ended = omega arith
 
-event_line_long : (l : List ℕ) → 256 < length l → event_line l ≡ None
-event_line_long l h = cond_true (is_long l) None (built_line l) (lt-ltb 256 (length l) h)
+-- a line that is read is short
+read_short : (p : Progress) (l : List ℕ) (y : Line × Progress) → read_line p l ≡ Ok y → (length l ≤ 256) × (short_line p l ≡ Ok y)
+read_short p l y h =
+    elim (chosen (is_long l) _ _ _ h) as (λ q. (length l ≤ 256) × (short_line p l ≡ Ok y)) [
+      | inl q ↦ absurd (let e = q.1 in cc)
+      | inr q ↦ (let e = q.0 in grind (arith, nat_tests), q.1)
+    ]
 
-long_unread : (done : ℕ) (l : List ℕ) (ls : List (List ℕ)) → 256 < length l → schedule_of done (l ∷ ls) ≡ stop Unread
-long_unread done l ls h =
-    cond_false (is_text (codes "end") l) (stop (after_end ls)) (with_event done (schedule_of (done + 1) ls) (event_line l)) (is_text_longer (codes "end") l (omega arith))
-    ∙ ap (with_event done (schedule_of (done + 1) ls)) (event_line_long l h)
+long_refused : (p : Progress) (l : List ℕ) → 256 < length l → read_line p l ≡ Err LineTooLong
+long_refused p l h = cond_true (is_long l) (Err LineTooLong) (short_line p l) (lt-ltb 256 (length l) h)
+
+event_takes : (form : ℕ) (counts : Counts) (done n : ℕ) (e : Event) (y : Line × Progress) → n ≤ 256 → counted form counts done e ≡ Ok y →
+    n + 1 + needs y.1 ≤ needs (progress.Reading form counts done)
+event_takes form counts done n e y short h =
+    elim (chosen (nat_lt done MOST_EVENTS) _ _ _ h) as (λ q. n + 1 + needs y.1 ≤ needs (progress.Reading form counts done)) [
+      | inl q ↦
+          let few : done < 100000 = (let t = q.0 in grind (arith, nat_tests)) in
+          let same : (said.Event e, progress.Reading form counts (done + 1)) ≡ y = (let k = q.1 in cc) in
+          subst (λ (y : Line × Progress). n + 1 + needs y.1 ≤ needs (progress.Reading form counts done)) same (omega arith)
+      | inr q ↦ absurd (let k = q.1 in cc)
+    ]
+
+end_length : (l : List ℕ) → split l ≡ codes "end" ∷ [] → length l ≡ 3
+end_length l h = let r : room (split l) ≡ 4 = ap room h in omega (arith, room-split l)
+
+line_takes : (form : ℕ) (counts : Counts) (done : ℕ) (l : List ℕ) (r : Result (Option Event) Fault) (y : Line × Progress) → length l ≤ 256 →
+    line_event form (nodes_of counts) (split l) ≡ r → with_line form counts done l r ≡ Ok y → length l + 1 + needs y.1 ≤ needs (progress.Reading form counts done)
+line_takes form counts done l (Err f) y short e h = absurd (cc)
+line_takes form counts done l (Ok None) y short e h =
+    let same : (said.End, progress.Ended) ≡ y = cc in
+    subst (λ (y : Line × Progress). length l + 1 + needs y.1 ≤ needs (progress.Reading form counts done)) same
+    (omega (arith, end_length l (end_is_spelled form (nodes_of counts) (split l) e)))
+line_takes form counts done l (Ok (Some v)) y short e h = event_takes form counts done (length l) v y short h
+
+later_takes : (form : ℕ) (counts : Counts) (done : ℕ) (l : List ℕ) (y : Line × Progress) → length l ≤ 256 → later_line form counts done l ≡ Ok y →
+    length l + 1 + needs y.1 ≤ needs (progress.Reading form counts done)
+unfolding later_line
+later_takes form counts done l y short h = line_takes form counts done l (line_event form (nodes_of counts) (split l)) y short refl h
+
+-- a head is short: its numbers have at most so many digits
+setting_length : (n : ℕ) → n ≤ MOST_SETTING → length (decimal n) ≤ 19
+setting_length n h = length-decimal-le 19 n (omega arith) (omega arith) (omega arith)
+
+few_digits : (k n : ℕ) → 0 < k → n < 10 ^ k → n ≤ 4096 → length (decimal n) ≤ k
+few_digits k n some h small = length-decimal-le k n some h (omega arith)
+
+settings_room : (c : Config) (n : Counts) (form : ℕ) → FitsHead c n form → room (map decimal (head_numbers c n form)) ≤ room (map decimal (grains form c.grain ++ counts_of n)) + 160
+settings_room c n form fits =
+    let a = setting_length c.lease fits.0.times.0 in
+    let b = setting_length c.renew fits.0.times.1 in
+    let d = setting_length c.quiesce fits.0.times.2 in
+    let e = setting_length c.flush fits.0.others.0 in
+    let f = setting_length c.demand fits.0.others.1 in
+    let g = setting_length c.retry fits.0.others.2 in
+    let h = setting_length c.num fits.0.rate.0 in
+    let i = setting_length c.den fits.0.rate.1 in
+    omega (arith, a, b, d, e, f, g, h, i)
+
+counts_room : (n : Counts) → AreCounts n → room (map decimal (counts_of n)) ≤ 12
+counts_room n fits =
+    let a = few_digits 2 n.clients (omega arith) (omega (arith, fits.0.1)) (omega (arith, fits.0.1)) in
+    let b = few_digits 1 n.servers (omega arith) (omega (arith, fits.1.1)) (omega (arith, fits.1.1)) in
+    let c = few_digits 1 n.disks (omega arith) (omega (arith, fits.2.1)) (omega (arith, fits.2.1)) in
+    let d = few_digits 4 n.blocks (omega arith) (omega (arith, fits.3.1)) (omega (arith, fits.3.1)) in
+    omega (arith, a, b, c, d)
+
+grain_room : (form grain : ℕ) (n : Counts) → AreCounts n → grain ≤ MOST_SETTING → IsForm form grain → room (map decimal (grains form grain ++ counts_of n)) ≤ 32
+grain_room form grain n fits small (inl f) =
+    let same : room (map decimal (grains form grain ++ counts_of n)) ≡ room (map decimal (counts_of n)) = rw f.0 refl in
+    omega (arith, same, counts_room n fits)
+grain_room form grain n fits small (inr f) =
+    let same : room (map decimal (grains form grain ++ counts_of n)) ≡ length (decimal grain) + room (map decimal (counts_of n)) + 1 = rw f refl in
+    omega (arith, same, counts_room n fits, setting_length grain small)
+
+form_length : (form grain : ℕ) → IsForm form grain → length (decimal form) ≤ 1
+form_length form grain (inl f) = few_digits 1 form (omega arith) (omega (arith, f.0)) (omega (arith, f.0))
+form_length form grain (inr f) = few_digits 1 form (omega arith) (omega (arith, f)) (omega (arith, f))
+
+head_room : (c : Config) (n : Counts) (form : ℕ) → FitsHead c n form → room (head_words c n form) ≤ 200
+head_room c n form fits =
+    omega (arith, form_length form c.grain fits.2, settings_room c n form fits, grain_room form c.grain n fits.1 fits.0.rate.2 fits.2)
+
+spelled_takes : (l : List ℕ) (y : Line) → SpellsLine progress.Nothing l y → length l + 1 ≤ 200
+spelled_takes l (said.Head c n form) s =
+    let r : room (split l) ≡ room (head_words c n form) = ap room s.0.1 in
+    omega (arith, room-split l, head_room c n form s.0.0)
+spelled_takes l (said.Event e) s = absurd s
+spelled_takes l said.End s = absurd s
+
+head_checked : (h : Config × Counts × ℕ) (r : Result Unit ConfigRefusal) (y : Line × Progress) → checked h r ≡ Ok y → needs y.1 ≡ 25700261
+head_checked h (Ok u) y k = let same : started h ≡ y = cc in subst (λ (y : Line × Progress). needs y.1 ≡ 25700261) same refl
+head_checked h (Err f) y k = absurd (cc)
+
+head_told : (l : List ℕ) (r : Result (Config × Counts × ℕ) Fault) (y : Line × Progress) → head.with_head l r ≡ Ok y → needs y.1 ≡ 25700261
+head_told l (Ok h) y k = head_checked h (check h.0) y k
+head_told l (Err f) y k = absurd (cc)
+
+head_read : (l : List ℕ) (ws : List (List ℕ)) (y : Line × Progress) → head_of_words l ws ≡ Ok y → needs y.1 ≡ 25700261
+unfolding head_of_words
+head_read l [] y k = absurd (cc)
+head_read l (w ∷ ws) y k =
+    elim (chosen (bytes_eq w (codes "tank")) _ _ _ k) as (λ q. needs y.1 ≡ 25700261) [
+      | inl q ↦ head_told l (head_at ws) y q.1
+      | inr q ↦ absurd (let e = q.1 in cc)
+    ]
+
+first_needs : (l : List ℕ) (y : Line × Progress) → first_line l ≡ Ok y → needs y.1 ≡ 25700261
+unfolding first_line
+first_needs l y k = head_read l (split l) y k
+
+first_takes : (l : List ℕ) (y : Line × Progress) → read_line progress.Nothing l ≡ Ok y → length l + 1 + needs y.1 ≤ 25700515
+first_takes l y h =
+    omega (arith, first_needs l y (read_short progress.Nothing l y h).1, spelled_takes l y.0 (line_is_spelled progress.Nothing l y tt h))
+
+pub takes : (p : Progress) (l : List ℕ) (y : Line × Progress) → read_line p l ≡ Ok y → length l + 1 + needs y.1 ≤ needs p
+takes progress.Nothing l y h = first_takes l y h
+takes (progress.Reading form counts done) l y h = let k = read_short (progress.Reading form counts done) l y h in later_takes form counts done l y k.0 k.1
+takes progress.Ended l y h = let k = (read_short progress.Ended l y h).1 in absurd (cc)
 
 -- The schedule of the first bytes.
 
-with_event-same : (done : ℕ) (r s : Schedule) (e : Option Event) → (done < 100000 → r ≡ s) → with_event done r e ≡ with_event done s e
-with_event-same done r s None same = refl
-with_event-same done r s (Some e) same = elim (cases_lt done 100000) [
-  | inl h ↦ ap (λ q. with_next done q e) (same h)
-  | inr h ↦ cond_false (nat_lt done 100000) (begin e r) (stop Too_many) (le-ltb done 100000 h)
-      ∙ sym (cond_false (nat_lt done 100000) (begin e s) (stop Too_many) (le-ltb done 100000 h))
-]
+same_told : (line : ℕ) (f g : Progress → Schedule) (r : Told) → ((y : Line × Progress) → r ≡ Ok y → f y.1 ≡ g y.1) → with_told line f r ≡ with_told line g r
+same_told line f g (Ok y) same = ap (before y.0) (same y refl)
+same_told line f g (Err e) same = refl
 
-cond-same : {X : Type 0} (t : Bool) (a b x y : X) → (t ≡ true → a ≡ b) → x ≡ y → cond t a x ≡ cond t b y
-cond-same true a b x y h k = h refl
-cond-same false a b x y h k = k
+long_stops : (line : ℕ) (p : Progress) (l : List ℕ) (ls : List (List ℕ)) → 256 < length l → schedule_of (l ∷ ls) line p ≡ stop (Stopped line LineTooLong)
+long_stops line p l ls h = ap (with_told line (schedule_of ls (line + 1))) (long_refused p l h)
 
--- one line, and what may follow it
-same_line : (done : ℕ) (l : List ℕ) (xs ys : List (List ℕ)) → (length l ≤ 256 → after_end xs ≡ after_end ys) →
-    (length l ≤ 256 → done < 100000 → schedule_of (done + 1) xs ≡ schedule_of (done + 1) ys) → schedule_of done (l ∷ xs) ≡ schedule_of done (l ∷ ys)
-same_line done l xs ys ends goes = elim (cases_lt 256 (length l)) [
-  | inl h ↦ long_unread done l xs h ∙ sym (long_unread done l ys h)
-  | inr h ↦ cond-same (is_text (codes "end") l) (stop (after_end xs)) (stop (after_end ys))
-      (with_event done (schedule_of (done + 1) xs) (event_line l)) (with_event done (schedule_of (done + 1) ys) (event_line l))
-      (λ e. ap stop (ends h)) (with_event-same done (schedule_of (done + 1) xs) (schedule_of (done + 1) ys) (event_line l) (goes h))
-]
+one_stops : (line : ℕ) (p : Progress) (l : List ℕ) → 256 < length l → schedule_of (one l) line p ≡ stop (Stopped line LineTooLong)
+one_stops line p [] h = absurd (omega arith)
+one_stops line p (b ∷ bs) h = long_stops line p (b ∷ bs) [] h
 
-after_end-one : (l : List ℕ) → 0 < length l → after_end (one l) ≡ Past_end
-after_end-one [] h = absurd (omega arith)
-after_end-one (b ∷ bs) h = refl
-
-after_end-cut : (n : ℕ) (ls : List (List ℕ)) → 0 < n → after_end (cut n ls) ≡ after_end ls
-after_end-cut n [] h = refl
-after_end-cut n (l ∷ ls) h = elim (cases_lt (length l) n) [
-  | inl k ↦ ap after_end (cut_within n l ls k)
-  | inr k ↦ ap after_end (cut_across n l ls k) ∙ after_end-one (take n l) (omega (arith, length-take-le n l k))
-]
-
-one_unread : (done : ℕ) (l : List ℕ) → 256 < length l → schedule_of done (one l) ≡ stop Unread
-one_unread done [] h = absurd (omega arith)
-one_unread done (b ∷ bs) h = long_unread done (b ∷ bs) [] h
-
-settled : (ls : List (List ℕ)) (done n : ℕ) → done ≤ 100000 → 25700258 ≤ n + 257 * done → schedule_of done (cut n ls) ≡ schedule_of done ls
-settled [] done n few enough = refl
-settled (l ∷ ls) done n few enough = elim (cases_lt (length l) n) [
-  | inl h ↦ ap (schedule_of done) (cut_within n l ls h)
-      ∙ same_line done l (cut (n - (length l + 1)) ls) ls
-      (λ short. after_end-cut (n - (length l + 1)) ls (omega arith))
-      (λ short less. settled ls (done + 1) (n - (length l + 1)) (omega arith) (omega arith))
-  | inr h ↦ ap (schedule_of done) (cut_across n l ls h)
-      ∙ one_unread done (take n l) (omega (arith, length-take-le n l h)) ∙ sym (long_unread done l ls (omega arith))
+settled : (ls : List (List ℕ)) (n line : ℕ) (p : Progress) → needs p ≤ n → schedule_of (cut n ls) line p ≡ schedule_of ls line p
+settled [] n line p enough = refl
+settled (l ∷ ls) n line p enough = elim (cases_lt (length l) n) [
+  | inl h ↦ ap (λ xs. schedule_of xs line p) (cut_within n l ls h)
+      ∙ same_told line (schedule_of (cut (n - (length l + 1)) ls) (line + 1)) (schedule_of ls (line + 1)) (read_line p l)
+      (λ y k. settled ls (n - (length l + 1)) (line + 1) y.1 (omega (arith, takes p l y k)))
+  | inr h ↦ ap (λ xs. schedule_of xs line p) (cut_across n l ls h)
+      ∙ one_stops line p (take n l) (omega (arith, needs_some p, length-take-le n l h)) ∙ sym (long_stops line p l ls (omega (arith, needs_some p)))
 ]
 
 -- The report of the first bytes.
 
-same_tank : (l : List ℕ) (xs ys : List (List ℕ)) → (length l ≤ 256 → schedule_of 0 xs ≡ schedule_of 0 ys) → from_tank l xs ≡ from_tank l ys
-same_tank l xs ys same =
-    cond-same (is_text HEAD l) (report_events xs) (report_events ys) (refused 1 (codes " NotBuilt")) (refused 1 (codes " NotBuilt"))
-    (λ e. let short : 46 ≡ length l = is_text-length HEAD l e in
-    ap (λ s. behind_text (codes "tank report 1\n") (report_from 0 fresh_world s)) (same (omega arith)))
-    refl
+same_head : (xs ys : List (List ℕ)) (r : Told) → ((y : Line × Progress) → r ≡ Ok y → schedule_of xs 2 y.1 ≡ schedule_of ys 2 y.1) →
+    with_head xs r ≡ with_head ys r
+same_head xs ys (Ok y) same =
+    ap (λ s. cond (is_path_head y.0) (behind_text (codes "tank report 1\n") (report_from 0 fresh_world s)) (refused 1 not_built)) (same y refl)
+same_head xs ys (Err f) same = refl
 
-long_head : (l : List ℕ) (ls : List (List ℕ)) → 256 < length l → from_head (l ∷ ls) ≡ refused 1 (codes " NotBuilt")
-long_head l ls h =
-    cond_false (lacks_head l) (refused 1 (codes " NoHead")) (from_tank l ls) (ap (λ b. not b && not (is_tank l)) (lt-ltb 256 (length l) h))
-    ∙ cond_false (is_text HEAD l) (report_events ls) (refused 1 (codes " NotBuilt")) (is_text_longer HEAD l (omega arith))
+long_head : (l : List ℕ) (ls : List (List ℕ)) → 256 < length l → from_head (l ∷ ls) ≡ refused 1 (line_refusal LineTooLong)
+long_head l ls h = ap (with_head ls) (long_refused progress.Nothing l h)
 
-one_head : (l : List ℕ) → 256 < length l → from_head (one l) ≡ refused 1 (codes " NotBuilt")
+one_head : (l : List ℕ) → 256 < length l → from_head (one l) ≡ refused 1 (line_refusal LineTooLong)
 one_head [] h = absurd (omega arith)
 one_head (b ∷ bs) h = long_head (b ∷ bs) [] h
 
@@ -154,15 +258,12 @@ from_head-cut : (n : ℕ) (ls : List (List ℕ)) → 25700515 ≤ n → from_hea
 from_head-cut n [] enough = refl
 from_head-cut n (l ∷ ls) enough = elim (cases_lt (length l) n) [
   | inl h ↦ ap from_head (cut_within n l ls h)
-      ∙ ap (λ r. cond (lacks_head l) (refused 1 (codes " NoHead")) r)
-      (same_tank l (cut (n - (length l + 1)) ls) ls (λ short. settled ls 0 (n - (length l + 1)) (omega arith) (omega arith)))
+      ∙ same_head (cut (n - (length l + 1)) ls) ls (read_line progress.Nothing l)
+      (λ y k. settled ls (n - (length l + 1)) 2 y.1 (omega (arith, takes progress.Nothing l y k)))
   | inr h ↦ ap from_head (cut_across n l ls h)
       ∙ one_head (take n l) (omega (arith, length-take-le n l h)) ∙ sym (long_head l ls (omega arith))
 ]
 
-pub report_of-take : (n : ℕ) (bytes : List ℕ) → 25700515 ≤ n → report_of (take n bytes) ≡ report_of bytes
-report_of-take n bytes enough = ap from_head (lines_of-take n bytes) ∙ from_head-cut n (lines_of bytes) enough
-
--- so many bytes hold a head, all the events and a line that is too long, each of the others with its newline
+-- so many bytes hold a head, all the events, the line `end` and one line more, or else one that is refused
 pub long_enough : (bytes : List ℕ) → report_of (take 25700515 bytes) ≡ report_of bytes
-long_enough bytes = report_of-take 25700515 bytes (omega arith)
+long_enough bytes = ap from_head (lines_of-take 25700515 bytes) ∙ from_head-cut 25700515 (lines_of bytes) (omega arith)

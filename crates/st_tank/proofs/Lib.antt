@@ -1,4 +1,5 @@
-pub mod Lines
+pub mod Newlines
 pub mod FirstBytes
 pub mod Wholes
 pub mod Ends
+pub mod Turns

@@ -1,13 +1,24 @@
 -- The report of a schedule's bytes: the text of the run of its events, and a last line. docs/PROTOCOL.md, "Report lines".
-use Rattle.std.specs.Prelude.{◌≡◌, ℕ, ◌+◌, ◌&&◌, not, if◌then◌else◌, Bool, true, false, List, [], ◌∷◌, ◌++◌, length, codes, Option, Some, None}
+use Rattle.std.specs.Prelude.{◌≡◌, ℕ, ◌+◌, ◌==◌, ◌&&◌, if◌then◌else◌, Bool, true, false, List, [], ◌∷◌, ◌++◌, length, codes, Option, Some, None, Ok, Err}
+use Rattle.st_base.specs.declared.config.Config.{Config}
+use Rattle.st_base.specs.declared.config.ConfigRefusal.{ConfigRefusal}
+use Rattle.st_base.specs.declared.config.ConfigRefusal.TheVariants.{Order, Rate, TooLong, Demand, Grain}
+use Rattle.st_codec.specs.declared.event.Counts.{Counts}
+use Rattle.st_codec.specs.declared.event.Event.{Event}
+use Rattle.st_schedule.specs.declared.fault.ScheduleRefusal.{ScheduleRefusal}
+use Rattle.st_schedule.specs.declared.fault.ScheduleRefusal.TheVariants as refusals
+use Rattle.st_schedule.specs.declared.reader.Line.{Line}
+use Rattle.st_schedule.specs.declared.reader.Line.TheVariants as said
+use Rattle.st_schedule.specs.declared.reader.Progress.{Progress}
+use Rattle.st_schedule.specs.declared.reader.Progress.TheVariants.{Nothing}
+use Rattle.st_schedule.specs.Reader.{Told, read_line}
 use Rattle.st_world.specs.declared.rows.Observation.{Observation}
 use Rattle.st_world.specs.declared.fault.WorldRefusal.{WorldRefusal}
 use Rattle.st_world.specs.declared.fault.WorldRefusal.TheVariants.{NoMessage, NotBuilt}
 use Rattle.st_world.specs.World.{World, fresh_world}
 use Rattle.st_world.specs.Run.{Run, run}
 use Rattle.st_world.specs.Report.{field, lines}
-use Rattle.st_codec.specs.declared.event.Event.{Event}
-use Rattle.st_tank.specs.Schedule.{lines_of, is_long, is_tank, is_text, HEAD, Ending, At_end, Past_end, Unread, Too_many, No_end, Schedule, with_event, schedule_of}
+use Rattle.st_tank.specs.Schedule.{lines_of, Ending, Whole, Stopped, Schedule, begin, with_told, schedule_of}
 
 -- the text, and whether the schedule was read and run through its end
 pub record Report : Type 0 where
@@ -21,9 +32,32 @@ behind_text t r = record { text = t ++ r.text; whole = r.whole }
 abbrev pub refused : ℕ → List ℕ → Report
 refused line why = record { text = codes "line" ++ field line ++ why ++ codes "\n"; whole = false }
 
-abbrev pub refusal : WorldRefusal → List ℕ
-refusal (NoMessage k) = codes " NoMessage" ++ field k
-refusal NotBuilt = codes " NotBuilt"
+abbrev pub not_built : List ℕ
+not_built = codes " NotBuilt"
+
+abbrev pub config_refusal : ConfigRefusal → List ℕ
+config_refusal Order = codes " Config Order"
+config_refusal Rate = codes " Config Rate"
+config_refusal TooLong = codes " Config TooLong"
+config_refusal Demand = codes " Config Demand"
+config_refusal Grain = codes " Config Grain"
+
+-- why a line, or the end of the lines, was refused; no line is refused for want of memory
+abbrev pub line_refusal : ScheduleRefusal → List ℕ
+line_refusal (refusals.Syntax column) = codes " Syntax" ++ field column
+line_refusal refusals.LineTooLong = codes " LineTooLong 256"
+line_refusal (refusals.Number column) = codes " Number" ++ field column
+line_refusal refusals.NoHead = codes " NoHead"
+line_refusal refusals.NoEnd = codes " NoEnd"
+line_refusal refusals.AfterEnd = codes " AfterEnd"
+line_refusal refusals.TooMany = codes " TooMany 100000"
+line_refusal (refusals.Config f) = config_refusal f
+line_refusal refusals.Memory = []
+
+-- why an event was refused
+abbrev pub event_refusal : WorldRefusal → List ℕ
+event_refusal (NoMessage k) = codes " NoMessage" ++ field k
+event_refusal NotBuilt = not_built
 
 -- The last line of a report that went through the end: events, messages sent, disk commands, writes accepted, reads
 -- answered, writes hard and gone, thefts. The first path has no disk and no theft.
@@ -42,15 +76,13 @@ ended events w = record { text = sent_text events w ++ written_text w ++ read_te
 
 -- the last line after so many events
 abbrev pub last_line : ℕ → World → Ending → Report
-last_line done w At_end = ended done w
-last_line done w Past_end = refused (done + 3) (codes " NotBuilt")
-last_line done w Unread = refused (done + 2) (codes " NotBuilt")
-last_line done w Too_many = refused (done + 2) (codes " TooMany 100000")
-last_line done w No_end = refused (done + 2) (codes " NoEnd")
+last_line done w Whole = ended done w
+last_line done w (Stopped line f) = refused line (line_refusal f)
 
+-- events stand in the lines from the second on
 abbrev pub closed : ℕ → World → Ending → Option WorldRefusal → Report
 closed done w ending None = last_line done w ending
-closed done w ending (Some f) = refused (done + 2) (refusal f)
+closed done w ending (Some f) = refused (done + 2) (event_refusal f)
 
 -- the text of a run's observations behind so many events, and the last line
 abbrev pub told : ℕ → World → Ending → Option WorldRefusal → List (List Observation) → Report
@@ -64,31 +96,52 @@ report_run done ending r = told done r.world ending r.refused r.seen
 abbrev pub report_from : ℕ → World → Schedule → Report
 report_from done w s = report_run done s.ending (run s.events w)
 
-abbrev pub report_events : List (List ℕ) → Report
-report_events ls = behind_text (codes "tank report 1\n") (report_from 0 fresh_world (schedule_of 0 ls))
+-- The head that has a world, that of the first path.
 
-abbrev pub from_tank : List ℕ → List (List ℕ) → Report
-from_tank l ls = if is_text HEAD l then report_events ls else refused 1 (codes " NotBuilt")
+abbrev pub has_path_times : Config → Bool
+has_path_times c = (c.lease == 1000) && ((c.renew == 500) && ((c.quiesce == 700) && (c.flush == 850)))
 
--- line 1 has a first word, and it is another than `tank`
-abbrev pub lacks_head : List ℕ → Bool
-lacks_head l = not (is_long l) && not (is_tank l)
+abbrev pub has_path_rates : Config → Bool
+has_path_rates c = (c.demand == 100) && ((c.retry == 50) && ((c.num == 101) && ((c.den == 100) && (c.grain == 0))))
+
+abbrev pub has_path_counts : Counts → Bool
+has_path_counts n = (n.clients == 2) && ((n.servers == 1) && ((n.disks == 1) && (n.blocks == 8)))
+
+abbrev pub is_path_head : Line → Bool
+is_path_head (said.Head c n form) = (form == 1) && (has_path_times c && (has_path_rates c && has_path_counts n))
+is_path_head l = false
+
+-- the report of these lines for a reader that is behind the head
+abbrev pub report_events : Progress → List (List ℕ) → Report
+report_events p ls = behind_text (codes "tank report 1\n") (report_from 0 fresh_world (schedule_of ls 2 p))
+
+-- what was read of line 1, and the lines behind it
+abbrev pub with_head : List (List ℕ) → Told → Report
+with_head ls (Err f) = refused 1 (line_refusal f)
+with_head ls (Ok read) = if is_path_head read.0 then report_events read.1 ls else refused 1 not_built
 
 abbrev pub from_head : List (List ℕ) → Report
-from_head [] = refused 1 (codes " NoHead")
-from_head (l ∷ ls) = if lacks_head l then refused 1 (codes " NoHead") else from_tank l ls
+from_head [] = refused 1 (line_refusal refusals.NoHead)
+from_head (l ∷ ls) = with_head ls (read_line Nothing l)
 
 -- the report of all the bytes of a schedule
 abbrev pub report_of : List ℕ → Report
 report_of bytes = from_head (lines_of bytes)
 
--- A text that grew from old to new, and the world after it, begin the report of a line and what follows it: whatever
--- follows goes on from them, or it ends with them.
-abbrev pub Begins : Bool → List ℕ → List ℕ → ℕ → World → World → Option Event → Type 0
-Begins true old new done w v e = (rest : Schedule) →
-    behind_text new (report_from (done + 1) v rest) ≡ behind_text old (report_from done w (with_event done rest e))
-Begins false old new done w v e = (rest : Schedule) →
-    record { text = new; whole = false } ≡ behind_text old (report_from done w (with_event done rest e))
+-- A text that grew from old to new, and the world after it, begin the report of an event and what follows it: whatever
+-- follows goes on from them behind so many events, or it ends with them.
+abbrev pub Begins : Option ℕ → List ℕ → List ℕ → ℕ → World → World → Event → Type 0
+Begins (Some next) old new done w v e = (rest : Schedule) →
+    behind_text new (report_from next v rest) ≡ behind_text old (report_from done w (begin e rest))
+Begins None old new done w v e = (rest : Schedule) →
+    record { text = new; whole = false } ≡ behind_text old (report_from done w (begin e rest))
+
+-- the same of what was read of the line with this number, and a reader that is so far behind it
+abbrev pub BeginsLine : Option ℕ → List ℕ → List ℕ → ℕ → ℕ → World → World → Progress → Told → Type 0
+BeginsLine (Some next) old new line done w v q read = (ls : List (List ℕ)) →
+    behind_text new (report_from next v (schedule_of ls (line + 1) q)) ≡ behind_text old (report_from done w (with_told line (schedule_of ls (line + 1)) read))
+BeginsLine None old new line done w v q read = (ls : List (List ℕ)) →
+    record { text = new; whole = false } ≡ behind_text old (report_from done w (with_told line (schedule_of ls (line + 1)) read))
 
 -- a text that grew from old to new, and whether it ended well, are this report
 abbrev pub Adds : List ℕ → List ℕ → Bool → Report → Type 0

@@ -1,10 +1,10 @@
 -- The words of a call, and the texts that a call writes to its error sink. docs/PROTOCOL.md, "The program".
 use Rattle.std.specs.Prelude.{ℕ, ◌==◌, Bool, false, if◌then◌else◌, List, [], ◌∷◌, codes}
-use Rattle.st_tank.specs.Schedule.{is_text}
+use Rattle.std.specs.Str.{bytes_eq}
 
 -- the one right list of words
 abbrev pub are_right : List (List ℕ) → Bool
-are_right (word ∷ []) = is_text (codes "replay") word
+are_right (word ∷ []) = bytes_eq word (codes "replay")
 are_right words = false
 
 -- The text that tells a status: wrong words get the usage; else a failed read, a failed write and want of memory are

@@ -8,13 +8,14 @@ ghost use Rattle.st_tank.specs.Words as words_of;
 ghost use Rattle.st_tank.specs.Words.{complaint};
 
 use crate::replay::report;
-use crate::schedule::is_text;
 use st_link::{ReadFault, Sink, Source, put_all, read_up_to};
 use st_world::reads_return_last_writes;
 use std::alloc::Global;
 
 /// The first bytes of a schedule that say all of its report, however long it is.
 const ENOUGH: usize = 25_700_515;
+
+const REPLAY: &[u8] = b"replay";
 
 const USAGE: &[u8] =
     b"usage: tank replay | generate N SEED | work N SEED | node server|client ID NAME\n";
@@ -23,7 +24,7 @@ fn are_right(words: &[String]) -> bool
     ensures { result ≡ words_of.are_right (map string_bytes words.now) }
 {
     match words {
-        [word] => is_text(b"replay", word.as_bytes()),
+        [word] => word.as_bytes() == REPLAY,
         _ => false,
     }
 }

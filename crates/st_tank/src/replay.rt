@@ -1,17 +1,19 @@
-ghost use Rattle.std.specs.Prelude.{◌≡◌, ◌+◌, ◌++◌, ◌<◌, ◌^◌, OnOk, IfOk, Some, IsTrue, string_bytes};
+ghost use Rattle.std.specs.Prelude.{◌≡◌, ◌+◌, ◌++◌, ◌<◌, ◌≤◌, ◌^◌, OnOk, IfOk, IfSome, length, string_bytes, Ok};
+ghost use Rattle.st_schedule.specs.declared.reader.Progress.TheVariants.{Nothing};
+ghost use Rattle.st_schedule.specs.Reader.{read_line, read_end};
 ghost use Rattle.st_world.specs.World.{IsBounded};
-ghost use Rattle.st_tank.specs.Schedule.{lines_of, after_end, event_line as event_of, schedule_of};
+ghost use Rattle.st_tank.specs.Schedule.{lines_of, end_at, schedule_of};
 ghost use Rattle.st_tank.specs.Replay as replay;
-ghost use Rattle.st_tank.specs.Replay.{Begins, Adds};
+ghost use Rattle.st_tank.specs.Replay.{Begins, BeginsLine, Adds};
 
+use crate::lines::first_line;
 use crate::report::put_lines;
-use crate::schedule::{event_line, first_line, is_head, is_text, lacks_head};
-use st_codec::Event;
+use st_base::{Config, ConfigRefusal};
+use st_codec::{Counts, Event};
+use st_schedule::{Line, ScheduleReader, ScheduleRefusal};
 use st_world::{World, WorldFault, WorldRefusal};
 use std::alloc::{AllocError, Global};
 use std::fmt::Write;
-
-const MOST_EVENTS: u64 = 100_000;
 
 fn put_refused(out: &mut String, line: u64, why: &str) -> Result<(), AllocError>
     ensures { OnOk result (string_bytes out.new ≡ string_bytes out.old ++ (replay.refused line why.now).text) }
@@ -19,8 +21,37 @@ fn put_refused(out: &mut String, line: u64, why: &str) -> Result<(), AllocError>
     write!(out, "line {line}{why}\n")
 }
 
-fn put_refusal(out: &mut String, line: u64, refusal: WorldRefusal) -> Result<(), AllocError>
-    ensures { OnOk result (string_bytes out.new ≡ string_bytes out.old ++ (replay.refused line (replay.refusal refusal)).text) }
+fn config_refusal(refusal: ConfigRefusal) -> &'static str
+    ensures { result.now ≡ replay.config_refusal refusal }
+{
+    match refusal {
+        ConfigRefusal::Order => " Config Order",
+        ConfigRefusal::Rate => " Config Rate",
+        ConfigRefusal::TooLong => " Config TooLong",
+        ConfigRefusal::Demand => " Config Demand",
+        ConfigRefusal::Grain => " Config Grain",
+    }
+}
+
+/// The last line of a report that stopped at a line, or at the end of the lines, with its refusal.
+fn put_line_refusal(out: &mut String, line: u64, refusal: ScheduleRefusal) -> Result<(), AllocError>
+    ensures { OnOk result (string_bytes out.new ≡ string_bytes out.old ++ (replay.refused line (replay.line_refusal refusal)).text) }
+{
+    match refusal {
+        ScheduleRefusal::Syntax(column) => write!(out, "line {line} Syntax {column}\n"),
+        ScheduleRefusal::Number(column) => write!(out, "line {line} Number {column}\n"),
+        ScheduleRefusal::LineTooLong => put_refused(out, line, " LineTooLong 256"),
+        ScheduleRefusal::NoHead => put_refused(out, line, " NoHead"),
+        ScheduleRefusal::NoEnd => put_refused(out, line, " NoEnd"),
+        ScheduleRefusal::AfterEnd => put_refused(out, line, " AfterEnd"),
+        ScheduleRefusal::TooMany => put_refused(out, line, " TooMany 100000"),
+        ScheduleRefusal::Config(refusal) => put_refused(out, line, config_refusal(refusal)),
+        ScheduleRefusal::Memory => Err(AllocError),
+    }
+}
+
+fn put_event_refusal(out: &mut String, line: u64, refusal: WorldRefusal) -> Result<(), AllocError>
+    ensures { OnOk result (string_bytes out.new ≡ string_bytes out.old ++ (replay.refused line (replay.event_refusal refusal)).text) }
 {
     match refusal {
         WorldRefusal::NoMessage(k) => write!(out, "line {line} NoMessage {k}\n"),
@@ -59,137 +90,202 @@ fn put_ended(out: &mut String, events: u64, world: &World) -> Result<(), AllocEr
     put_read(out, world)
 }
 
-/// One event, if it is possible: what is observed of it, or the refusal. It answers whether it was possible.
+/// One event, if it is possible: what is observed of it, or the refusal. It answers how many events there are then, or
+/// none where the event was refused.
 fn put_event(
     out: &mut String,
     done: u64,
     world: &mut World,
     event: Event,
-) -> Result<bool, AllocError>
-    requires few { done < 100000 }
+) -> Result<Option<u64>, AllocError>
+    requires few { done < 2 ^ 29 }
     requires counted { world.old.events ≡ done }
     requires bounded { IsBounded world.old }
-    ensures report { IfOk result (λ goes_on. Begins goes_on (string_bytes out.old) (string_bytes out.new) done world.old world.new (Some event)) }
-    ensures counted { IfOk result (λ goes_on. IsTrue goes_on → world.new.events ≡ done + 1) }
-    ensures bounded { IfOk result (λ goes_on. IsTrue goes_on → IsBounded world.new) }
+    ensures report { IfOk result (λ next. Begins next (string_bytes out.old) (string_bytes out.new) done world.old world.new event) }
+    ensures counted { IfOk result (λ next. IfSome next (λ n. (world.new.events ≡ n) × (n ≤ done + 1))) }
+    ensures bounded { IfOk result (λ next. IfSome next (λ n. IsBounded world.new)) }
 {
     match world.step(event) {
         Ok(seen) => {
             put_lines(out, done + 1, &seen)?;
-            Ok(true)
+            Ok(Some(done + 1))
         }
         Err(WorldFault::Refused(refusal)) => {
-            put_refusal(out, done + 2, refusal)?;
-            Ok(false)
+            put_event_refusal(out, done + 2, refusal)?;
+            Ok(None)
         }
         Err(WorldFault::Memory) => Err(AllocError),
     }
 }
 
-/// One event behind so many others, if there may be one more.
-fn put_next(
+/// The next line behind the head. It answers how many events there are behind it, or none where it was refused.
+fn put_line(
     out: &mut String,
+    line: u64,
     done: u64,
     world: &mut World,
-    event: Event,
-) -> Result<bool, AllocError>
-    requires few { done < 2 ^ 63 }
+    reader: &mut ScheduleReader,
+    bytes: &[u8],
+) -> Result<Option<u64>, AllocError>
+    requires few { done < 2 ^ 29 }
     requires counted { world.old.events ≡ done }
     requires bounded { IsBounded world.old }
-    ensures report { IfOk result (λ goes_on. Begins goes_on (string_bytes out.old) (string_bytes out.new) done world.old world.new (Some event)) }
-    ensures counted { IfOk result (λ goes_on. IsTrue goes_on → world.new.events ≡ done + 1) }
-    ensures bounded { IfOk result (λ goes_on. IsTrue goes_on → IsBounded world.new) }
+    ensures report { IfOk result (λ next. BeginsLine next (string_bytes out.old) (string_bytes out.new) line done world.old world.new reader.new (read_line reader.old bytes.now)) }
+    ensures counted { IfOk result (λ next. IfSome next (λ n. (world.new.events ≡ n) × (n ≤ done + 1))) }
+    ensures bounded { IfOk result (λ next. IfSome next (λ n. IsBounded world.new)) }
 {
-    if done < MOST_EVENTS {
-        return put_event(out, done, world, event);
+    match reader.line(bytes) {
+        Ok(Line::Event(event)) => put_event(out, done, world, event),
+        Ok(Line::Head(..)) => Ok(Some(done)),
+        Ok(Line::End) => Ok(Some(done)),
+        Err(ScheduleRefusal::Memory) => Err(AllocError),
+        Err(refusal) => {
+            put_line_refusal(out, line, refusal)?;
+            Ok(None)
+        }
     }
-    put_refused(out, done + 2, " TooMany 100000")?;
-    Ok(false)
 }
 
-fn put_line(
-    alloc: Global,
+/// The last line of a report whose lines were all read and run.
+fn put_end(
     out: &mut String,
+    line: u64,
     done: u64,
-    world: &mut World,
-    line: &[u8],
+    world: &World,
+    reader: &ScheduleReader,
 ) -> Result<bool, AllocError>
-    requires few { done < 2 ^ 63 }
-    requires counted { world.old.events ≡ done }
-    requires bounded { IsBounded world.old }
-    ensures report { IfOk result (λ goes_on. Begins goes_on (string_bytes out.old) (string_bytes out.new) done world.old world.new (event_of line.now)) }
-    ensures counted { IfOk result (λ goes_on. IsTrue goes_on → world.new.events ≡ done + 1) }
-    ensures bounded { IfOk result (λ goes_on. IsTrue goes_on → IsBounded world.new) }
+    ensures { IfOk result (λ whole. Adds (string_bytes out.old) (string_bytes out.new) whole (replay.last_line done world.now (end_at line (read_end reader.now)))) }
 {
-    match event_line(alloc, line)? {
-        Some(event) => put_next(out, done, world, event),
-        None => {
-            put_refused(out, done + 2, " NotBuilt")?;
+    match reader.finish() {
+        Ok(()) => {
+            put_ended(out, done, world)?;
+            Ok(true)
+        }
+        Err(refusal) => {
+            put_line_refusal(out, line, refusal)?;
             Ok(false)
         }
     }
 }
 
-fn put_end(out: &mut String, events: u64, world: &World, rest: &[u8]) -> Result<bool, AllocError>
-    requires { events < 2 ^ 63 }
-    ensures { IfOk result (λ whole. Adds (string_bytes out.old) (string_bytes out.new) whole (replay.last_line events world.now (after_end (lines_of rest.now)))) }
+fn put_events(
+    out: &mut String,
+    world: &mut World,
+    reader: &mut ScheduleReader,
+    bytes: &[u8],
+) -> Result<bool, AllocError>
+    requires room { length bytes.now < 2 ^ 29 }
+    requires counted { world.old.events ≡ 0 }
+    requires bounded { IsBounded world.old }
+    ensures { IfOk result (λ whole. Adds (string_bytes out.old) (string_bytes out.new) whole (replay.report_from 0 world.old (schedule_of (lines_of bytes.now) 2 reader.old))) }
 {
-    if rest.is_empty() {
-        put_ended(out, events, world)?;
-        return Ok(true);
+    let mut rest = bytes;
+    let mut line = 2u64;
+    let mut done = 0u64;
+    while !rest.is_empty() {
+        let (next, after) = first_line(rest);
+        match put_line(out, line, done, world, reader, next)? {
+            None => return Ok(false),
+            Some(events) => done = events,
+        }
+        rest = after;
+        line += 1;
     }
-    let _following = first_line(rest);
-    put_refused(out, events + 3, " NotBuilt")?;
+    put_end(out, line, done, world, reader)
+}
+
+fn has_path_times(c: Config) -> bool
+    ensures { result ≡ replay.has_path_times c }
+{
+    c.lease == 1000 && (c.renew == 500 && (c.quiesce == 700 && c.flush == 850))
+}
+
+fn has_path_rates(c: Config) -> bool
+    ensures { result ≡ replay.has_path_rates c }
+{
+    c.demand == 100 && (c.retry == 50 && (c.num == 101 && (c.den == 100 && c.grain == 0)))
+}
+
+fn has_path_counts(n: Counts) -> bool
+    ensures { result ≡ replay.has_path_counts n }
+{
+    n.clients == 2 && (n.servers == 1 && (n.disks == 1 && n.blocks == 8))
+}
+
+/// Whether this is the head that has a world.
+fn is_path_head(said: &Line) -> bool
+    ensures { result ≡ replay.is_path_head said.now }
+{
+    match said {
+        Line::Head(config, counts, form) => {
+            *form == 1
+                && (has_path_times(*config)
+                    && (has_path_rates(*config) && has_path_counts(*counts)))
+        }
+        _ => false,
+    }
+}
+
+/// The lines behind the head, in a fresh world.
+fn put_run(
+    alloc: Global,
+    out: &mut String,
+    reader: &mut ScheduleReader,
+    bytes: &[u8],
+) -> Result<bool, AllocError>
+    requires { length bytes.now < 2 ^ 29 }
+    ensures { IfOk result (λ whole. Adds (string_bytes out.old) (string_bytes out.new) whole (replay.report_events reader.old (lines_of bytes.now))) }
+{
+    out.push_str("tank report 1\n")?;
+    let mut world = World::fresh(alloc);
+    let whole = put_events(out, &mut world, reader, bytes)?;
+    Ok(whole)
+}
+
+/// What line 1 said, and the lines behind it.
+fn put_behind(
+    alloc: Global,
+    out: &mut String,
+    said: &Line,
+    reader: &mut ScheduleReader,
+    bytes: &[u8],
+) -> Result<bool, AllocError>
+    requires { length bytes.now < 2 ^ 29 }
+    ensures { IfOk result (λ whole. Adds (string_bytes out.old) (string_bytes out.new) whole (replay.with_head (lines_of bytes.now) (Ok (said.now, reader.old)))) }
+{
+    if is_path_head(said) {
+        return put_run(alloc, out, reader, bytes);
+    }
+    put_refused(out, 1, " NotBuilt")?;
     Ok(false)
 }
 
-fn put_events(
-    alloc: Global,
-    out: &mut String,
-    world: &mut World,
-    bytes: &[u8],
-) -> Result<bool, AllocError>
-    requires counted { world.old.events ≡ 0 }
-    requires bounded { IsBounded world.old }
-    ensures { IfOk result (λ whole. Adds (string_bytes out.old) (string_bytes out.new) whole (replay.report_from 0 world.old (schedule_of 0 (lines_of bytes.now)))) }
+fn put_head(alloc: Global, out: &mut String, head: &[u8], bytes: &[u8]) -> Result<bool, AllocError>
+    requires { length bytes.now < 2 ^ 29 }
+    ensures { IfOk result (λ whole. Adds (string_bytes out.old) (string_bytes out.new) whole (replay.with_head (lines_of bytes.now) (read_line Nothing head.now))) }
 {
-    let mut rest = bytes;
-    let mut done = 0u64;
-    while !rest.is_empty() {
-        let (line, after) = first_line(rest);
-        if is_text(b"end", line) {
-            return put_end(out, done, world, after);
+    let mut reader = ScheduleReader::new(alloc);
+    match reader.line(head) {
+        Ok(said) => put_behind(alloc, out, &said, &mut reader, bytes),
+        Err(ScheduleRefusal::Memory) => Err(AllocError),
+        Err(refusal) => {
+            put_line_refusal(out, 1, refusal)?;
+            Ok(false)
         }
-        if !put_line(alloc, out, done, world, line)? {
-            return Ok(false);
-        }
-        rest = after;
-        done += 1;
     }
-    put_refused(out, done + 2, " NoEnd")?;
-    Ok(false)
 }
 
 /// The report of a schedule's bytes, and whether the schedule was read and run through its end.
 pub(crate) fn report(alloc: Global, bytes: &[u8]) -> Result<(String, bool), AllocError>
+    requires { length bytes.now < 2 ^ 29 }
     ensures { IfOk result (λ r. record { text = string_bytes r.0; whole = r.1 } ≡ replay.report_of bytes.now) }
 {
     let mut out = String::new(alloc);
     if bytes.is_empty() {
-        put_refused(&mut out, 1, " NoHead")?;
+        put_line_refusal(&mut out, 1, ScheduleRefusal::NoHead)?;
         return Ok((out, false));
     }
     let (head, rest) = first_line(bytes);
-    if lacks_head(head) {
-        put_refused(&mut out, 1, " NoHead")?;
-        return Ok((out, false));
-    }
-    if !is_head(head) {
-        put_refused(&mut out, 1, " NotBuilt")?;
-        return Ok((out, false));
-    }
-    out.push_str("tank report 1\n")?;
-    let mut world = World::fresh(alloc);
-    let whole = put_events(alloc, &mut out, &mut world, rest)?;
+    let whole = put_head(alloc, &mut out, head, rest)?;
     Ok((out, whole))
 }

@@ -6,6 +6,8 @@ use std::test::Fail;
 
 const HEAD: &str = "tank 1 1000 500 700 850 100 50 101 100 2 1 1 8\n";
 
+const BEGUN: &str = "tank 1 1000 500 700 850 100 50 101 100 2 1 1 8\nend\n";
+
 /// A write by client 1, up to its acceptance at event 7.
 const WRITTEN: &str =
     "app c1 write 1:2 0 77\ndeliver 1\ndeliver 2\ndeliver 3\ndeliver 4\ndeliver 5\ndeliver 6\n";
@@ -59,24 +61,6 @@ fn reports_of_schedules(rt: HostRuntime) -> Result<(), Fail> {
         (HEAD, "", "end", 0, "tank report 1\n", NOTHING),
         (HEAD, "", "", 1, "tank report 1\n", "line 2 NoEnd\n"),
         ("", "", "", 1, "", "line 1 NoHead\n"),
-        ("tanks 1", "", "", 1, "", "line 1 NoHead\n"),
-        ("tank 1 1000", "", "", 1, "", "line 1 NotBuilt\n"),
-        (
-            HEAD,
-            "",
-            "app c2 read 1:2 0\n",
-            1,
-            "tank report 1\n",
-            "line 2 NotBuilt\n",
-        ),
-        (
-            HEAD,
-            "",
-            "end\n\n",
-            1,
-            "tank report 1\n",
-            "line 3 NotBuilt\n",
-        ),
         (
             HEAD,
             "",
@@ -116,6 +100,140 @@ fn reports_of_schedules(rt: HostRuntime) -> Result<(), Fail> {
         )?;
     }
     Ok(())
+}
+
+/// Runs the program over each of these lines behind a head, and asserts the end of its report.
+fn all_end(
+    rt: &(impl Abort + AllocGlobal),
+    head: &str,
+    begun: &str,
+    rows: &[(&str, &str)],
+) -> Result<(), Fail> {
+    for (lines, last) in rows {
+        let schedule = joined(rt.alloc(), &[head, *lines])?;
+        let report = joined(rt.alloc(), &[begun, *last])?;
+        runs(
+            rt,
+            &["replay"],
+            schedule.as_str(),
+            &[],
+            1,
+            report.as_str(),
+            "",
+        )?;
+    }
+    Ok(())
+}
+
+#[test]
+fn refused_heads(rt: HostRuntime) -> Result<(), Fail> {
+    let rows: &[(&str, &str)] = &[
+        ("tanks 1", "line 1 NoHead\n"),
+        ("\nend\n", "line 1 NoHead\n"),
+        ("tank 1 1000", "line 1 Syntax 12\n"),
+        ("tank 3 1000", "line 1 Syntax 6\n"),
+        (
+            "tank 1 1000 700 700 850 100 50 101 100 2 1 1 8\nend\n",
+            "line 1 Config Order\n",
+        ),
+        (
+            "tank 1 1000 500 700 850 100 50 99 100 2 1 1 8\nend\n",
+            "line 1 Config Rate\n",
+        ),
+        (
+            "tank 1 2000000000000 500 700 850 100 50 101 100 2 1 1 8\n",
+            "line 1 Config TooLong\n",
+        ),
+        (
+            "tank 1 1000 500 700 850 100 0 101 100 2 1 1 8\n",
+            "line 1 Config Demand\n",
+        ),
+        (
+            "tank 2 1000 500 700 850 100 50 101 100 1001 2 1 1 8\n",
+            "line 1 Config Grain\n",
+        ),
+        (
+            "tank 1 1000 500 700 850 100 50 101 100 17 1 1 8\n",
+            "line 1 Number 40\n",
+        ),
+        (
+            "tank 1 1000 500 700 850 100 50 101 100 2 1 1 8 \n",
+            "line 1 Syntax 48\n",
+        ),
+        (
+            "tank 1 1000 500 700 850 100 50 101 100 2 1 1 9\nend\n",
+            "line 1 NotBuilt\n",
+        ),
+        (
+            "tank 2 1000 500 700 850 100 50 101 100 0 2 1 1 8\nend\n",
+            "line 1 NotBuilt\n",
+        ),
+    ];
+    all_end(&rt, "", "", rows)
+}
+
+#[test]
+fn refused_lines(rt: HostRuntime) -> Result<(), Fail> {
+    let rows: &[(&str, &str)] = &[
+        ("app c2 read 1:2 0\n", "line 2 NotBuilt\n"),
+        ("app c1 read 1:2 1\nend\n", "line 2 NotBuilt\n"),
+        ("adv 1\nx\n", "line 2 NotBuilt\n"),
+        ("tick s4\n", "line 2 NotBuilt\n"),
+        ("adv 01\n", "line 2 Number 5\n"),
+        ("adv 1 2\nend\n", "line 2 Syntax 8\n"),
+        ("app c1 patch 1:2 0 0 1 7\n", "line 2 Syntax 8\n"),
+        ("app c1 write 1:2 0 256\n", "line 2 Number 20\n"),
+        ("app c1 write 1:2 0 077\n", "line 2 Number 20\n"),
+        ("deliver 0\n", "line 2 Number 9\n"),
+        ("deliver", "line 2 Syntax 8\n"),
+        ("\nend\n", "line 2 Syntax 1\n"),
+        ("end \n", "line 2 Syntax 5\n"),
+        (HEAD, "line 2 Syntax 1\n"),
+        ("end\n\n", "line 3 AfterEnd\n"),
+        ("end\nx", "line 3 AfterEnd\n"),
+        ("end\nend\n", "line 3 AfterEnd\n"),
+    ];
+    all_end(&rt, HEAD, "tank report 1\n", rows)
+}
+
+/// A line of 256 bytes, and more.
+fn long_line(alloc: Global, more: &str) -> Result<String, AllocError> {
+    let mut line = String::new(alloc);
+    for _ in 0..32 {
+        line.push_str("deliver ")?;
+    }
+    line.push_str(more)?;
+    Ok(line)
+}
+
+#[test]
+fn long_lines(rt: HostRuntime) -> Result<(), Fail> {
+    let longest = long_line(rt.alloc(), "\n")?;
+    let too_long = long_line(rt.alloc(), "x\n")?;
+    all_end(
+        &rt,
+        "",
+        "",
+        &[(too_long.as_str(), "line 1 LineTooLong 256\n")],
+    )?;
+    all_end(
+        &rt,
+        HEAD,
+        "tank report 1\n",
+        &[
+            (longest.as_str(), "line 2 Syntax 9\n"),
+            (too_long.as_str(), "line 2 LineTooLong 256\n"),
+        ],
+    )?;
+    all_end(
+        &rt,
+        BEGUN,
+        "tank report 1\n",
+        &[
+            (longest.as_str(), "line 3 AfterEnd\n"),
+            (too_long.as_str(), "line 3 LineTooLong 256\n"),
+        ],
+    )
 }
 
 #[test]

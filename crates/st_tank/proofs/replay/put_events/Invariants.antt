@@ -7,10 +7,11 @@ use Rattle.st_tank.proofs.replay.put_events.Given as goal
 abbrev pub invariant-loop-rest : goal.invariant-loop-rest
 invariant-loop-rest l = record {
   in_range : l.done + length l.rest ≤ length l.bytes;
+  lines : l.line + length l.rest ≤ length l.bytes + 2;
   counted : l.world.events ≡ l.done;
   bounded : IsBounded l.world;
-  so_far : behind_text (string_bytes l.out) (report_from l.done l.world (schedule_of l.done (lines_of l.rest)))
-      ≡ behind_text (string_bytes l.fn.out) (report_from 0 l.fn.world (schedule_of 0 (lines_of l.bytes)));
+  so_far : behind_text (string_bytes l.out) (report_from l.done l.world (schedule_of (lines_of l.rest) l.line l.reader))
+      ≡ behind_text (string_bytes l.fn.out) (report_from 0 l.fn.world (schedule_of (lines_of l.bytes) 2 l.fn.reader));
 }
 
 abbrev pub decreases-loop-rest : goal.decreases-loop-rest

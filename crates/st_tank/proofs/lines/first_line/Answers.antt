@@ -1,7 +1,7 @@
 use Rattle.std.proofs.Common.{arith}
 use Rattle.std.proofs.lemmas.Grind.{common_steps}
-use Rattle.st_tank.proofs.Lines.{one_more, at_newline, at_the_end}
-use Rattle.st_tank.proofs.schedule.first_line.Goals as goal
+use Rattle.st_tank.proofs.Newlines.{one_more, at_newline, at_the_end}
+use Rattle.st_tank.proofs.lines.first_line.Goals as goal
 
 pub returns-then-bytes-at-eq10-clause-lines : goal.returns-then-bytes-at-eq10-clause-lines
 returns-then-bytes-at-eq10-clause-lines c = grind (arith, common_steps, at_newline c.args.bytes.now c.loop-at.at)

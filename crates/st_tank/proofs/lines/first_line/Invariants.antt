@@ -1,7 +1,7 @@
 use Rattle.std.proofs.Common.{◌≡◌, ◌≤◌, ◌-◌, length, take, drop}
 use Rattle.st_tank.specs.Schedule.{lines_of}
-use Rattle.st_tank.proofs.Lines.{front}
-use Rattle.st_tank.proofs.schedule.first_line.Given as goal
+use Rattle.st_tank.proofs.Newlines.{front}
+use Rattle.st_tank.proofs.lines.first_line.Given as goal
 
 abbrev pub invariant-loop-at : goal.invariant-loop-at
 invariant-loop-at l = record {

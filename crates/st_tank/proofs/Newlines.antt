@@ -1,8 +1,8 @@
 -- Lines, from their front.
 use Rattle.std.proofs.Common.{◌≡◌, ℕ, ◌+◌, ◌<◌, ◌≤◌, Bool, true, false, cond, List, [], ◌∷◌, ◌++◌, length, take, drop, get_or, refl, sym, ◌∙◌, ap, arith, add-one, drop-cons, append-nil}
-use Rattle.std.specs.Prelude.{◌==◌, None}
+use Rattle.std.specs.Prelude.{◌==◌}
 use Rattle.std.proofs.lemmas.List.{take_more, take_all, drop_all}
-use Rattle.st_tank.specs.Schedule.{onto, lines_of, behind, is_text}
+use Rattle.st_tank.specs.Schedule.{onto, lines_of}
 
 -- the lines, with these bytes before the first
 abbrev pub front : List ℕ → List (List ℕ) → List (List ℕ)
@@ -49,12 +49,3 @@ at_the_end [] at h e k = absurd (omega arith)
 at_the_end (b ∷ bs) at h e k =
     let few : length (b ∷ bs) ≤ at = omega arith in
     sym k ∙ rw (take_all at (b ∷ bs) few, drop_all at (b ∷ bs) few) (front-nil b bs)
-
--- where the bytes end before the text
-pub behind_nothing : (prefix rest : List ℕ) (i : ℕ) → i < length prefix → length rest < 1 → behind (drop i prefix) rest ≡ None
-behind_nothing prefix [] i h e = rw (drop-cons prefix i 0 h) refl
-behind_nothing prefix (b ∷ bs) i h e = absurd (omega arith)
-
-pub is_text_nothing : (text rest : List ℕ) (i : ℕ) → i < length text → length rest < 1 → is_text (drop i text) rest ≡ false
-is_text_nothing text [] i h e = rw (drop-cons text i 0 h) refl
-is_text_nothing text (b ∷ bs) i h e = absurd (omega arith)
