@@ -1,0 +1,16 @@
+use Rattle.std.proofs.Common.{refl}
+use Rattle.st_rules.specs.Extents.{release_from}
+use Rattle.st_extents.proofs.Owned.{released_sound}
+use Rattle.st_extents.proofs.extents.Extents.release_from.Goals as goal
+
+pub invariant_of-self : goal.invariant_of-self
+unfolding release_from
+invariant_of-self c = rw c.release.ensures (released_sound _ c.args.file c.args.page c.self.invariant)
+
+pub returns-clause-ok : goal.returns-clause-ok
+unfolding release_from
+returns-clause-ok c = rw (← c.self.view_is, c.release.ensures) refl
+
+pub returns-clause-owned : goal.returns-clause-owned
+unfolding release_from
+returns-clause-owned c = rw c.release.ensures (released_sound _ c.args.file c.args.page c.self.invariant).owned

@@ -1,0 +1,47 @@
+-- How a server's disks are laid out, and what calls of extents answer.
+use Rattle.std.specs.Prelude.{ℕ, ◌≡◌, ◌≤◌, Bool, not, List, filter, find, is_some, Result, Ok, Err}
+use Rattle.std.specs.List.{list_any}
+use Rattle.st_base.specs.declared.ids.ServerId.{ServerId}
+use Rattle.st_base.specs.declared.ids.FileId.{FileId}
+use Rattle.st_base.specs.declared.ids.PageNo.{PageNo}
+use Rattle.st_rules.specs.declared.extents.Extent.{Extent}
+use Rattle.st_rules.specs.declared.extents.ExtentRefusal.{ExtentRefusal}
+use Rattle.st_rules.specs.declared.extents.ExtentRefusal.TheVariants.{NoSpace, Memory}
+use Rattle.st_base.specs.declared.disk.BlockAt.{BlockAt}
+use Rattle.st_rules.specs.Extents.{Extents, lies_at, is_extent_of, pages_from}
+
+-- the counts of a world, at one server
+pub record Shape : Type 0 where
+  pub server : ServerId
+  pub servers : ℕ
+  pub disks : ℕ
+  pub blocks : ℕ
+
+-- the extents of a server with this shape
+abbrev pub extents : Shape → List Extent → ℕ → Extents
+extents l rows births = record { server = l.server; servers = l.servers; disks = l.disks; blocks = l.blocks; rows = rows; births = births }
+
+-- the counts are within the limits: 1 to 4 servers, a disk for each server and 8 disks at most, 1 to 4,096 blocks
+pub record IsWithinLimits (server servers disks blocks : ℕ) : Type 0 where
+  pub some_server : 1 ≤ server
+  pub known_server : server ≤ servers
+  pub few_servers : servers ≤ 4
+  pub disk_each : servers ≤ disks
+  pub few_disks : disks ≤ 8
+  pub some_block : 1 ≤ blocks
+  pub few_blocks : blocks ≤ 4096
+
+-- none of these extents lies on the block
+abbrev pub none_at : List Extent → BlockAt → Bool
+none_at rows b = not (list_any (lies_at b) rows)
+
+-- the pages of a range that have no block, by the mapped pages
+abbrev pub unmapped_of : List Extent → FileId → PageNo → ℕ → List PageNo
+unmapped_of rows f p count = filter (λ q. not (is_some (find (is_extent_of f q) rows))) (pages_from p count)
+
+-- What a call that maps pages answers and leaves: what the rule gives; and where the rule refuses, or memory is
+-- wanting, nothing is changed.
+abbrev pub Allocates : Extents → Extents → Result Unit ExtentRefusal → Result Extents ExtentRefusal → Type 0
+Allocates old new (Ok done) rule = rule ≡ Ok new
+Allocates old new (Err Memory) rule = new ≡ old
+Allocates old new (Err (NoSpace free asked)) rule = (rule ≡ Err (NoSpace free asked)) × (new ≡ old)

@@ -1,0 +1,11 @@
+//! On which block of its server's disks each page of a file lies, and under which birth. `docs/PROTOCOL.md`, "Extents".
+#![tactic(auto)]
+
+mod extents;
+mod layout;
+mod rows;
+#[cfg(test)]
+mod tests;
+
+pub use extents::Extents;
+pub use st_rules::{Extent, ExtentRefusal};

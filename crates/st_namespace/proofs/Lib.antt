@@ -1,0 +1,5 @@
+pub mod Bytes
+pub mod Rows
+pub mod Kept
+pub mod Climbs
+pub mod Rules

@@ -1,0 +1,21 @@
+-- What is always so of the names of a server.
+use Rattle.std.specs.Prelude.{◌≤◌, ◌<◌, Bool, ◌==◌, All, length}
+use Rattle.std.specs.List.{IsDistinct}
+use Rattle.st_rules.specs.declared.names.NameEntry.{NameEntry}
+use Rattle.st_rules.specs.Names.{Names, is_entry_at}
+
+-- two entries have one name in one directory
+abbrev pub of_one_name : NameEntry → NameEntry → Bool
+of_one_name a b = is_entry_at a.dir a.name b
+
+-- two entries have one inode
+abbrev pub of_one_inode : NameEntry → NameEntry → Bool
+of_one_inode a b = b.ino == a.ino
+
+-- No name stands twice in a directory, no inode has two entries, the numbers of inodes are below the next one, and there are
+-- fewer than 4,096 entries.
+pub record IsInOrder (n : Names) : Type 0 where
+  pub names : IsDistinct of_one_name n.entries
+  pub inodes : IsDistinct of_one_inode n.entries
+  pub used : All (λ e. e.ino < n.next) n.entries
+  pub few : length n.entries ≤ 4095

@@ -1,0 +1,13 @@
+//! The directories of a server, and their entries. `docs/PROTOCOL.md`, "Names".
+#![tactic(auto)]
+
+mod entries;
+mod listing;
+mod names;
+#[cfg(test)]
+mod tests;
+mod words;
+
+pub use names::Names;
+pub use st_base::{Name, NameRefusal, NameRow};
+pub use st_rules::NameEntry;

@@ -1,0 +1,358 @@
+ghost use Rattle.std.specs.Prelude.{◌≡◌, ◌+◌, ◌-◌, ◌<◌, ◌≤◌, ◌^◌, IfOk, IfErr, OnOk, OnErr, ◌&&◌, length, is_some, false, option_map, Ok};
+ghost use Rattle.std.specs.Option.{option_copied};
+ghost use Rattle.st_base.specs.declared.names.NameRefusal.TheVariants as refusals;
+ghost use Rattle.st_rules.specs.Names as rules;
+ghost use Rattle.st_namespace.specs.Answers.{Changes, ChangesInPlace, IsTold, ino_and_mark, ino_told};
+ghost use Rattle.st_namespace.specs.Order.{IsInOrder};
+
+use crate::entries;
+use crate::listing::rows_above;
+use crate::words::is_good;
+use st_base::{Name, NameRefusal, NameRow};
+use st_rules::NameEntry;
+use std::alloc::{AllocError, Global};
+use std::marker::Model;
+
+const ROOT: u32 = 1;
+
+/// The names of one server. Contracts see them as the list of their entries and the next inode number.
+#[derive(Drop)]
+pub struct Names {
+    entries: Vec<NameEntry>,
+    next: u32,
+}
+
+impl Model for Names {
+    ghost use Rattle.st_rules.specs.Names as rules;
+    ghost use Rattle.st_namespace.specs.Order.{IsInOrder};
+
+    ghost Value = { rules.Names };
+
+    ghost view = { λ n. record { entries = n.entries.items; next = n.next } };
+
+    ghost invariant = { λ n. IsInOrder (record { entries = n.entries.items; next = n.next }) };
+}
+
+/// One of the files of a fresh server.
+fn fresh_file(alloc: Global, ino: u8) -> Result<NameEntry, AllocError>
+    requires { ino ≤ 9 }
+    ensures { IfOk result (λ e. e ≡ rules.fresh_file ino) }
+{
+    Ok(NameEntry {
+        dir: ROOT,
+        name: Name::from_slice(alloc, &[b'f', b'0' + ino])?,
+        ino: u32::from(ino),
+        directory: false,
+    })
+}
+
+/// The files of a fresh server.
+#[tactic(auto, unfolding(st_rules::specs::Names::fresh_names))]
+fn fresh_files(alloc: Global) -> Result<Vec<NameEntry>, AllocError>
+    ensures { IfOk result (λ v. v.items ≡ rules.fresh_names.entries) }
+{
+    let mut entries = Vec::new(alloc);
+    entries.push(fresh_file(alloc, 2)?)?;
+    entries.push(fresh_file(alloc, 3)?)?;
+    entries.push(fresh_file(alloc, 4)?)?;
+    entries.push(fresh_file(alloc, 5)?)?;
+    entries.push(fresh_file(alloc, 6)?)?;
+    entries.push(fresh_file(alloc, 7)?)?;
+    entries.push(fresh_file(alloc, 8)?)?;
+    entries.push(fresh_file(alloc, 9)?)?;
+    Ok(entries)
+}
+
+impl Names {
+    /// The names of a fresh server: the root, and the files 2 to 9, named `f2` to `f9`, in it.
+    #[tactic(auto, unfolding(st_rules::specs::Names::fresh_names))]
+    pub fn fresh(alloc: Global) -> Result<Names, AllocError>
+        ensures fresh { IfOk result (λ n. n ≡ rules.fresh_names) }
+        ensures order { IfOk result IsInOrder }
+    {
+        let entries = fresh_files(alloc)?;
+        Ok(Names { entries, next: 10 })
+    }
+
+    fn entry_of_ino(&self, ino: u32) -> Option<&NameEntry>
+        ensures { option_copied result ≡ rules.entry_of_ino self.now ino }
+    {
+        entries::entry_of_ino(self.entries.as_slice(), ino)
+    }
+
+    fn entry_at(&self, dir: u32, name: &[u8]) -> Option<&NameEntry>
+        ensures { option_copied result ≡ rules.entry_at self.now dir name.now }
+    {
+        entries::entry_at(self.entries.as_slice(), dir, name)
+    }
+
+    fn has_entry(&self, dir: u32, name: &[u8]) -> bool
+        ensures { result ≡ is_some (rules.entry_at self.now dir name.now) }
+    {
+        self.entry_at(dir, name).is_some()
+    }
+
+    /// Whether an inode is a directory, where it is one of this server.
+    fn kind_of(&self, ino: u32) -> Option<bool>
+        ensures { result ≡ rules.kind_of self.now ino }
+    {
+        if ino == ROOT {
+            return Some(true);
+        }
+        match self.entry_of_ino(ino) {
+            None => None,
+            Some(entry) => Some(entry.directory),
+        }
+    }
+
+    fn dir_refusal(&self, dir: u32) -> Option<NameRefusal>
+        ensures { result ≡ rules.dir_refusal self.now dir }
+    {
+        match self.kind_of(dir) {
+            None => Some(NameRefusal::NoEntry),
+            Some(false) => Some(NameRefusal::NotDir),
+            Some(true) => None,
+        }
+    }
+
+    #[tactic(auto, unfolding(st_rules::specs::Names::place_refusal))]
+    fn place_refusal(&self, dir: u32, name: &[u8]) -> Option<NameRefusal>
+        ensures { result ≡ rules.place_refusal self.now dir name.now }
+    {
+        match self.dir_refusal(dir) {
+            Some(refusal) => Some(refusal),
+            None => {
+                if is_good(name) {
+                    None
+                } else {
+                    Some(NameRefusal::BadName)
+                }
+            }
+        }
+    }
+
+    /// Whether the inode is a file of this server.
+    pub fn is_file(&self, ino: u32) -> bool
+        ensures { result ≡ rules.is_file self.now ino }
+    {
+        match self.kind_of(ino) {
+            None => false,
+            Some(directory) => !directory,
+        }
+    }
+
+    /// The inode of a name in a directory.
+    #[tactic(auto, unfolding(st_rules::specs::Names::lookup, st_rules::specs::Names::lookup_at))]
+    pub fn lookup(&self, dir: u32, name: &[u8]) -> Result<u32, NameRefusal>
+        ensures { result ≡ rules.lookup self.now dir name.now }
+    {
+        match self.place_refusal(dir, name) {
+            Some(refusal) => Err(refusal),
+            None => match self.entry_at(dir, name) {
+                None => Err(NameRefusal::NoEntry),
+                Some(entry) => Ok(entry.ino),
+            },
+        }
+    }
+
+    /// A directory is another one or lies under it. It climbs at most as many steps as there are entries.
+    fn is_under(&self, top: u32, dir: u32) -> bool
+        ensures { result ≡ rules.is_under self.now top dir }
+    {
+        let mut at = dir;
+        for _step in 0..self.entries() {
+            if at == top {
+                return true;
+            }
+            let Some(entry) = self.entry_of_ino(at) else {
+                return false;
+            };
+            at = entry.dir;
+        }
+        at == top
+    }
+
+    #[tactic(auto, unfolding(st_rules::specs::Names::added))]
+    fn push(&mut self, dir: u32, name: Name, directory: bool) -> Result<u32, NameRefusal>
+        requires next { self.old.next < 2 ^ 32 - 1 }
+        requires room { length self.old.entries < 4095 }
+        requires free { is_some (rules.entry_at self.old dir name) ≡ false }
+        ensures ok { IfOk result (λ ino. record { names = self.new; ino = ino } ≡ rules.added self.old dir name directory) }
+        ensures err { OnErr result (self.new ≡ self.old) }
+        ensures memory { IfErr result (λ r. r ≡ refusals.Memory) }
+        ensures order { IsInOrder self.new }
+    {
+        let ino = self.next;
+        let entry = NameEntry {
+            dir,
+            name,
+            ino,
+            directory,
+        };
+        let Ok(()) = self.entries.push(entry) else {
+            return Err(NameRefusal::Memory);
+        };
+        self.next += 1;
+        Ok(ino)
+    }
+
+    /// Adds an entry with the next inode number.
+    #[tactic(auto, unfolding(st_rules::specs::Names::add, st_rules::specs::Names::add_at, st_rules::specs::Names::add_beside, st_rules::specs::Names::add_new, st_rules::specs::Names::added))]
+    fn add(&mut self, dir: u32, name: &[u8], directory: bool) -> Result<u32, NameRefusal>
+        requires { self.old.next < 2 ^ 32 - 1 }
+        ensures exact { Changes self.old self.new result (rules.add self.old dir name.now directory) }
+        ensures order { IsInOrder self.new }
+    {
+        if let Some(refusal) = self.place_refusal(dir, name) {
+            return Err(refusal);
+        }
+        if self.has_entry(dir, name) {
+            return Err(NameRefusal::Exists);
+        }
+        if self.entries.len() >= 4095 {
+            return Err(NameRefusal::TooMany);
+        }
+        let alloc = *self.entries.allocator();
+        let Ok(name) = Name::from_slice(alloc, name) else {
+            return Err(NameRefusal::Memory);
+        };
+        self.push(dir, name, directory)
+    }
+
+    /// Creates a file, and gives its inode.
+    #[tactic(auto, unfolding(st_rules::specs::Names::create))]
+    pub fn create(&mut self, dir: u32, name: &[u8]) -> Result<u32, NameRefusal>
+        requires { self.old.next < 2 ^ 32 - 1 }
+        ensures exact { Changes self.old self.new result (rules.create self.old dir name.now) }
+        ensures order { IsInOrder self.new }
+    {
+        self.add(dir, name, false)
+    }
+
+    /// Makes a directory, and gives its inode.
+    #[tactic(auto, unfolding(st_rules::specs::Names::mkdir))]
+    pub fn mkdir(&mut self, dir: u32, name: &[u8]) -> Result<u32, NameRefusal>
+        requires { self.old.next < 2 ^ 32 - 1 }
+        ensures exact { Changes self.old self.new result (rules.mkdir self.old dir name.now) }
+        ensures order { IsInOrder self.new }
+    {
+        self.add(dir, name, true)
+    }
+
+    /// The entry of a name: its inode, and whether it is a directory.
+    fn found(&self, dir: u32, name: &[u8]) -> Option<(u32, bool)>
+        ensures { result ≡ option_map ino_and_mark (rules.entry_at self.now dir name.now) }
+    {
+        match self.entry_at(dir, name) {
+            None => None,
+            Some(entry) => Some((entry.ino, entry.directory)),
+        }
+    }
+
+    fn is_full(&self, ino: u32, directory: bool) -> bool
+        ensures { result ≡ (directory && rules.has_entries self.now ino) }
+    {
+        directory && entries::has_entries(self.entries.as_slice(), ino)
+    }
+
+    /// Removes an entry, and gives its inode; a directory must be empty.
+    pub fn remove(&mut self, dir: u32, name: &[u8]) -> Result<u32, NameRefusal>
+        ensures exact { ChangesInPlace self.old self.new result (rules.remove self.old dir name.now) }
+        ensures order { IsInOrder self.new }
+    {
+        if let Some(refusal) = self.place_refusal(dir, name) {
+            return Err(refusal);
+        }
+        let Some((ino, directory)) = self.found(dir, name) else {
+            return Err(NameRefusal::NoEntry);
+        };
+        if self.is_full(ino, directory) {
+            return Err(NameRefusal::NotEmpty);
+        }
+        entries::drop_entry(&mut self.entries, dir, name);
+        Ok(ino)
+    }
+
+    fn comes_under_itself(&self, ino: u32, directory: bool, dir2: u32) -> bool
+        ensures { result ≡ (directory && rules.is_under self.now ino dir2) }
+    {
+        directory && self.is_under(ino, dir2)
+    }
+
+    /// Why an entry may not move, apart from its places; else its inode.
+    fn moved(&self, dir: u32, name: &[u8], dir2: u32, name2: &[u8]) -> Result<u32, NameRefusal>
+        ensures told { result ≡ ino_told (rules.rename_found self.now dir name.now dir2 name2.now (rules.entry_at self.now dir name.now)) }
+        ensures free { OnOk result (is_some (rules.entry_at self.now dir2 name2.now) ≡ false) }
+    {
+        let Some((ino, directory)) = self.found(dir, name) else {
+            return Err(NameRefusal::NoEntry);
+        };
+        if self.has_entry(dir2, name2) {
+            return Err(NameRefusal::Exists);
+        }
+        if self.comes_under_itself(ino, directory, dir2) {
+            return Err(NameRefusal::Cycle);
+        }
+        Ok(ino)
+    }
+
+    /// Gives an entry another name in another directory, and tells its inode, which stays.
+    pub fn rename(
+        &mut self,
+        dir: u32,
+        name: &[u8],
+        dir2: u32,
+        name2: &[u8],
+    ) -> Result<u32, NameRefusal>
+        ensures exact { Changes self.old self.new result (rules.rename self.old dir name.now dir2 name2.now) }
+        ensures order { IsInOrder self.new }
+    {
+        if let Some(refusal) = self.place_refusal(dir, name) {
+            return Err(refusal);
+        }
+        if let Some(refusal) = self.place_refusal(dir2, name2) {
+            return Err(refusal);
+        }
+        let ino = self.moved(dir, name, dir2, name2)?;
+        let alloc = *self.entries.allocator();
+        let Ok(name2) = Name::from_slice(alloc, name2) else {
+            return Err(NameRefusal::Memory);
+        };
+        entries::move_entry(&mut self.entries, dir, name, dir2, name2);
+        Ok(ino)
+    }
+
+    /// The first 256 entries of a directory whose names are above the given one byte by byte, in rising order, or all where
+    /// there are fewer.
+    #[tactic(auto, unfolding(st_rules::specs::Names::list, st_rules::specs::Names::list_at))]
+    pub fn list(&self, dir: u32, after: &[u8]) -> Result<Vec<NameRow>, NameRefusal>
+        ensures rows { IfOk result (λ rows. rules.list self.now dir after.now ≡ Ok rows.items) }
+        ensures refused { IfErr result (λ r. IsTold r (rules.list self.now dir after.now)) }
+    {
+        if let Some(refusal) = self.dir_refusal(dir) {
+            return Err(refusal);
+        }
+        let alloc = *self.entries.allocator();
+        match rows_above(alloc, self.entries.as_slice(), dir, after) {
+            Err(_) => Err(NameRefusal::Memory),
+            Ok(mut rows) => {
+                rows.truncate(256);
+                Ok(rows)
+            }
+        }
+    }
+
+    /// How many entries there are.
+    pub fn entries(&self) -> u32
+        ensures { result ≡ length self.now.entries }
+    {
+        self.entries.len() as u32
+    }
+
+    /// The number of the next new inode. Numbers are never used again.
+    pub fn next_ino(&self) -> u32
+        ensures { result ≡ self.now.next }
+    {
+        self.next
+    }
+}
