@@ -16,8 +16,8 @@ use Rattle.st_rules.specs.declared.log.Fate.TheVariants as fates
 use Rattle.st_rules.specs.declared.log.LogEntry.{LogEntry}
 use Rattle.st_rules.specs.declared.observation.Observation.{Observation}
 use Rattle.st_rules.specs.ClientState.{ClientSession, Association}
-use Rattle.st_rules.specs.World.{World, ClientSite, ServerNode}
-use Rattle.st_rules.specs.History.{Traced, History, TracedRun, LeaseDate, trace, traced}
+use Rattle.st_rules.specs.World.{World, ClientSite, ServerNode, site_of}
+use Rattle.st_rules.specs.History.{Traced, History, TracedRun, TimerStart, trace, traced}
 use Rattle.st_rules.specs.Safety.{Step, Promise, steps, DirtyPagesStandAlone, ReadsReturnLastWrites, DropsHaveACause, HardStaysHard, HardIsHard, TheftsComeLate, LeasesAreDatedFromRequests, GraceWaits, NoConflictIsSent}
 use Rattle.st_rows.specs.Words.{c, life, epoch, page, stamp, g}
 use Rattle.st_rows.specs.ClientWords.{on, server}
@@ -127,6 +127,25 @@ site_dated n site = record site { node = record site.node { state = record site.
 abbrev pub all_dated : ℕ → World → World
 all_dated n w = record w { clients = map (site_dated n) w.clients }
 
+-- every client has what the first one has: its lease and its locks
+abbrev pub node_of_first : Option ClientSite → ClientSite → ClientSite
+node_of_first None site = site
+node_of_first (Some first) site = record site { node = record site.node { state = record site.node.state { associations = first.node.state.associations } } }
+
+abbrev pub all_as_first : World → World
+all_as_first w = record w { clients = map (node_of_first (site_of w (c 1))) w.clients }
+
+-- a timer runs for the client, since before any message was sent
+abbrev pub timer : TimerStart
+timer = record { server = server 1; client = c 1; clock = stamp 0; sent = 0 }
+
+abbrev pub with_early_timer : Step → Step
+with_early_timer x = record x { after = record x.after { history = record x.after.history { timers = timer ∷ [] } } }
+
+-- it is another event
+abbrev pub by_event : Event → Step → Step
+by_event e x = record x { event = e }
+
 -- the server is in its second epoch, whose grace is over
 abbrev pub node_restarted : ServerNode → ServerNode
 node_restarted node = record node { state = record node.state { stable = record node.state.stable { epoch = epoch 2 }; grace = record { wait = 1; start = Some (stamp 0) } } }
@@ -140,6 +159,15 @@ stale_read = seeing (answered 1 2 (answers.Read (filled 0)) ∷ []) (still (here
 
 unfoldable pub beside_a_lock : Step
 beside_a_lock = leaving with_other_row (still (here reading))
+
+unfoldable pub beside_a_held_lock : Step
+beside_a_held_lock = leaving all_as_first (still (here reading))
+
+unfoldable pub dropped_without_a_crash : Step
+dropped_without_a_crash = leaving (all_fated (fates.Gone causes.Crash)) (still (here reading))
+
+unfoldable pub dropped_by_another_command : Step
+dropped_by_another_command = by_event (events.Report 1 false) (leaving (all_fated (fates.Gone (causes.Failed 1))) (still (here reading)))
 
 unfoldable pub dropped_without_a_report : Step
 dropped_without_a_report = leaving (all_fated (fates.Gone (causes.Failed 1))) (still (here reading))
@@ -156,6 +184,9 @@ stolen_early = seeing (stolen 1 1 1 ∷ []) (still (here reading))
 unfoldable pub dated_from_the_arrival : Step
 dated_from_the_arrival = leaving (all_dated 450) (still (here reading))
 
+unfoldable pub replied_behind_a_timer : Step
+replied_behind_a_timer = with_early_timer (still (here reading))
+
 unfoldable pub grace_too_short : Step
 grace_too_short = leaving out_of_grace (still (here reading))
 
@@ -163,5 +194,5 @@ unfoldable pub conflict_sent : Step
 conflict_sent = seeing (sent 7 32769 1 1 1 1 400 (bodies.Nack why.Conflict 2 2) ∷ []) (still (here reading))
 
 unfoldable pub broken_open : ⊤
-unfolding world_words_open prepared past here stale_read beside_a_lock dropped_without_a_report hard_no_more hard_too_early stolen_early dated_from_the_arrival grace_too_short conflict_sent
+unfolding world_words_open prepared past here stale_read beside_a_lock beside_a_held_lock dropped_without_a_crash dropped_by_another_command dropped_without_a_report hard_no_more hard_too_early stolen_early dated_from_the_arrival replied_behind_a_timer grace_too_short conflict_sent
 broken_open = tt
