@@ -8,6 +8,7 @@ use Rattle.st_codec.specs.declared.event.Event.{Event}
 use Rattle.st_codec.specs.declared.event.Event.TheVariants as events
 use Rattle.st_codec.specs.declared.message.Body.TheVariants as bodies
 use Rattle.st_codec.specs.declared.message.Why.TheVariants as why
+use Rattle.st_rules.specs.declared.client.HeldLock.{HeldLock}
 use Rattle.st_rules.specs.declared.locks.LockRow.{LockRow}
 use Rattle.st_rules.specs.declared.log.Cause.{Cause}
 use Rattle.st_rules.specs.declared.log.Cause.TheVariants as causes
@@ -16,7 +17,7 @@ use Rattle.st_rules.specs.declared.log.Fate.TheVariants as fates
 use Rattle.st_rules.specs.declared.log.LogEntry.{LogEntry}
 use Rattle.st_rules.specs.declared.observation.Observation.{Observation}
 use Rattle.st_rules.specs.ClientState.{ClientSession, Association}
-use Rattle.st_rules.specs.World.{World, ClientSite, ServerNode, site_of}
+use Rattle.st_rules.specs.World.{World, ClientSite, ServerNode}
 use Rattle.st_rules.specs.History.{Traced, History, TracedRun, TimerStart, trace, traced}
 use Rattle.st_rules.specs.Safety.{Step, Promise, steps, DirtyPagesStandAlone, ReadsReturnLastWrites, DropsHaveACause, HardStaysHard, HardIsHard, TheftsComeLate, LeasesAreDatedFromRequests, GraceWaits, NoConflictIsSent}
 use Rattle.st_rows.specs.Words.{c, life, epoch, page, stamp, g}
@@ -77,6 +78,16 @@ traced_of r = record { world = r.run.world; history = r.history }
 unfoldable pub here : Event → Traced
 here e = traced_of (trace (prepared e) (traced (world_of 2 1 1 8)))
 
+-- The same run, behind which another client has a lease too.
+unfoldable pub met : List Event
+met = prepared (ask 2 (asks.Read (on 1 2) (page 0))) ++ (events.Deliver 7) ∷ (events.Deliver 8) ∷ []
+
+unfoldable pub past_met : List Step
+past_met = steps met (traced (world_of 2 1 1 8))
+
+unfoldable pub here_met : Traced
+here_met = traced_of (trace met (traced (world_of 2 1 1 8)))
+
 -- A step in which nothing happens, and changes of it.
 abbrev pub still : Traced → Step
 still t = record { before = t; event = events.Tick (client_node 2); seen = []; after = t }
@@ -127,13 +138,25 @@ site_dated n site = record site { node = record site.node { state = record site.
 abbrev pub all_dated : ℕ → World → World
 all_dated n w = record w { clients = map (site_dated n) w.clients }
 
--- every client has what the first one has: its lease and its locks
-abbrev pub node_of_first : Option ClientSite → ClientSite → ClientSite
-node_of_first None site = site
-node_of_first (Some first) site = record site { node = record site.node { state = record site.node.state { associations = first.node.state.associations } } }
+-- every client with a session holds a lock on the file
+abbrev pub shared_lock : HeldLock
+shared_lock = record { ino = 2; g = g 4294967298; mode = modes.S }
 
-abbrev pub all_as_first : World → World
-all_as_first w = record w { clients = map (node_of_first (site_of w (c 1))) w.clients }
+abbrev pub session_locked : ClientSession → ClientSession
+session_locked s = record s { locks = record s.locks { rows = shared_lock ∷ [] } }
+
+abbrev pub locked_in : Option ClientSession → Option ClientSession
+locked_in None = None
+locked_in (Some s) = Some (session_locked s)
+
+abbrev pub association_locked : Association → Association
+association_locked a = record a { session = locked_in a.session }
+
+abbrev pub site_locked : ClientSite → ClientSite
+site_locked site = record site { node = record site.node { state = record site.node.state { associations = map association_locked site.node.state.associations } } }
+
+abbrev pub all_locked : World → World
+all_locked w = record w { clients = map site_locked w.clients }
 
 -- a timer runs for the client, since before any message was sent
 abbrev pub timer : TimerStart
@@ -161,7 +184,7 @@ unfoldable pub beside_a_lock : Step
 beside_a_lock = leaving with_other_row (still (here reading))
 
 unfoldable pub beside_a_held_lock : Step
-beside_a_held_lock = leaving all_as_first (still (here reading))
+beside_a_held_lock = leaving all_locked (still here_met)
 
 unfoldable pub dropped_without_a_crash : Step
 dropped_without_a_crash = leaving (all_fated (fates.Gone causes.Crash)) (still (here reading))
@@ -194,5 +217,5 @@ unfoldable pub conflict_sent : Step
 conflict_sent = seeing (sent 7 32769 1 1 1 1 400 (bodies.Nack why.Conflict 2 2) ∷ []) (still (here reading))
 
 unfoldable pub broken_open : ⊤
-unfolding world_words_open prepared past here stale_read beside_a_lock beside_a_held_lock dropped_without_a_crash dropped_by_another_command dropped_without_a_report hard_no_more hard_too_early stolen_early dated_from_the_arrival replied_behind_a_timer grace_too_short conflict_sent
+unfolding world_words_open prepared past here met past_met here_met stale_read beside_a_lock beside_a_held_lock dropped_without_a_crash dropped_by_another_command dropped_without_a_report hard_no_more hard_too_early stolen_early dated_from_the_arrival replied_behind_a_timer grace_too_short conflict_sent
 broken_open = tt

@@ -1,4 +1,4 @@
-ghost use Rattle.st_rows.specs.Broken.{IsKeptBut, beside_a_held_lock, beside_a_lock, conflict_sent, dated_from_the_arrival, dropped_by_another_command, dropped_without_a_crash, dropped_without_a_report, grace_too_short, hard_no_more, hard_too_early, past, reading, replied_behind_a_timer, stale_read, stolen_early, syncing};
+ghost use Rattle.st_rows.specs.Broken.{IsKeptBut, beside_a_held_lock, beside_a_lock, conflict_sent, dated_from_the_arrival, dropped_by_another_command, dropped_without_a_crash, dropped_without_a_report, grace_too_short, hard_no_more, hard_too_early, past, past_met, reading, replied_behind_a_timer, stale_read, stolen_early, syncing};
 ghost use Rattle.st_rules.specs.Safety.{DirtyPagesStandAlone, DropsHaveACause, GraceWaits, HardIsHard, HardStaysHard, LeasesAreDatedFromRequests, NoConflictIsSent, ReadsReturnLastWrites, TheftsComeLate};
 
 /// A page that is dirty while another client has a row of its file.
@@ -11,7 +11,8 @@ pub fn a_dirty_page_beside_a_lock_is_refused()
 /// A page that is dirty while another client holds a lock on its file.
 #[tactic(auto, unfolding(crate::specs::Broken::broken_open))]
 pub fn a_dirty_page_beside_a_held_lock_is_refused()
-    ensures broken { ¬ DirtyPagesStandAlone (past reading) beside_a_held_lock }
+    ensures broken { ¬ DirtyPagesStandAlone past_met beside_a_held_lock }
+    ensures kept { IsKeptBut 1 past_met beside_a_held_lock }
 {}
 
 /// A read that is answered with another page's bytes.
