@@ -8,6 +8,7 @@ use Rattle.st_codec.specs.declared.event.Event.{Event}
 use Rattle.st_codec.specs.declared.event.Event.TheVariants as events
 use Rattle.st_codec.specs.declared.message.Body.TheVariants as bodies
 use Rattle.st_codec.specs.declared.message.Why.TheVariants as why
+use Rattle.st_rules.specs.declared.client.HeldLock.{HeldLock}
 use Rattle.st_rules.specs.declared.locks.LockRow.{LockRow}
 use Rattle.st_rules.specs.declared.log.Cause.{Cause}
 use Rattle.st_rules.specs.declared.log.Cause.TheVariants as causes
@@ -17,7 +18,7 @@ use Rattle.st_rules.specs.declared.log.LogEntry.{LogEntry}
 use Rattle.st_rules.specs.declared.observation.Observation.{Observation}
 use Rattle.st_rules.specs.ClientState.{ClientSession, Association}
 use Rattle.st_rules.specs.World.{World, ClientSite, ServerNode}
-use Rattle.st_rules.specs.History.{Traced, History, TracedRun, LeaseDate, trace, traced}
+use Rattle.st_rules.specs.History.{Traced, History, TracedRun, TimerStart, trace, traced}
 use Rattle.st_rules.specs.Safety.{Step, Promise, steps, DirtyPagesStandAlone, ReadsReturnLastWrites, DropsHaveACause, HardStaysHard, HardIsHard, TheftsComeLate, LeasesAreDatedFromRequests, GraceWaits, NoConflictIsSent}
 use Rattle.st_rows.specs.Words.{c, life, epoch, page, stamp, g}
 use Rattle.st_rows.specs.ClientWords.{on, server}
@@ -77,6 +78,16 @@ traced_of r = record { world = r.run.world; history = r.history }
 unfoldable pub here : Event → Traced
 here e = traced_of (trace (prepared e) (traced (world_of 2 1 1 8)))
 
+-- The same run, behind which another client has a lease too.
+unfoldable pub met : List Event
+met = prepared (ask 2 (asks.Read (on 1 2) (page 0))) ++ (events.Deliver 7) ∷ (events.Deliver 8) ∷ []
+
+unfoldable pub past_met : List Step
+past_met = steps met (traced (world_of 2 1 1 8))
+
+unfoldable pub here_met : Traced
+here_met = traced_of (trace met (traced (world_of 2 1 1 8)))
+
 -- A step in which nothing happens, and changes of it.
 abbrev pub still : Traced → Step
 still t = record { before = t; event = events.Tick (client_node 2); seen = []; after = t }
@@ -127,6 +138,37 @@ site_dated n site = record site { node = record site.node { state = record site.
 abbrev pub all_dated : ℕ → World → World
 all_dated n w = record w { clients = map (site_dated n) w.clients }
 
+-- every client with a session holds a lock on the file
+abbrev pub shared_lock : HeldLock
+shared_lock = record { ino = 2; g = g 4294967298; mode = modes.S }
+
+abbrev pub session_locked : ClientSession → ClientSession
+session_locked s = record s { locks = record s.locks { rows = shared_lock ∷ [] } }
+
+abbrev pub locked_in : Option ClientSession → Option ClientSession
+locked_in None = None
+locked_in (Some s) = Some (session_locked s)
+
+abbrev pub association_locked : Association → Association
+association_locked a = record a { session = locked_in a.session }
+
+abbrev pub site_locked : ClientSite → ClientSite
+site_locked site = record site { node = record site.node { state = record site.node.state { associations = map association_locked site.node.state.associations } } }
+
+abbrev pub all_locked : World → World
+all_locked w = record w { clients = map site_locked w.clients }
+
+-- a timer runs for the client, since before any message was sent
+abbrev pub timer : TimerStart
+timer = record { server = server 1; client = c 1; clock = stamp 0; sent = 0 }
+
+abbrev pub with_early_timer : Step → Step
+with_early_timer x = record x { after = record x.after { history = record x.after.history { timers = timer ∷ [] } } }
+
+-- it is another event
+abbrev pub by_event : Event → Step → Step
+by_event e x = record x { event = e }
+
 -- the server is in its second epoch, whose grace is over
 abbrev pub node_restarted : ServerNode → ServerNode
 node_restarted node = record node { state = record node.state { stable = record node.state.stable { epoch = epoch 2 }; grace = record { wait = 1; start = Some (stamp 0) } } }
@@ -140,6 +182,15 @@ stale_read = seeing (answered 1 2 (answers.Read (filled 0)) ∷ []) (still (here
 
 unfoldable pub beside_a_lock : Step
 beside_a_lock = leaving with_other_row (still (here reading))
+
+unfoldable pub beside_a_held_lock : Step
+beside_a_held_lock = leaving all_locked (still here_met)
+
+unfoldable pub dropped_without_a_crash : Step
+dropped_without_a_crash = leaving (all_fated (fates.Gone causes.Crash)) (still (here reading))
+
+unfoldable pub dropped_by_another_command : Step
+dropped_by_another_command = by_event (events.Report 1 false) (leaving (all_fated (fates.Gone (causes.Failed 1))) (still (here reading)))
 
 unfoldable pub dropped_without_a_report : Step
 dropped_without_a_report = leaving (all_fated (fates.Gone (causes.Failed 1))) (still (here reading))
@@ -156,6 +207,9 @@ stolen_early = seeing (stolen 1 1 1 ∷ []) (still (here reading))
 unfoldable pub dated_from_the_arrival : Step
 dated_from_the_arrival = leaving (all_dated 450) (still (here reading))
 
+unfoldable pub replied_behind_a_timer : Step
+replied_behind_a_timer = with_early_timer (still (here reading))
+
 unfoldable pub grace_too_short : Step
 grace_too_short = leaving out_of_grace (still (here reading))
 
@@ -163,5 +217,5 @@ unfoldable pub conflict_sent : Step
 conflict_sent = seeing (sent 7 32769 1 1 1 1 400 (bodies.Nack why.Conflict 2 2) ∷ []) (still (here reading))
 
 unfoldable pub broken_open : ⊤
-unfolding world_words_open prepared past here stale_read beside_a_lock dropped_without_a_report hard_no_more hard_too_early stolen_early dated_from_the_arrival grace_too_short conflict_sent
+unfolding world_words_open prepared past here met past_met here_met stale_read beside_a_lock beside_a_held_lock dropped_without_a_crash dropped_by_another_command dropped_without_a_report hard_no_more hard_too_early stolen_early dated_from_the_arrival replied_behind_a_timer grace_too_short conflict_sent
 broken_open = tt

@@ -21,6 +21,7 @@ use Rattle.st_codec.specs.declared.message.Message.{Message}
 use Rattle.st_codec.specs.declared.message.Header.{Header}
 use Rattle.st_codec.specs.declared.message.Body.{Body}
 use Rattle.st_codec.specs.declared.message.Body.TheVariants as bodies
+use Rattle.st_codec.specs.declared.message.Why.{Why}
 use Rattle.st_codec.specs.declared.message.Why.TheVariants as why
 use Rattle.st_codec.specs.declared.event.Event.{Event}
 use Rattle.st_codec.specs.declared.event.Event.TheVariants as events
@@ -341,9 +342,26 @@ is_request body = true
 abbrev pub is_request_at : ClientId → ServerId → Life → Stamp → Message → Bool
 is_request_at c s life date m = ((m.header.from == c.0) && (m.header.to == server_number s)) && (is_request m.body && ((m.header.life == life.0) && (m.header.stamp == date.0)))
 
--- a reply to a request
+-- a refusal of the client itself or of its epoch, by which no lease is renewed
+abbrev pub refuses_client : Why → Bool
+refuses_client why.Suspect = true
+refuses_client why.NoSession = true
+refuses_client why.OtherEpoch = true
+refuses_client why.Grace = true
+refuses_client why.GraceOver = true
+refuses_client why.Conflict = true
+refuses_client w = false
+
+-- a message that may date a lease: neither such a refusal, nor a demand or a grant that answers no request
+abbrev pub may_date : ℕ → Body → Bool
+may_date number (bodies.Nack w a b) = not (refuses_client w)
+may_date number (bodies.Demand ino g to) = false
+may_date number (bodies.Granted ino g mode) = not (number == 0)
+may_date number body = true
+
+-- a reply to a request, by which a lease may be dated
 abbrev pub is_reply_to : Message → Message → Bool
-is_reply_to q m = ((m.header.from == q.header.to) && (m.header.to == q.header.from)) && ((m.header.life == q.header.life) && ((m.header.number == q.header.number) && (m.header.stamp == q.header.stamp)))
+is_reply_to q m = (may_date m.header.number m.body && ((m.header.from == q.header.to) && (m.header.to == q.header.from))) && ((m.header.life == q.header.life) && ((m.header.number == q.header.number) && (m.header.stamp == q.header.stamp)))
 
 -- a timer of this client started after so many messages
 abbrev pub started_after : ServerId → ClientId → ℕ → TimerStart → Bool
