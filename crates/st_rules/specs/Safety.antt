@@ -563,4 +563,3 @@ EveryRunIsSafe = (k : Config) (clients servers disks blocks form : ℕ) (es : Li
 unfoldable pub safety_open : ⊤
 unfolding steps_on steps Throughout ask_of_client log_behind AtEach keep_hard replied_from
 safety_open = tt
-
