@@ -10,7 +10,6 @@ use Rattle.st_codec.specs.declared.message.Body.TheVariants as bodies
 use Rattle.st_codec.specs.declared.message.Why.TheVariants as why
 use Rattle.st_rules.specs.declared.client.HeldLock.{HeldLock}
 use Rattle.st_rules.specs.declared.locks.LockRow.{LockRow}
-use Rattle.st_rules.specs.declared.log.Cause.{Cause}
 use Rattle.st_rules.specs.declared.log.Cause.TheVariants as causes
 use Rattle.st_rules.specs.declared.log.Fate.{Fate}
 use Rattle.st_rules.specs.declared.log.Fate.TheVariants as fates
@@ -18,11 +17,11 @@ use Rattle.st_rules.specs.declared.log.LogEntry.{LogEntry}
 use Rattle.st_rules.specs.declared.observation.Observation.{Observation}
 use Rattle.st_rules.specs.ClientState.{ClientSession, Association}
 use Rattle.st_rules.specs.World.{World, ClientSite, ServerNode}
-use Rattle.st_rules.specs.History.{Traced, History, TracedRun, TimerStart, trace, traced}
-use Rattle.st_rules.specs.Safety.{Step, Promise, steps, DirtyPagesStandAlone, ReadsReturnLastWrites, DropsHaveACause, HardStaysHard, HardIsHard, TheftsComeLate, LeasesAreDatedFromRequests, GraceWaits, NoConflictIsSent}
+use Rattle.st_rules.specs.History.{Traced, TracedRun, TimerStart, trace, traced}
+use Rattle.st_rules.specs.Safety.{Step, steps, DirtyPagesStandAlone, ReadsReturnLastWrites, DropsHaveACause, HardStaysHard, HardIsHard, TheftsComeLate, LeasesAreDatedFromRequests, GraceWaits, NoConflictIsSent}
 use Rattle.st_rows.specs.Words.{c, life, epoch, page, stamp, g}
 use Rattle.st_rows.specs.ClientWords.{on, server}
-use Rattle.st_rows.specs.WorldWords.{ask, client_node, server_node, world_of, answered, sent, stolen, world_words_open}
+use Rattle.st_rows.specs.WorldWords.{ask, client_node, world_of, answered, sent, stolen, world_words_open}
 
 -- The promises but for one, by its number.
 abbrev pub unless_so : Bool → Type 0 → Type 0
