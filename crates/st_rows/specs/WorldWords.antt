@@ -1,7 +1,6 @@
 -- Short words for events and for what is observed of a world.
 use Rattle.std.specs.Prelude.{ℕ, List, Option, ⊤}
 use Rattle.st_base.specs.declared.config.Config.{Config}
-use Rattle.st_base.specs.declared.disk.Command.{Command}
 use Rattle.st_base.specs.declared.disk.Command.TheVariants as commands
 use Rattle.st_base.specs.declared.ids.NodeId.{NodeId}
 use Rattle.st_base.specs.declared.ids.NodeId.TheVariants as nodes
@@ -19,7 +18,7 @@ use Rattle.st_codec.specs.Sizes.{size_of}
 use Rattle.st_rules.specs.Rules.{rules_open}
 use Rattle.st_rules.specs.World.{World, fresh_world}
 use Rattle.st_rules.specs.Events.{summary}
-use Rattle.st_rules.specs.Run.{Run, run, run_open}
+use Rattle.st_rules.specs.Run.{Run, run_open}
 use Rattle.st_rules.specs.History.{history_open}
 use Rattle.st_rules.specs.Safety.{safety_open}
 use Rattle.st_rows.specs.Words.{c, life, page, stamp, at}

@@ -5,8 +5,8 @@ use Rattle.st_rules.specs.declared.observation.Observation.{Observation}
 use Rattle.st_rules.specs.declared.observation.WorldRefusal.{WorldRefusal}
 use Rattle.st_rules.specs.World.{World}
 use Rattle.st_rules.specs.Events.{Scene, world_step}
-use Rattle.st_rules.specs.Run.{Run, RunsInParts, behind, go_on, no_run, run, run_on}
-use Rattle.st_rules.specs.History.{Traced, TracedRun, TracedRunIsRun, history_after, trace, trace_on, traced_after}
+use Rattle.st_rules.specs.Run.{Run, RunsInParts, behind, go_on, run, run_on}
+use Rattle.st_rules.specs.History.{Traced, TracedRunIsRun, trace, trace_on, traced_after}
 
 chained : {A : Type 0} {x y z : A} → x ≡ y → y ≡ z → x ≡ z
 chained p q = rw p q

@@ -1,5 +1,5 @@
 -- Events: what each of them does to the world, and what is observed, in order.
-use Rattle.std.specs.Prelude.{ℕ, zero, suc, ◌+◌, ◌-◌, Bool, true, false, ◌&&◌, ◌||◌, not, ◌==◌, nat_le, if◌then◌else◌, List, [], ◌∷◌, ◌++◌, length, filter, map, Option, Some, None, option_map, unwrap_or, Result, Ok, Err, ⊤}
+use Rattle.std.specs.Prelude.{ℕ, ◌+◌, Bool, true, false, ◌&&◌, not, ◌==◌, nat_le, if◌then◌else◌, List, [], ◌∷◌, ◌++◌, length, filter, map, Option, Some, None, option_map, Result, Ok, Err, ⊤}
 use Rattle.std.specs.List.{list_any, zip}
 use Rattle.st_base.specs.declared.ids.ClientId.{ClientId}
 use Rattle.st_base.specs.declared.ids.ServerId.{ServerId}
@@ -46,7 +46,6 @@ use Rattle.st_rules.specs.declared.observation.Observation.TheVariants as seen
 use Rattle.st_rules.specs.declared.observation.WorldRefusal.{WorldRefusal}
 use Rattle.st_rules.specs.declared.observation.Summary.{Summary}
 use Rattle.st_rules.specs.declared.world.SentMessage.{SentMessage}
-use Rattle.st_rules.specs.declared.world.CutLink.{CutLink}
 use Rattle.st_rules.specs.declared.world.Carried.{Carried}
 use Rattle.st_rules.specs.declared.world.IssuedCommand.{IssuedCommand}
 use Rattle.st_rules.specs.declared.world.LeaseLife.{LeaseLife}
@@ -59,7 +58,7 @@ use Rattle.st_rules.specs.FlatLog as log
 use Rattle.st_rules.specs.Server as server
 use Rattle.st_rules.specs.Client as client
 use Rattle.st_rules.specs.ClientState.{ClientState, ClientTurn}
-use Rattle.st_rules.specs.World.{World, ClientSite, ServerNode, with_numbered, site_of, node_of, same_node, place_of, clock_of, message_of, receiver_of, issued_of, server_of_disk, owner_carried, lives_of, life_with, end_of_life, is_flush_of, all_servers, all_clients, world_open}
+use Rattle.st_rules.specs.World.{World, ClientSite, ServerNode, with_numbered, site_of, node_of, clock_of, message_of, receiver_of, issued_of, server_of_disk, owner_carried, lives_of, life_with, is_flush_of, all_servers, world_open}
 use Rattle.st_rules.specs.Admissible.{is_link, is_open, reaches, step_of, refusal, admissible_open}
 
 -- A step so far: the world, and what was observed, in order.

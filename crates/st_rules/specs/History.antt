@@ -1,11 +1,10 @@
 -- History: what only proofs need, as a record beside the world that the same events move. No code keeps it.
-use Rattle.std.specs.Prelude.{◌≡◌, ℕ, ◌+◌, Bool, ◌&&◌, not, ◌==◌, if◌then◌else◌, List, [], ◌∷◌, ◌++◌, length, filter, map, take, Option, Some, None, Result, Ok, Err, ⊤}
+use Rattle.std.specs.Prelude.{◌≡◌, ℕ, Bool, ◌&&◌, not, ◌==◌, List, [], ◌∷◌, ◌++◌, length, filter, take, Option, Some, None, Result, Ok, Err, ⊤}
 use Rattle.st_base.specs.declared.ids.ClientId.{ClientId}
 use Rattle.st_base.specs.declared.ids.ServerId.{ServerId}
 use Rattle.st_base.specs.declared.ids.Life.{Life}
 use Rattle.st_base.specs.declared.ids.Epoch.{Epoch}
 use Rattle.st_base.specs.declared.ids.Stamp.{Stamp}
-use Rattle.st_base.specs.declared.ids.NodeId.{NodeId}
 use Rattle.st_base.specs.declared.ids.NodeId.TheVariants as nodes
 use Rattle.st_codec.specs.declared.event.Event.{Event}
 use Rattle.st_codec.specs.declared.event.Event.TheVariants as events
@@ -15,7 +14,7 @@ use Rattle.st_rules.specs.declared.observation.WorldRefusal.{WorldRefusal}
 use Rattle.st_rules.specs.Keys.{same_client, same_server}
 use Rattle.st_rules.specs.ClientState.{ClientSession, Association}
 use Rattle.st_rules.specs.Client.{association_with}
-use Rattle.st_rules.specs.World.{World, ClientSite, site_of, clock_of, life_with}
+use Rattle.st_rules.specs.World.{World, ClientSite, site_of, clock_of}
 use Rattle.st_rules.specs.Events.{Scene, world_step, present_life}
 use Rattle.st_rules.specs.Run.{Run, run}
 

@@ -1,15 +1,13 @@
 -- What is promised: what safe means, over the steps of a run. No rule of a machine is used here but look-ups; the promise on
 -- old messages says which rules they leave alone.
-use Rattle.std.specs.Prelude.{◌≡◌, ◌≢◌, ℕ, ◌+◌, ◌≤◌, Bool, true, false, ◌&&◌, ◌||◌, not, ◌==◌, nat_le, nat_lt, if◌then◌else◌, List, [], ◌∷◌, ◌++◌, length, find, filter, filter_map, flat_map, map, Option, Some, None, is_some, Result, Ok, Err, ⊤}
+use Rattle.std.specs.Prelude.{◌≡◌, ℕ, ◌+◌, Bool, true, false, ◌&&◌, ◌||◌, not, ◌==◌, nat_le, nat_lt, if◌then◌else◌, List, [], ◌∷◌, ◌++◌, length, filter_map, map, Option, Some, None, is_some, Result, Ok, Err, ⊤}
 use Rattle.std.specs.List.{list_all, list_any}
 use Rattle.st_base.specs.declared.ids.ClientId.{ClientId}
 use Rattle.st_base.specs.declared.ids.ServerId.{ServerId}
 use Rattle.st_base.specs.declared.ids.Life.{Life}
 use Rattle.st_base.specs.declared.ids.Epoch.{Epoch}
 use Rattle.st_base.specs.declared.ids.FileId.{FileId}
-use Rattle.st_base.specs.declared.ids.PageNo.{PageNo}
 use Rattle.st_base.specs.declared.ids.Stamp.{Stamp}
-use Rattle.st_base.specs.declared.ids.NodeId.{NodeId}
 use Rattle.st_base.specs.declared.ids.NodeId.TheVariants as nodes
 use Rattle.st_base.specs.declared.config.Config.{Config}
 use Rattle.st_base.specs.Config.{check}
@@ -43,17 +41,16 @@ use Rattle.st_rules.specs.declared.sessions.Session.{Session}
 use Rattle.st_rules.specs.declared.world.SentMessage.{SentMessage}
 use Rattle.st_rules.specs.Keys.{same_client, same_server, same_file}
 use Rattle.st_rules.specs.ClientLocks.{is_lock_on}
-use Rattle.st_rules.specs.ClientState.{ClientState, ClientSession, Association, ClientTurn, with_associations}
+use Rattle.st_rules.specs.ClientState.{ClientState, ClientSession, Association, ClientTurn}
 use Rattle.st_rules.specs.Client as client
-use Rattle.st_rules.specs.ClientReplies as replies
 use Rattle.st_rules.specs.FlatLog as log
 use Rattle.st_rules.specs.Grace as grace
 use Rattle.st_rules.specs.Locks as locks
 use Rattle.st_rules.specs.Server as server
 use Rattle.st_rules.specs.Sessions as sessions
-use Rattle.st_rules.specs.World.{World, ClientSite, ServerNode, site_of, node_of, all_clients, all_servers, clock_of, numbered, with_numbered, life_with, lease_end_of, fresh_world}
+use Rattle.st_rules.specs.World.{World, ClientSite, ServerNode, site_of, node_of, all_clients, all_servers, clock_of, numbered, with_numbered, lease_end_of, fresh_world}
 use Rattle.st_rules.specs.Events.{Scene, world_step, present_life, is_hard_fate, last_write}
-use Rattle.st_rules.specs.History.{Traced, History, TimerStart, GraceStart, LeaseDate, traced, traced_after}
+use Rattle.st_rules.specs.History.{Traced, History, TimerStart, LeaseDate, traced, traced_after}
 
 -- The steps of a run: what stood before an event, the event, what was observed, and what it left.
 pub record Step : Type 0 where
@@ -555,9 +552,15 @@ pub record IsSafe (xs : List Step) : Type 0 where
 abbrev pub IsSafeRun : World → List Event → Type 0
 IsSafeRun w es = IsSafe (steps es (traced w))
 
--- every run is safe, from the world of every head and over every list of events, up to the first that is refused
+-- Every run is safe, from the world of every head and over every list of events, up to the first that is refused
 abbrev pub EveryRunIsSafe : Type 0
 EveryRunIsSafe = (k : Config) (clients servers disks blocks form : ℕ) (es : List Event) → IsHead k clients servers disks blocks form → list_all (is_event (clients + servers)) es ≡ true → IsSafeRun (fresh_world k clients servers disks blocks form) es
+
+-- All that is promised: every run is safe, and old messages change nothing.
+pub record IsAllPromised : Type 0 where
+  pub runs : EveryRunIsSafe
+  pub clients : OldMessagesChangeNoClient
+  pub servers : OldMessagesChangeNoServer
 
 -- opens all of this file
 unfoldable pub safety_open : ⊤

@@ -1,17 +1,13 @@
 -- The world: clocks, nodes, the network, disks, the log, and what is kept of each command and each life. Its look-ups.
-use Rattle.std.specs.Prelude.{ℕ, zero, suc, pred, ◌+◌, ◌*◌, ◌-◌, ◌%◌, Bool, true, false, ◌&&◌, ◌==◌, nat_le, nat_lt, if◌then◌else◌, List, [], ◌∷◌, ◌++◌, length, find, filter, map, set, slice_get, Option, Some, None, option_map, unwrap_or, ⊤}
-use Rattle.std.specs.Option.{option_or, option_and_then}
+use Rattle.std.specs.Prelude.{ℕ, zero, suc, pred, ◌+◌, ◌*◌, ◌-◌, ◌%◌, Bool, true, false, ◌&&◌, ◌==◌, nat_le, nat_lt, if◌then◌else◌, List, [], ◌++◌, length, find, map, set, slice_get, Option, Some, None, unwrap_or, ⊤}
 use Rattle.st_base.specs.declared.ids.ClientId.{ClientId}
 use Rattle.st_base.specs.declared.ids.ServerId.{ServerId}
 use Rattle.st_base.specs.declared.ids.Life.{Life}
-use Rattle.st_base.specs.declared.ids.FileId.{FileId}
-use Rattle.st_base.specs.declared.ids.PageNo.{PageNo}
 use Rattle.st_base.specs.declared.ids.Stamp.{Stamp}
 use Rattle.st_base.specs.declared.ids.NodeId.{NodeId}
 use Rattle.st_base.specs.declared.ids.NodeId.TheVariants as nodes
 use Rattle.st_base.specs.declared.config.Config.{Config}
 use Rattle.st_base.specs.declared.disk.BlockAt.{BlockAt}
-use Rattle.st_codec.specs.declared.message.Message.{Message}
 use Rattle.st_rules.specs.declared.log.LogOwner.{LogOwner}
 use Rattle.st_rules.specs.declared.log.LogEntry.{LogEntry}
 use Rattle.st_rules.specs.declared.world.SentMessage.{SentMessage}
@@ -24,7 +20,7 @@ use Rattle.st_rules.specs.Keys.{client, same_client, same_server}
 use Rattle.st_rules.specs.Leases.{no_drift, leases_open}
 use Rattle.st_rules.specs.Extents.{numbers}
 use Rattle.st_rules.specs.Disks.{Disks, fresh_disks}
-use Rattle.st_rules.specs.FlatLog.{owner, same_owner}
+use Rattle.st_rules.specs.FlatLog.{owner}
 use Rattle.st_rules.specs.Server.{ServerState, fresh_server}
 use Rattle.st_rules.specs.ClientState.{ClientState, Association}
 use Rattle.st_rules.specs.Client.{fresh_client, association_with, lease_at, lease_end_with}
