@@ -1,5 +1,5 @@
 //! The messages of the protocol and the bytes that spell them, and the events of a world. `docs/PROTOCOL.md`, "Wire" and
-//! "Schedule lines", says what each stands for.
+//! "Schedules", says what each stands for.
 #![tactic(auto)]
 
 mod answer;

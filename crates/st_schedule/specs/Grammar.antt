@@ -1,4 +1,4 @@
--- The words of each form of line, and which events have a line. docs/schedule-chapter.md.
+-- The words of each form of line, and which events have a line. docs/PROTOCOL.md, "Schedules".
 use Rattle.std.specs.Prelude.{◌≡◌, ℕ, ◌+◌, ◌==◌, ◌≤◌, ◌⊎◌, if◌then◌else◌, Bool, true, false, List, [], ◌∷◌, ◌++◌, length, map, replicate, get_or, codes}
 use Rattle.std.specs.List.{list_all, AllByRecursion}
 use Rattle.std.specs.Fmt.{decimal}

@@ -1,4 +1,4 @@
--- What a reader of lines makes of the next line, and of their end. docs/schedule-chapter.md.
+-- What a reader of lines makes of the next line, and of their end. docs/PROTOCOL.md, "Schedules".
 use Rattle.std.specs.Prelude.{◌≡◌, ◌<◌, ◌≤◌, ℕ, ◌+◌, nat_lt, if◌then◌else◌, List, [], ◌∷◌, codes, Option, Some, None, Result, Ok, Err}
 use Rattle.std.specs.Str.{bytes_eq}
 use Rattle.st_base.specs.Config.{check}

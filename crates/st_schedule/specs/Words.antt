@@ -1,5 +1,5 @@
 -- The words of a line, how many bytes of it stand from a word on, and what a word says as a number, a node, a file or
--- a name. docs/schedule-chapter.md.
+-- a name. docs/PROTOCOL.md, "Schedules".
 use Rattle.std.specs.Prelude.{ℕ, ◌+◌, ◌-◌, ◌*◌, ◌==◌, ◌&&◌, nat_le, nat_lt, if◌then◌else◌, Bool, false, List, [], ◌∷◌, ◌++◌, length, take, drop, position, Option, Some, None}
 use Rattle.std.specs.List.{list_all}
 use Rattle.std.specs.Option.{option_map, option_and_then}
