@@ -1,5 +1,5 @@
 #!/usr/bin/env python3
-"""Prints the table of crates/st_schedule/src/tests.rt: lines of a schedule, and what a second reading makes of them.
+"""Prints the table of crates/st_schedule_tests/src/tests.rt: lines of a schedule, and what a second reading makes of them.
 
 Run as: python3 tools/schedule_rows.py FOLDER, with FOLDER the one in which the package tank_oracle stands.
 """

@@ -5,7 +5,7 @@ Usage: wire_table.py ORACLE [fuzz COUNT SEED | full | tests], where ORACLE is th
 prints a line of every kind of message, name op, ask and answer, with empty and full lists; fuzz prints COUNT changed
 messages; full prints
 the length and the sum of the bytes of each full list; tests prints
-`crates/st_codec/src/wire_table.rt`. Each line is the message's bytes in runs, `HH` or `HH*COUNT`, then ` = ` and what they give: `ok`, or the
+`crates/st_codec_tests/src/wire_table.rt`. Each line is the message's bytes in runs, `HH` or `HH*COUNT`, then ` = ` and what they give: `ok`, or the
 refusal's name with its number. A word such as `up` stands for a header that many messages have. Lists that are full
 are left out, since the tests build them.
 """

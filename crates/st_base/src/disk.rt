@@ -32,6 +32,14 @@ pub enum Command {
     },
 }
 
+impl Clone for Command {
+    ghost is_clone = { λ k c. c ≡ k };
+
+    fn clone(&self) -> Result<Command, AllocError> {
+        self.copy()
+    }
+}
+
 impl Command {
     /// The same command, once more; the page is shared.
     pub fn copy(&self) -> Result<Command, AllocError>

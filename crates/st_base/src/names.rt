@@ -62,6 +62,14 @@ impl Name {
     }
 }
 
+impl Clone for Name {
+    ghost is_clone = { λ p q. q ≡ p };
+
+    fn clone(&self) -> Result<Name, AllocError> {
+        self.copy()
+    }
+}
+
 /// What is asked of the names of a server: `dir` and `dir2` are directories, by their inodes.
 #[derive(Drop)]
 pub enum NameAsk {
@@ -116,6 +124,14 @@ impl NameRow {
     }
 }
 
+impl Clone for NameRow {
+    ghost is_clone = { λ p q. q ≡ p };
+
+    fn clone(&self) -> Result<NameRow, AllocError> {
+        self.copy()
+    }
+}
+
 /// Entries of a directory, in the order in which they are told.
 pub type NameRows = Rows<NameRow>;
 
@@ -153,6 +169,14 @@ pub enum NameRefusal {
     TooMany,
     #[error("out of memory")]
     Memory,
+}
+
+impl Clone for NameAsk {
+    ghost is_clone = { λ a c. c ≡ a };
+
+    fn clone(&self) -> Result<NameAsk, AllocError> {
+        self.copy()
+    }
 }
 
 impl NameAsk {

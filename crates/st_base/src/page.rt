@@ -21,6 +21,14 @@ impl Model for PageBytes {
     ghost invariant = { λ p. length p.bytes.value.items ≡ 4096 };
 }
 
+impl Clone for PageBytes {
+    ghost is_clone = { λ p q. q ≡ p };
+
+    fn clone(&self) -> Result<PageBytes, AllocError> {
+        self.copy()
+    }
+}
+
 impl PageBytes {
     pub const LEN: usize = 4096;
 

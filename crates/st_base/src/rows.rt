@@ -7,7 +7,7 @@ use std::alloc::{AllocError, Global};
 use std::marker::Model;
 
 /// Rows of a message or an answer. Contracts see them as a list.
-#[derive(Drop)]
+#[derive(Clone, Drop)]
 pub struct Rows<T> {
     rows: Vec<T>,
 }

@@ -6,8 +6,6 @@ mod clock;
 mod drift;
 mod monotonic;
 mod row;
-#[cfg(test)]
-mod tests;
 mod wait;
 
 pub use clock::{Clock, MemoryClock};

@@ -14,15 +14,15 @@ use Rattle.st_codec.specs.Spelling.{byte, word16, word32, word64, mode, grant, n
 use Rattle.st_codec.proofs.Exact.{Exact, respelled, pair_exact, triple_exact, renamed, checked_exact, byte_exact, number_exact, text_exact, counted_exact, rows_exact, wide16, wide32, wide64}
 
 pub word16_exact : Exact word16_at word16 is_word16
-unfolding word16_at
+unfolding word16_at word16
 word16_exact = number_exact w16 (2 ^ 16) wide16
 
 pub word32_exact : Exact word32_at word32 is_word32
-unfolding word32_at
+unfolding word32_at word32
 word32_exact = number_exact w32 (2 ^ 32) wide32
 
 pub word64_exact : Exact word64_at word64 is_word64
-unfolding word64_at
+unfolding word64_at word64
 word64_exact = number_exact w64 (2 ^ 64) wide64
 
 pub at_most : (least most n : ℕ) → between least most n ≡ true → n ≤ most

@@ -37,19 +37,19 @@ rows_length row k h [] = omega arith
 rows_length row k h (r ∷ rs) = ap length (flat_map-cons row r rs) ∙ grind (arith, length-append (row r) (flat_map row rs), h r, rows_length row k h rs)
 
 lock_length : (r : ℕ × GrantNo × Mode) → length (lock_row r) ≡ 13
-unfolding lock_row
+unfolding lock_row word16 word32 word64
 lock_length r = simp length-append
 
 extent_length : (r : ExtentRow) → length (extent_row r) ≡ 18
-unfolding extent_row block
+unfolding extent_row block word16 word32 word64
 extent_length r = simp length-append
 
 lost_length : (r : LostRow) → length (lost_row r) ≡ 12
-unfolding lost_row
+unfolding lost_row word16 word32 word64
 lost_length r = simp length-append
 
 name_row_length : (r : NameRow) → length (name_row r) ≡ 5 + name_size r.name
-unfolding name_row name
+unfolding name_row name word16 word32 word64
 name_row_length r = simp length-append (omega arith)
 
 names_length : (rs : List NameRow) → length (flat_map name_row rs) ≡ name_rows_size rs
@@ -57,11 +57,11 @@ names_length [] = refl
 names_length (r ∷ rs) = ap length (flat_map-cons name_row r rs) ∙ omega (arith, length-append (name_row r) (flat_map name_row rs), name_row_length r, names_length rs)
 
 tag_length : (t : Tag) → length (tag t) ≡ 18
-unfolding tag file
+unfolding tag file word16 word32 word64
 tag_length t = simp length-append
 
 op_length : (o : NameOp) → length (name_op o) ≡ op_size o
-unfolding name_op name
+unfolding name_op name word16 word32 word64
 op_length (ops.Lookup dir n) = simp length-append (omega arith)
 op_length (ops.Create dir n) = simp length-append (omega arith)
 op_length (ops.Mkdir dir n) = simp length-append (omega arith)
@@ -70,7 +70,7 @@ op_length (ops.Rename dir n dir2 n2) = simp length-append (omega arith)
 op_length (ops.List dir n) = simp length-append (omega arith)
 
 name_ask_length : (o : NameAsk) → length (name_ask o) ≡ name_ask_size o
-unfolding name_ask name
+unfolding name_ask name word16 word32 word64
 name_ask_length (name_asks.Lookup dir n) = simp length-append (omega arith)
 name_ask_length (name_asks.Create dir n) = simp length-append (omega arith)
 name_ask_length (name_asks.Mkdir dir n) = simp length-append (omega arith)
@@ -79,13 +79,13 @@ name_ask_length (name_asks.Rename dir n dir2 n2) = simp length-append (omega ari
 name_ask_length (name_asks.List dir n) = simp length-append (omega arith)
 
 reply_length : (o : NameReply) → length (name_reply o) ≡ reply_size o
-unfolding name_reply
+unfolding name_reply word16 word32 word64
 reply_length (replies.Ino ino) = refl
 reply_length (replies.Listed rs) = omega (arith, names_length rs, length-append (word16 (length rs)) (flat_map name_row rs))
 reply_length (replies.Refused code) = refl
 
 ask_length : (a : Ask) → length (ask a) ≡ ask_size a
-unfolding ask file
+unfolding ask file word16 word32 word64
 ask_length (asks.Write f page bytes) = simp length-append (omega arith)
 ask_length (asks.Read f page) = refl
 ask_length (asks.Sync f) = refl
@@ -94,7 +94,7 @@ ask_length (asks.Name server n) = omega (arith, length-append (word16 server.0) 
 ask_length (asks.Patch f page at bytes) = simp length-append (omega arith)
 
 answer_length : (a : AppAnswer) → length (answer a) ≡ answer_size a
-unfolding answer
+unfolding answer word16 word32 word64
 answer_length answers.Written = refl
 answer_length (answers.Read bytes) = omega arith
 answer_length answers.Hard = refl
@@ -114,18 +114,18 @@ answer_length answers.NotHolder = refl
 answer_length answers.TooManyLocks = refl
 
 command_length : (o : Command) → length (command o) ≡ command_size o
-unfolding command
+unfolding command word16 word32 word64
 command_length (commands.Read at) = refl
 command_length (commands.Write at t bytes) = omega (arith, tag_length t, length-append (tag t) bytes)
 
 result_length : (o : DiskResult) → length (disk_result o) ≡ result_size o
-unfolding disk_result
+unfolding disk_result word16 word32 word64
 result_length results.Failed = refl
 result_length results.WriteDone = refl
 result_length (results.ReadDone t bytes) = omega (arith, tag_length t, length-append (tag t) bytes)
 
 body_length : (b : Body) → length (body b) ≡ body_size b
-unfolding body block
+unfolding body block word16 word32 word64
 body_length bodies.Hello = refl
 body_length bodies.KeepAlive = refl
 body_length (bodies.Acquire ino m) = refl
@@ -156,7 +156,7 @@ unfolding kind
 kind_length k = refl
 
 header_length : (h : Header) → length (header h) ≡ 36
-unfolding header nodes ages marks
+unfolding header nodes ages marks word16 word32 word64
 header_length h = refl
 
 pub spelling_length : (m : Message) → length (spelling m) ≡ size_of m

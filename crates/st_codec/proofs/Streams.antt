@@ -37,14 +37,16 @@ take_bytes n bytes h i =
 
 -- the number that a length spells
 number_front : (n : ℕ) (after : List ℕ) → n < 2 ^ 32 → from_be_bytes w32 (take 4 (word32 n ++ after)) ≡ n
+unfolding word32
 number_front n after lt = ap (from_be_bytes w32) (take_at (word32 n) after 4 refl) ∙ wide32.again n lt
 
 long_front : (n : ℕ) (after : List ℕ) → 4 ≤ length (word32 n ++ after)
+unfolding word32
 long_front n after = omega (arith, length-append (word32 n) after)
 
 -- a frame in front is seen
 front_again : (bytes after : List ℕ) → length bytes ≤ 65536 → front (frame bytes ++ after) ≡ Whole (length bytes)
-unfolding front
+unfolding front word32
 front_again bytes after short =
     let number = number_front (length bytes) (bytes ++ after) (omega arith) in
     let regrouped : frame bytes ++ after ≡ word32 (length bytes) ++ (bytes ++ after) = append_assoc (word32 (length bytes)) bytes after in
@@ -55,6 +57,7 @@ front_again bytes after short =
 
 -- the bytes of a frame in front, and what follows
 frame_bytes : (bytes after : List ℕ) → take (length bytes) (drop 4 (frame bytes ++ after)) ≡ bytes
+unfolding word32
 frame_bytes bytes after = ap (λ (w : List ℕ). take (length bytes) (drop 4 w)) (append_assoc (word32 (length bytes)) bytes after) ∙ (ap (take (length bytes)) (drop_at (word32 (length bytes)) (bytes ++ after) 4 refl) ∙ take_at bytes after (length bytes) refl)
 
 -- what the tests of a front say
@@ -77,6 +80,7 @@ front_cases rest f e P p q r =
 
 -- the length that stands in front, spelled again
 length_spelled : (rest : List ℕ) → AreBytes rest → 4 ≤ length rest → word32 (from_be_bytes w32 (take 4 rest)) ++ drop 4 rest ≡ rest
+unfolding word32
 length_spelled rest ok long = ap (λ (w : List ℕ). w ++ drop 4 rest) (wide32.back (take 4 rest) (omega (arith, length-take 4 rest)) (take_bytes 4 rest ok)) ∙ take-append-drop 4 rest
 
 length_below : (rest : List ℕ) → AreBytes rest → from_be_bytes w32 (take 4 rest) < 2 ^ 32
@@ -209,6 +213,7 @@ rest_bytes : (stream front rest : List ℕ) → AreBytes stream → stream ≡ f
 rest_bytes stream front rest ok e = subst AreBytes (ap (drop (length front)) e ∙ drop_at front rest (length front) refl) (drop_bytes (length front) stream ok)
 
 next_reads : (stream : List ℕ) (s : Ran) → AreBytes stream → Reads stream s → Reads stream (moved s Next)
+unfolding word32
 next_reads stream s ok h =
     let rest = s.state.rest in
     let bytes : AreBytes rest = rest_bytes stream (flat_map message_frame s.messages) rest ok h.stream_is.whole in

@@ -38,13 +38,13 @@ use Rattle.st_codec.specs.Kinds.{version_of, number_of}
 abbrev pub byte : ℕ → List ℕ
 byte n = n ∷ []
 
-abbrev pub word16 : ℕ → List ℕ
+unfoldable pub word16 : ℕ → List ℕ
 word16 n = to_be_bytes w16 n
 
-abbrev pub word32 : ℕ → List ℕ
+unfoldable pub word32 : ℕ → List ℕ
 word32 n = to_be_bytes w32 n
 
-abbrev pub word64 : ℕ → List ℕ
+unfoldable pub word64 : ℕ → List ℕ
 word64 n = to_be_bytes w64 n
 
 abbrev pub mode : Mode → List ℕ

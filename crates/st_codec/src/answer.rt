@@ -30,6 +30,14 @@ pub enum AppAnswer {
     TooManyLocks,
 }
 
+impl Clone for AppAnswer {
+    ghost is_clone = { λ a c. c ≡ a };
+
+    fn clone(&self) -> Result<AppAnswer, AllocError> {
+        self.copy()
+    }
+}
+
 impl AppAnswer {
     /// The same answer, once more; a page is shared.
     pub fn copy(&self) -> Result<AppAnswer, AllocError>

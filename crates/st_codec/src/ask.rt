@@ -17,6 +17,14 @@ pub enum Ask {
     Patch(FileId, PageNo, u16, PatchBytes),
 }
 
+impl Clone for Ask {
+    ghost is_clone = { λ a c. c ≡ a };
+
+    fn clone(&self) -> Result<Ask, AllocError> {
+        self.copy()
+    }
+}
+
 impl Ask {
     /// The same ask, once more; a page is shared.
     pub fn copy(&self) -> Result<Ask, AllocError>

@@ -1,5 +1,7 @@
 ghost use Rattle.std.specs.Prelude.{◌≡◌};
 ghost use Rattle.st_codec.specs.Reading as reading;
+ghost use Rattle.st_codec.specs.declared.answer.AppAnswer.TheVariants as answers;
+ghost use Rattle.st_codec.specs.declared.ask.Ask.TheVariants as asks;
 
 use crate::answer::AppAnswer;
 use crate::ask::Ask;
@@ -33,6 +35,27 @@ fn read_write(alloc: Global, bytes: &[u8]) -> Result<(Ask, &[u8]), ReadError>
     Ok((Ask::Write(file, page, text), rest))
 }
 
+fn read_read(bytes: &[u8]) -> Result<(Ask, &[u8]), ReadError>
+    ensures { reading.Gives (λ x. (x.0, x.1.now)) result (reading.made (λ t. asks.Read t.0 t.1) reading.file_page_at bytes.now) }
+{
+    let ((file, page), rest) = read_file_page(bytes)?;
+    Ok((Ask::Read(file, page), rest))
+}
+
+fn read_sync(bytes: &[u8]) -> Result<(Ask, &[u8]), ReadError>
+    ensures { reading.Gives (λ x. (x.0, x.1.now)) result (reading.made asks.Sync (reading.file_at 1) bytes.now) }
+{
+    let (file, rest) = read_file(1, bytes)?;
+    Ok((Ask::Sync(file), rest))
+}
+
+fn read_cut(bytes: &[u8]) -> Result<(Ask, &[u8]), ReadError>
+    ensures { reading.Gives (λ x. (x.0, x.1.now)) result (reading.made (λ t. asks.Cut t.0 t.1) reading.file_page_at bytes.now) }
+{
+    let ((file, page), rest) = read_file_page(bytes)?;
+    Ok((Ask::Cut(file, page), rest))
+}
+
 #[tactic(auto, unfolding(crate::specs::Reading::ask_names_at))]
 fn read_ask_names(alloc: Global, bytes: &[u8]) -> Result<(Ask, &[u8]), ReadError>
     ensures { reading.Gives (λ x. (x.0, x.1.now)) result (reading.ask_names_at bytes.now) }
@@ -53,18 +76,9 @@ fn read_ask_numbered(
 {
     match number {
         1 => read_write(alloc, bytes),
-        2 => {
-            let ((file, page), rest) = read_file_page(bytes)?;
-            Ok((Ask::Read(file, page), rest))
-        }
-        3 => {
-            let (file, rest) = read_file(1, bytes)?;
-            Ok((Ask::Sync(file), rest))
-        }
-        4 => {
-            let ((file, page), rest) = read_file_page(bytes)?;
-            Ok((Ask::Cut(file, page), rest))
-        }
+        2 => read_read(bytes),
+        3 => read_sync(bytes),
+        4 => read_cut(bytes),
         5 => read_ask_names(alloc, bytes),
         _ => Err(ReadError::Fault(Fault::Value(left))),
     }
@@ -141,6 +155,62 @@ fn read_plain_answer(number: u8, left: usize, bytes: &[u8]) -> Result<(AppAnswer
     }
 }
 
+fn read_page_answer(alloc: Global, bytes: &[u8]) -> Result<(AppAnswer, &[u8]), ReadError>
+    ensures { reading.Gives (λ x. (x.0, x.1.now)) result (reading.made answers.Read reading.whole_page_at bytes.now) }
+{
+    let (text, rest) = read_whole_page(alloc, bytes)?;
+    Ok((AppAnswer::Read(text), rest))
+}
+
+fn read_named(bytes: &[u8]) -> Result<(AppAnswer, &[u8]), ReadError>
+    ensures { reading.Gives (λ x. (x.0, x.1.now)) result (reading.made answers.Named reading.ino_at bytes.now) }
+{
+    let (ino, rest) = read_ino(bytes)?;
+    Ok((AppAnswer::Named(ino), rest))
+}
+
+fn read_listed(alloc: Global, bytes: &[u8]) -> Result<(AppAnswer, &[u8]), ReadError>
+    ensures { reading.Gives (λ x. (x.0, x.1.now)) result (reading.made answers.Listed reading.names_at bytes.now) }
+{
+    let (rows, rest) = read_names(alloc, bytes)?;
+    Ok((AppAnswer::Listed(rows), rest))
+}
+
+fn read_refused(bytes: &[u8]) -> Result<(AppAnswer, &[u8]), ReadError>
+    ensures { reading.Gives (λ x. (x.0, x.1.now)) result (reading.made answers.Refused reading.byte_at bytes.now) }
+{
+    let (code, rest) = read_byte(bytes)?;
+    Ok((AppAnswer::Refused(code), rest))
+}
+
+fn read_no_space(bytes: &[u8]) -> Result<(AppAnswer, &[u8]), ReadError>
+    ensures { reading.Gives (λ x. (x.0, x.1.now)) result (reading.made (λ t. answers.NoSpace t.0 t.1) reading.two_words_at bytes.now) }
+{
+    let ((free, asked), rest) = read_two_words(bytes)?;
+    Ok((AppAnswer::NoSpace(free, asked), rest))
+}
+
+fn read_disk_fault(bytes: &[u8]) -> Result<(AppAnswer, &[u8]), ReadError>
+    ensures { reading.Gives (λ x. (x.0, x.1.now)) result (reading.made answers.DiskFault reading.word64_at bytes.now) }
+{
+    let (command, rest) = read_word64(bytes)?;
+    Ok((AppAnswer::DiskFault(command), rest))
+}
+
+fn read_uncertain(bytes: &[u8]) -> Result<(AppAnswer, &[u8]), ReadError>
+    ensures { reading.Gives (λ x. (x.0, x.1.now)) result (reading.made (λ t. answers.Uncertain t.0 t.1) reading.two_words_at bytes.now) }
+{
+    let ((old, new), rest) = read_two_words(bytes)?;
+    Ok((AppAnswer::Uncertain(old, new), rest))
+}
+
+fn read_lost_pages(alloc: Global, bytes: &[u8]) -> Result<(AppAnswer, &[u8]), ReadError>
+    ensures { reading.Gives (λ x. (x.0, x.1.now)) result (reading.made answers.Lost reading.lost_at bytes.now) }
+{
+    let (rows, rest) = read_lost(alloc, bytes)?;
+    Ok((AppAnswer::Lost(rows), rest))
+}
+
 #[tactic(auto, unfolding(crate::specs::Reading::answer_numbered))]
 fn read_answer_numbered(
     alloc: Global,
@@ -151,38 +221,14 @@ fn read_answer_numbered(
     ensures { reading.Gives (λ x. (x.0, x.1.now)) result (reading.answer_numbered number left bytes.now) }
 {
     match number {
-        1 => {
-            let (text, rest) = read_whole_page(alloc, bytes)?;
-            Ok((AppAnswer::Read(text), rest))
-        }
-        4 => {
-            let (ino, rest) = read_ino(bytes)?;
-            Ok((AppAnswer::Named(ino), rest))
-        }
-        5 => {
-            let (rows, rest) = read_names(alloc, bytes)?;
-            Ok((AppAnswer::Listed(rows), rest))
-        }
-        6 => {
-            let (code, rest) = read_byte(bytes)?;
-            Ok((AppAnswer::Refused(code), rest))
-        }
-        19 => {
-            let ((free, asked), rest) = read_two_words(bytes)?;
-            Ok((AppAnswer::NoSpace(free, asked), rest))
-        }
-        20 => {
-            let (command, rest) = read_word64(bytes)?;
-            Ok((AppAnswer::DiskFault(command), rest))
-        }
-        22 => {
-            let ((old, new), rest) = read_two_words(bytes)?;
-            Ok((AppAnswer::Uncertain(old, new), rest))
-        }
-        23 => {
-            let (rows, rest) = read_lost(alloc, bytes)?;
-            Ok((AppAnswer::Lost(rows), rest))
-        }
+        1 => read_page_answer(alloc, bytes),
+        4 => read_named(bytes),
+        5 => read_listed(alloc, bytes),
+        6 => read_refused(bytes),
+        19 => read_no_space(bytes),
+        20 => read_disk_fault(bytes),
+        22 => read_uncertain(bytes),
+        23 => read_lost_pages(alloc, bytes),
         _ => read_plain_answer(number, left, bytes),
     }
 }

@@ -2,13 +2,15 @@ ghost use Rattle.std.specs.Prelude.{◌≡◌, ◌++◌, true, IfOk, OnOk};
 ghost use Rattle.st_codec.specs.Fits as fits;
 ghost use Rattle.st_codec.specs.Spelling as spells;
 
+use crate::answer::AppAnswer;
+use crate::ask::Ask;
 use crate::encoding_local::{put_answer, put_ask, put_command, put_disk_result};
 use crate::encoding_names::{put_name_op, put_name_reply};
 use crate::kind::Kind;
-use crate::message::{Body, Header, Message, Why};
+use crate::message::{Body, DiskResult, Header, Message, Why};
 use crate::row::{put_extents, put_locks};
 use crate::spell::{put_block, put_byte, put_grant, put_mode, put_word16, put_word32, put_word64};
-use st_base::{GrantNo, Mode, PageNo};
+use st_base::{BlockAt, Command, ExtentRows, GrantNo, Mode, PageNo};
 use std::alloc::{AllocError, Global};
 
 impl Why {
@@ -90,6 +92,50 @@ fn put_nack(out: &mut Vec<u8>, why: Why, a: u64, b: u64) -> Result<(), AllocErro
     Ok(())
 }
 
+fn put_mapped(out: &mut Vec<u8>, ino: u32, rows: &ExtentRows) -> Result<(), AllocError>
+    requires { fits.are_extents rows.now ≡ true }
+    ensures { OnOk result (out.new.items ≡ out.old.items ++ (spells.word32 ino ++ spells.rows spells.extent_row rows.now)) }
+{
+    put_word32(out, ino)?;
+    put_extents(out, rows)?;
+    Ok(())
+}
+
+fn put_app(out: &mut Vec<u8>, op: u32, ask: &Ask) -> Result<(), AllocError>
+    requires { fits.is_ask ask.now ≡ true }
+    ensures { OnOk result (out.new.items ≡ out.old.items ++ (spells.word32 op ++ spells.ask ask.now)) }
+{
+    put_word32(out, op)?;
+    put_ask(out, ask)?;
+    Ok(())
+}
+
+fn put_app_done(out: &mut Vec<u8>, op: u32, answer: &AppAnswer) -> Result<(), AllocError>
+    requires { fits.is_answer answer.now ≡ true }
+    ensures { OnOk result (out.new.items ≡ out.old.items ++ (spells.word32 op ++ spells.answer answer.now)) }
+{
+    put_word32(out, op)?;
+    put_answer(out, answer)?;
+    Ok(())
+}
+
+fn put_submit(out: &mut Vec<u8>, number: u64, at: BlockAt, what: &Command) -> Result<(), AllocError>
+    ensures { OnOk result (out.new.items ≡ out.old.items ++ (spells.word64 number ++ spells.block at ++ spells.command what.now)) }
+{
+    put_word64(out, number)?;
+    put_block(out, at)?;
+    put_command(out, what)?;
+    Ok(())
+}
+
+fn put_done(out: &mut Vec<u8>, number: u64, ending: &DiskResult) -> Result<(), AllocError>
+    ensures { OnOk result (out.new.items ≡ out.old.items ++ (spells.word64 number ++ spells.disk_result ending.now)) }
+{
+    put_word64(out, number)?;
+    put_disk_result(out, ending)?;
+    Ok(())
+}
+
 #[tactic(auto, unfolding(crate::specs::Spelling::body, crate::specs::Fits::is_body))]
 fn put_body(out: &mut Vec<u8>, body: &Body) -> Result<(), AllocError>
     requires { fits.is_body body.now ≡ true }
@@ -113,33 +159,12 @@ fn put_body(out: &mut Vec<u8>, body: &Body) -> Result<(), AllocError>
         Body::Granted { ino, g, mode } => put_lock(out, *ino, *g, *mode),
         Body::Queued { ino, mode } => put_wish(out, *ino, *mode),
         Body::Demand { ino, g, to } => put_lock(out, *ino, *g, *to),
-        Body::Extents { ino, rows } => {
-            put_word32(out, *ino)?;
-            put_extents(out, rows)?;
-            Ok(())
-        }
+        Body::Extents { ino, rows } => put_mapped(out, *ino, rows),
         Body::Named(reply) => put_name_reply(out, reply),
-        Body::App { op, ask } => {
-            put_word32(out, *op)?;
-            put_ask(out, ask)?;
-            Ok(())
-        }
-        Body::AppDone { op, answer } => {
-            put_word32(out, *op)?;
-            put_answer(out, answer)?;
-            Ok(())
-        }
-        Body::Submit { command, at, what } => {
-            put_word64(out, *command)?;
-            put_block(out, *at)?;
-            put_command(out, what)?;
-            Ok(())
-        }
-        Body::Done { command, result } => {
-            put_word64(out, *command)?;
-            put_disk_result(out, result)?;
-            Ok(())
-        }
+        Body::App { op, ask } => put_app(out, *op, ask),
+        Body::AppDone { op, answer } => put_app_done(out, *op, answer),
+        Body::Submit { command, at, what } => put_submit(out, *command, *at, what),
+        Body::Done { command, result } => put_done(out, *command, result),
         Body::Hello => Ok(()),
         Body::KeepAlive => Ok(()),
         Body::Welcome => Ok(()),

@@ -24,10 +24,6 @@ mod range;
 mod refusal;
 mod row;
 mod spell;
-#[cfg(test)]
-mod tests;
-#[cfg(test)]
-mod wire_table;
 
 pub use answer::AppAnswer;
 pub use ask::Ask;

@@ -85,7 +85,7 @@ pub enum DiskResult {
 }
 
 /// What a message says, one variant per kind.
-#[derive(Drop)]
+#[derive(Clone, Drop)]
 pub enum Body {
     Hello,
     KeepAlive,
@@ -174,6 +174,14 @@ pub struct Message {
     pub body: Body,
 }
 
+impl Clone for NameOp {
+    ghost is_clone = { λ o c. c ≡ o };
+
+    fn clone(&self) -> Result<NameOp, AllocError> {
+        self.copy()
+    }
+}
+
 impl NameOp {
     /// The same op, once more.
     pub fn copy(&self) -> Result<NameOp, AllocError>
@@ -216,6 +224,14 @@ impl NameOp {
     }
 }
 
+impl Clone for NameReply {
+    ghost is_clone = { λ r c. c ≡ r };
+
+    fn clone(&self) -> Result<NameReply, AllocError> {
+        self.copy()
+    }
+}
+
 impl NameReply {
     /// The same reply, once more.
     pub fn copy(&self) -> Result<NameReply, AllocError>
@@ -226,6 +242,14 @@ impl NameReply {
             NameReply::Listed(rows) => Ok(NameReply::Listed(rows.copy()?)),
             NameReply::Refused(code) => Ok(NameReply::Refused(*code)),
         }
+    }
+}
+
+impl Clone for DiskResult {
+    ghost is_clone = { λ d c. c ≡ d };
+
+    fn clone(&self) -> Result<DiskResult, AllocError> {
+        self.copy()
     }
 }
 
@@ -247,88 +271,15 @@ impl Body {
     pub fn copy(&self) -> Result<Body, AllocError>
         ensures { IfOk result (λ b. b ≡ self.now) }
     {
-        match self {
-            Body::Hello => Ok(Body::Hello),
-            Body::KeepAlive => Ok(Body::KeepAlive),
-            Body::Acquire { ino, mode } => Ok(Body::Acquire {
-                ino: *ino,
-                mode: *mode,
-            }),
-            Body::Released { ino, g, to } => Ok(Body::Released {
-                ino: *ino,
-                g: *g,
-                to: *to,
-            }),
-            Body::Map { ino, g, page } => Ok(Body::Map {
-                ino: *ino,
-                g: *g,
-                page: *page,
-            }),
-            Body::Allocate {
-                ino,
-                g,
-                page,
-                count,
-            } => Ok(Body::Allocate {
-                ino: *ino,
-                g: *g,
-                page: *page,
-                count: *count,
-            }),
-            Body::Cut { ino, g, from } => Ok(Body::Cut {
-                ino: *ino,
-                g: *g,
-                from: *from,
-            }),
-            Body::Name(op) => Ok(Body::Name(op.copy()?)),
-            Body::Reassert(rows) => Ok(Body::Reassert(rows.copy()?)),
-            Body::DemandSeen { ino, g } => Ok(Body::DemandSeen { ino: *ino, g: *g }),
-            Body::Welcome => Ok(Body::Welcome),
-            Body::Ack => Ok(Body::Ack),
-            Body::Nack { why, a, b } => Ok(Body::Nack {
-                why: *why,
-                a: *a,
-                b: *b,
-            }),
-            Body::Granted { ino, g, mode } => Ok(Body::Granted {
-                ino: *ino,
-                g: *g,
-                mode: *mode,
-            }),
-            Body::Queued { ino, mode } => Ok(Body::Queued {
-                ino: *ino,
-                mode: *mode,
-            }),
-            Body::Demand { ino, g, to } => Ok(Body::Demand {
-                ino: *ino,
-                g: *g,
-                to: *to,
-            }),
-            Body::Extents { ino, rows } => Ok(Body::Extents {
-                ino: *ino,
-                rows: rows.copy()?,
-            }),
-            Body::Named(reply) => Ok(Body::Named(reply.copy()?)),
-            Body::Reasserted => Ok(Body::Reasserted),
-            Body::Tick => Ok(Body::Tick),
-            Body::App { op, ask } => Ok(Body::App {
-                op: *op,
-                ask: ask.copy()?,
-            }),
-            Body::AppDone { op, answer } => Ok(Body::AppDone {
-                op: *op,
-                answer: answer.copy()?,
-            }),
-            Body::Submit { command, at, what } => Ok(Body::Submit {
-                command: *command,
-                at: *at,
-                what: what.copy()?,
-            }),
-            Body::Done { command, result } => Ok(Body::Done {
-                command: *command,
-                result: result.copy()?,
-            }),
-        }
+        self.clone()
+    }
+}
+
+impl Clone for Message {
+    ghost is_clone = { λ m c. c ≡ m };
+
+    fn clone(&self) -> Result<Message, AllocError> {
+        self.copy()
     }
 }
 

@@ -4,18 +4,21 @@ ghost use Rattle.st_codec.specs.Spelling as spells;
 use st_base::{BlockAt, FileId, GrantNo, Mode, Name, Tag};
 use std::alloc::AllocError;
 
+#[tactic(auto, unfolding(crate::specs::Spelling::word16))]
 pub(crate) fn put_word16(out: &mut Vec<u8>, number: u16) -> Result<(), AllocError>
     ensures { OnOk result (out.new.items ≡ out.old.items ++ spells.word16 number) }
 {
     out.extend_from_slice(&number.to_be_bytes())
 }
 
+#[tactic(auto, unfolding(crate::specs::Spelling::word32))]
 pub(crate) fn put_word32(out: &mut Vec<u8>, number: u32) -> Result<(), AllocError>
     ensures { OnOk result (out.new.items ≡ out.old.items ++ spells.word32 number) }
 {
     out.extend_from_slice(&number.to_be_bytes())
 }
 
+#[tactic(auto, unfolding(crate::specs::Spelling::word64))]
 pub(crate) fn put_word64(out: &mut Vec<u8>, number: u64) -> Result<(), AllocError>
     ensures { OnOk result (out.new.items ≡ out.old.items ++ spells.word64 number) }
 {

@@ -5,8 +5,6 @@
 mod blocks;
 mod commands;
 mod disks;
-#[cfg(test)]
-mod tests;
 
 pub use disks::Disks;
 pub use st_base::{BlockAt, Command, Tag};

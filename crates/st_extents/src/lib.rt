@@ -4,8 +4,6 @@
 mod extents;
 mod layout;
 mod rows;
-#[cfg(test)]
-mod tests;
 
 pub use extents::Extents;
 pub use st_rules::{Extent, ExtentRefusal};

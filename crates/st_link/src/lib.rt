@@ -6,8 +6,6 @@ mod ends;
 mod link;
 mod memory;
 mod safe;
-#[cfg(test)]
-mod tests;
 mod whole;
 
 pub use ends::{ReaderSource, WriterSink};

@@ -5,8 +5,6 @@
 mod log;
 mod marks;
 mod pages;
-#[cfg(test)]
-mod tests;
 
 pub use log::FlatLog;
 pub use st_rules::{Cause, Change, EntryHead, Fate, LogEntry, LogOwner};

@@ -4,8 +4,6 @@
 mod entries;
 mod listing;
 mod names;
-#[cfg(test)]
-mod tests;
 mod words;
 
 pub use names::Names;

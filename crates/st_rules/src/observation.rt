@@ -7,7 +7,7 @@ use std::alloc::AllocError;
 use thiserror::Error;
 
 /// What is seen of a world: one variant for each text of a report.
-#[derive(Drop)]
+#[derive(Clone, Drop)]
 pub enum Observation {
     /// Message `k` is sent.
     Sent {
@@ -129,101 +129,6 @@ impl Observation {
     pub fn copy(&self) -> Result<Observation, AllocError>
         ensures { IfOk result (λ o. o ≡ self.now) }
     {
-        match self {
-            Observation::Sent { k, message } => Ok(Observation::Sent {
-                k: *k,
-                message: message.copy()?,
-            }),
-            Observation::Submitted {
-                k,
-                client,
-                number,
-                what,
-            } => Ok(Observation::Submitted {
-                k: *k,
-                client: *client,
-                number: *number,
-                what: what.copy()?,
-            }),
-            Observation::Answered { client, op, answer } => Ok(Observation::Answered {
-                client: *client,
-                op: *op,
-                answer: answer.copy()?,
-            }),
-            Observation::Wrote {
-                index,
-                client,
-                file,
-                page,
-                bytes,
-            } => Ok(Observation::Wrote {
-                index: *index,
-                client: *client,
-                file: *file,
-                page: *page,
-                bytes: bytes.copy()?,
-            }),
-            Observation::Patched {
-                index,
-                client,
-                file,
-                page,
-                at,
-                bytes,
-            } => Ok(Observation::Patched {
-                index: *index,
-                client: *client,
-                file: *file,
-                page: *page,
-                at: *at,
-                bytes: bytes.copy()?,
-            }),
-            Observation::CutAt { index, file, from } => Ok(Observation::CutAt {
-                index: *index,
-                file: *file,
-                from: *from,
-            }),
-            Observation::Hardened(index) => Ok(Observation::Hardened(*index)),
-            Observation::Dropped { index, cause } => Ok(Observation::Dropped {
-                index: *index,
-                cause: *cause,
-            }),
-            Observation::Leased {
-                client,
-                server,
-                end,
-            } => Ok(Observation::Leased {
-                client: *client,
-                server: *server,
-                end: *end,
-            }),
-            Observation::Lost {
-                client,
-                server,
-                life,
-            } => Ok(Observation::Lost {
-                client: *client,
-                server: *server,
-                life: *life,
-            }),
-            Observation::Suspected {
-                server,
-                client,
-                start,
-            } => Ok(Observation::Suspected {
-                server: *server,
-                client: *client,
-                start: *start,
-            }),
-            Observation::Stolen {
-                server,
-                client,
-                life,
-            } => Ok(Observation::Stolen {
-                server: *server,
-                client: *client,
-                life: *life,
-            }),
-        }
+        self.clone()
     }
 }

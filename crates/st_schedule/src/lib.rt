@@ -20,5 +20,3 @@ pub use law::{
 pub use printing::print;
 pub use reader::{Line, Progress, ScheduleReader};
 
-#[cfg(test)]
-mod tests;

@@ -9,5 +9,3 @@ mod report;
 
 pub use program::run;
 
-#[cfg(test)]
-mod tests;

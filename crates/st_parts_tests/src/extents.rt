@@ -1,5 +1,5 @@
-use crate::{ExtentRefusal, Extents};
 use st_base::{FileId, PageNo, ServerId};
+use st_extents::{ExtentRefusal, Extents};
 use std::alloc::{AllocError, Global};
 use std::test::Fail;
 

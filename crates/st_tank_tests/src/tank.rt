@@ -1,5 +1,5 @@
-use crate::program::run;
 use st_link::{MemorySink, MemorySource, SafeSink, SafeSource};
+use st_tank::run;
 use std::alloc::{AllocError, Global};
 use std::process::Abort;
 use std::test::Fail;

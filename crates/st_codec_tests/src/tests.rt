@@ -1,5 +1,5 @@
-use super::*;
 use crate::wire_table::{FAULTS, MESSAGES};
+use st_codec::{CodecRefusal, FrameReader, Message, decode, encode};
 use std::alloc::{AllocError, Global};
 use std::io;
 use std::test::*;

@@ -2,8 +2,8 @@ ghost use Rattle.std.specs.Prelude.{◌≡◌, IfOk};
 ghost use Rattle.st_disk.specs.Calls.{SameSize};
 ghost use Rattle.st_disk.specs.Calls as calls;
 
-use crate::{BlockAt, Command, DiskRefusal, Disks, Tag};
 use st_base::{DiskId, FileId, PageBytes, PageNo, ServerId};
+use st_disk::{BlockAt, Command, DiskRefusal, Disks, Tag};
 use std::alloc::{AllocError, Global};
 use std::test::Fail;
 

@@ -1,5 +1,5 @@
-use crate::{Cause, EntryHead, Fate, FlatLog};
 use st_base::{ClientId, FileId, Life, PageBytes, PageNo, ServerId};
+use st_model::{Cause, EntryHead, Fate, FlatLog};
 use std::alloc::{AllocError, Global};
 use std::fmt::Write;
 use std::test::Fail;

@@ -1,4 +1,4 @@
-use crate::{
+use st_link::{
     Failed, MemorySink, MemorySource, ReadFault, ReaderSource, SafeSink, SafeSource, WriterSink,
     put_all, read_up_to,
 };

@@ -1,7 +1,7 @@
 ghost use Rattle.std.specs.Prelude.{◌≡◌, length};
 
-use crate::{Clock, Drift, Excess, MemoryClock, MonotonicClock, elapsed, rate_ok, steal_wait};
 use st_base::{Config, Stamp};
+use st_clock::{Clock, Drift, Excess, MemoryClock, MonotonicClock, elapsed, rate_ok, steal_wait};
 use std::test::Fail;
 
 /// Lease, numerator, denominator, grain and the wait, from an independent reading of the rules, as are those below.

@@ -1,6 +1,6 @@
-use crate::{Line, ScheduleReader, ScheduleRefusal, print};
 use st_base::Config;
 use st_codec::{Ask, Counts, Event};
+use st_schedule::{Line, ScheduleReader, ScheduleRefusal, print};
 use std::alloc::{AllocError, Global};
 use std::fmt::Write;
 use std::process::Abort;

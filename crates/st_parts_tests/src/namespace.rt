@@ -1,4 +1,4 @@
-use crate::{NameRefusal, NameRow, Names};
+use st_namespace::{NameRefusal, NameRow, Names};
 use std::alloc::{AllocError, Global};
 use std::fmt::Write;
 use std::str;
