@@ -19,4 +19,3 @@ pub use law::{
 };
 pub use printing::print;
 pub use reader::{Line, Progress, ScheduleReader};
-

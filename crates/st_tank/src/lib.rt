@@ -8,4 +8,3 @@ mod replay;
 mod report;
 
 pub use program::run;
-
