@@ -178,12 +178,52 @@ fn is_too_long(reader: &mut FrameReader) -> Result<bool, AllocError> {
     }
 }
 
+/// The first hello of a client.
+fn first_hello(alloc: Global) -> Result<Vec<u8>, AllocError> {
+    bytes_of(alloc, "01*2 00 01 80 01 00*7 01 00*24")
+}
+
+/// The frame of a message of 38 bytes.
+fn framed(alloc: Global, message: &[u8]) -> Result<Vec<u8>, AllocError> {
+    let mut frame = bytes_of(alloc, "00*3 26")?;
+    frame.extend_from_slice(message)?;
+    Ok(frame)
+}
+
+/// Whether the reader holds all of the first piece of a frame and gives nothing, and then the message.
+fn comes_in_two(
+    alloc: Global,
+    first: &[u8],
+    second: &[u8],
+    message: &[u8],
+) -> Result<bool, AllocError> {
+    let mut reader = FrameReader::new(alloc);
+    reader.feed(first)?;
+    if reader.next()?.is_some() || reader.held() != first.len() || reader.offset() != 0 {
+        return Ok(false);
+    }
+    reader.feed(second)?;
+    gives(alloc, &mut reader, message)
+}
+
+#[test]
+fn a_frame_comes_in_two_pieces(rt: HostRuntime) -> io::Result<()> {
+    let hello = first_hello(rt.alloc())?;
+    let frame = framed(rt.alloc(), hello.as_slice())?;
+    assert_eq!(rt; frame.len(), 42);
+    for len in 0..frame.len() {
+        let (first, second) = frame.split_at(len);
+        assert!(rt; comes_in_two(rt.alloc(), first, second, hello.as_slice())?);
+    }
+    Ok(())
+}
+
 #[test]
 fn a_frame_comes_byte_by_byte(rt: HostRuntime) -> io::Result<()> {
-    let hello = bytes_of(rt.alloc(), "01*2 00 01 80 01 00*7 01 00*24")?;
+    let hello = first_hello(rt.alloc())?;
+    let frame = framed(rt.alloc(), hello.as_slice())?;
     let mut reader = FrameReader::new(rt.alloc());
-    assert!(rt; feed_each(&mut reader, &[0, 0, 0, 38])?);
-    assert!(rt; feed_each(&mut reader, hello.as_slice())?);
+    assert!(rt; feed_each(&mut reader, frame.as_slice())?);
     assert!(rt; gives(rt.alloc(), &mut reader, hello.as_slice())?);
     assert_eq!(rt; reader.offset(), 42);
     assert_eq!(rt; reader.held(), 0);
