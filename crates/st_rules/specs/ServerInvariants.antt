@@ -1,8 +1,8 @@
 -- What stands of a server before and after each of its steps: of each part by itself, and of the parts together.
 use Rattle.std.specs.Prelude.{◌≡◌, ◌+◌, Bool, true, ◌&&◌, not, nat_le, nat_lt, List, [], ◌∷◌, Option, Some, None, is_some, ⊤}
 use Rattle.std.specs.List.{list_all, list_any}
-use Rattle.st_codec.specs.declared.message.Body.{Body}
-use Rattle.st_codec.specs.Fits.{is_body}
+use Rattle.st_messages.specs.declared.message.Body.{Body}
+use Rattle.st_messages.specs.Fits.{is_body}
 use Rattle.st_rules.specs.declared.authority.Suspect.{Suspect}
 use Rattle.st_rules.specs.declared.locks.LockRow.{LockRow}
 use Rattle.st_rules.specs.declared.locks.Waiter.{Waiter}
