@@ -1,7 +1,7 @@
 -- What every step of a run keeps: a promise over all steps, and a fact of the world over all events.
 use Rattle.std.proofs.Common.{◌≡◌, List, [], ◌∷◌, ◌++◌, Option, Some, None, Ok, Err, refl}
 use Rattle.std.specs.Prelude.{Result}
-use Rattle.st_codec.specs.declared.event.Event.{Event}
+use Rattle.st_messages.specs.declared.event.Event.{Event}
 use Rattle.st_rules.specs.declared.observation.WorldRefusal.{WorldRefusal}
 use Rattle.st_rules.specs.World.{World}
 use Rattle.st_rules.specs.Admissible as admissible
