@@ -1,7 +1,7 @@
 ghost use Rattle.std.specs.Prelude.{◌≡◌, IfOk};
 
 use st_base::{BlockAt, GrantNo, Mode, PageBytes, PageNo, Stamp, Tag};
-use st_codec::{Ask, Body, Message};
+use st_messages::{Ask, Body, Message};
 use std::alloc::AllocError;
 
 /// What comes to a client.
