@@ -35,6 +35,6 @@ pub use log::{Cause, Change, EntryHead, Fate, LogEntry, LogOwner};
 pub use names::NameEntry;
 pub use observation::{Observation, Summary, WorldRefusal};
 pub use pages::DirtyPage;
-pub use run::{runs_go_on_in_parts, traced_runs_are_runs};
+pub use run::{runs_go_on_in_parts, steps_are_the_run, traced_runs_are_runs};
 pub use sessions::{Hello, Session, SessionState, Taken};
 pub use world::{Carried, CutLink, FlushStep, IssuedCommand, LeaseLife, SentMessage};
