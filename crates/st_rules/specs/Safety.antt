@@ -754,19 +754,18 @@ is_dated_life h e = has_date h e e.end
 abbrev pub all_lives : World → List LeaseLife
 all_lives w = present_lives w.clients ++ w.ended
 
--- the file of an entry, and of a grant
-abbrev pub file_of_entry : LogEntry → FileId
-file_of_entry e = e.of.file
-
--- the file of a grant
-abbrev pub file_of_grant : EntryGrant → FileId
-file_of_grant e = e.file
+-- each entry of the log has one grant, of its file
+unfoldable pub fit_log : List EntryGrant → List LogEntry → Bool
+fit_log [] [] = true
+fit_log [] (e ∷ es) = false
+fit_log (g ∷ gs) [] = false
+fit_log (g ∷ gs) (e ∷ es) = same_file g.file e.of.file && fit_log gs es
 
 -- The history is the world's
 pub record IsWorldsHistory (t : Traced) : Type 0 where
   pub timers : list_all (agree_on_timers t) (all_servers t.world) ≡ true
   pub dates : list_all (is_dated_life t.history) (all_lives t.world) ≡ true
-  pub grants : map file_of_grant t.history.grants ≡ map file_of_entry t.world.log
+  pub grants : fit_log t.history.grants t.world.log ≡ true
 
 -- The history is the world's, behind every event
 abbrev pub TheHistoryIsTheWorlds : Promise
@@ -891,5 +890,5 @@ pub record IsAllPromised : Type 0 where
 
 -- opens all of this file
 unfoldable pub safety_open : ⊤
-unfolding steps_on steps left_by Throughout ask_of_client log_behind AtEach log_told all_tell_log AreLogged never_fall keep_hard replied_from
+unfolding steps_on steps left_by Throughout ask_of_client log_behind AtEach log_told all_tell_log AreLogged never_fall fit_log keep_hard replied_from
 safety_open = tt
