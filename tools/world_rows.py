@@ -122,7 +122,7 @@ FILES = {
 # the rows over which every promise is computed
 FIELDS = [
     "alone", "reads", "causes", "stays", "hard", "thefts", "dates", "waits", "conflicts",
-    "told", "logged", "locked", "order", "emptied", "history",
+    "told", "logged", "once", "locked", "order", "emptied", "history",
 ]
 SAFE = [
     ("theft", "theft_is_safe", "Every promise is kept in the row of the theft."),

@@ -39,6 +39,7 @@ use Rattle.st_rules.specs.Safety.{
   NoConflictIsSent,
   TheReportTellsTheLog,
   AnswersAreLogged,
+  AsksAreAnsweredOnce,
   ChangesAreLocked,
   ChangesGoInTheOrderOfLocks,
   ExpiredLeasesEmptyClients,
@@ -72,10 +73,11 @@ pub record IsKeptBut (ns : List ℕ) (past : List Step) (x : Step) : Type 0 wher
   pub conflicts : unless ns 9 (NoConflictIsSent past x)
   pub told : unless ns 10 (TheReportTellsTheLog past x)
   pub logged : unless ns 11 (AnswersAreLogged past x)
-  pub locked : unless ns 12 (ChangesAreLocked past x)
-  pub order : unless ns 13 (ChangesGoInTheOrderOfLocks past x)
-  pub emptied : unless ns 14 (ExpiredLeasesEmptyClients past x)
-  pub history : unless ns 15 (TheHistoryIsTheWorlds past x)
+  pub once : unless ns 12 (AsksAreAnsweredOnce past x)
+  pub locked : unless ns 13 (ChangesAreLocked past x)
+  pub order : unless ns 14 (ChangesGoInTheOrderOfLocks past x)
+  pub emptied : unless ns 15 (ExpiredLeasesEmptyClients past x)
+  pub history : unless ns 16 (TheHistoryIsTheWorlds past x)
 
 -- A run in which a client writes a page, its lease is dated from a request that was sent at 400 and answered at 450, and an
 -- ask follows.
@@ -278,7 +280,7 @@ ticking x = record x { event = events.Tick (client_node 1) }
 
 -- the steps that break a promise each
 unfoldable pub stale_read : Step
-stale_read = seeing (answered 1 2 (answers.Read (filled 0)) ∷ []) (still (here reading))
+stale_read = by_event reading (seeing (answered 1 3 (answers.Read (filled 0)) ∷ []) (still (here reading)))
 
 unfoldable pub beside_a_lock : Step
 beside_a_lock = leaving with_other_row (still (here reading))
@@ -338,19 +340,31 @@ cut_and_not_logged = seeing (answered 1 2 answers.Cut ∷ []) (still (here cutti
 unfoldable pub past_cut : List Step
 past_cut = seeing (cut 1 1 2 0 ∷ []) (still (traced (world_of 2 1 1 8))) ∷ past cutting
 
--- a client writes once more: who it is, the number that is told, and the grant number
-abbrev pub writes_again : ℕ → ℕ → ℕ → Step
-writes_again n index grant =
-    seeing (wrote index n 1 2 0 (filled 5) ∷ []) (recalling (with_grant (on 1 2) (g grant)) (leaving (written_by n) (still (here reading))))
+-- a client writes once more: who it is, which of its asks it is, the number that is told, and the grant number
+abbrev pub writing_again : ℕ → Event
+writing_again n = ask n (asks.Write (on 1 2) (page 0) (filled 5))
+
+abbrev pub logs_again : ℕ → ℕ → List Observation → Step
+logs_again n grant lines =
+    by_event (writing_again n) (seeing lines (recalling (with_grant (on 1 2) (g grant)) (leaving (written_by n) (still (here reading)))))
+
+abbrev pub writes_again : ℕ → ℕ → ℕ → ℕ → Step
+writes_again n op index grant = logs_again n grant (wrote index n 1 2 0 (filled 5) ∷ answered n op answers.Written ∷ [])
 
 unfoldable pub written_under_another_number : Step
-written_under_another_number = writes_again 1 5 4294967297
+written_under_another_number = writes_again 1 3 5 4294967297
+
+unfoldable pub written_and_not_answered : Step
+written_and_not_answered = logs_again 1 4294967297 (wrote 2 1 1 2 0 (filled 5) ∷ [])
+
+unfoldable pub answered_twice : Step
+answered_twice = seeing (answered 1 1 answers.Quiesced ∷ []) (still (here reading))
 
 unfoldable pub written_without_a_lock : Step
-written_without_a_lock = writes_again 2 2 4294967297
+written_without_a_lock = writes_again 2 1 2 4294967297
 
 unfoldable pub written_under_a_lesser_grant : Step
-written_under_a_lesser_grant = writes_again 1 2 4294967296
+written_under_a_lesser_grant = writes_again 1 3 2 4294967296
 
 unfoldable pub cut_without_a_lock : Step
 cut_without_a_lock = seeing (cut 2 1 3 0 ∷ []) (recalling (with_grant (on 1 3) (g 4294967298)) (leaving cut_once (still (here reading))))
@@ -366,7 +380,7 @@ unfoldable pub submitted_behind_the_end : Step
 submitted_behind_the_end = seeing (read_out 1 1 1 1 0 ∷ []) (leaving all_emptied (late (still (here reading))))
 
 unfoldable pub read_behind_the_end : Step
-read_behind_the_end = seeing (answered 1 2 (answers.Read (filled 77)) ∷ []) (leaving all_emptied (late (still (here reading))))
+read_behind_the_end = by_event reading (seeing (answered 1 3 (answers.Read (filled 77)) ∷ []) (leaving all_emptied (late (still (here reading)))))
 
 unfoldable pub timer_unknown : Step
 timer_unknown = leaving suspecting (still (here reading))
@@ -381,5 +395,5 @@ unfoldable pub grant_unknown : Step
 grant_unknown = recalling without_grants (still (here reading))
 
 unfoldable pub broken_open : ⊤
-unfolding world_words_open prepared past here met past_met here_met past_cut stale_read beside_a_lock beside_a_held_lock dropped_without_a_crash dropped_by_another_command dropped_without_a_report hard_no_more hard_too_early stolen_early stolen_as_another_life dated_from_the_arrival replied_behind_a_timer grace_too_short grace_never_begun conflict_sent hard_and_pending hard_twice written_and_not_logged cut_and_not_logged written_under_another_number written_without_a_lock written_under_a_lesser_grant cut_without_a_lock kept_behind_the_end submitted_behind_the_end read_behind_the_end timer_unknown timer_without_a_suspect date_unknown grant_unknown
+unfolding world_words_open prepared past here met past_met here_met past_cut stale_read beside_a_lock beside_a_held_lock dropped_without_a_crash dropped_by_another_command dropped_without_a_report hard_no_more hard_too_early stolen_early stolen_as_another_life dated_from_the_arrival replied_behind_a_timer grace_too_short grace_never_begun conflict_sent hard_and_pending hard_twice written_and_not_logged cut_and_not_logged written_under_another_number written_and_not_answered answered_twice written_without_a_lock written_under_a_lesser_grant cut_without_a_lock kept_behind_the_end submitted_behind_the_end read_behind_the_end timer_unknown timer_without_a_suspect date_unknown grant_unknown
 broken_open = tt

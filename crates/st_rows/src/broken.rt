@@ -1,6 +1,6 @@
 ghost use Rattle.std.specs.Prelude.{◌∷◌, []};
-ghost use Rattle.st_rows.specs.Broken.{IsKeptBut, beside_a_held_lock, beside_a_lock, conflict_sent, cut_and_not_logged, cut_without_a_lock, cutting, date_unknown, dated_from_the_arrival, dropped_by_another_command, dropped_without_a_crash, dropped_without_a_report, grace_never_begun, grace_too_short, grant_unknown, hard_and_pending, hard_no_more, hard_too_early, hard_twice, kept_behind_the_end, past, past_cut, past_met, read_behind_the_end, reading, replied_behind_a_timer, stale_read, stolen_as_another_life, stolen_early, submitted_behind_the_end, syncing, timer_unknown, timer_without_a_suspect, writing, written_and_not_logged, written_under_a_lesser_grant, written_under_another_number, written_without_a_lock};
-ghost use Rattle.st_rules.specs.Safety.{AnswersAreLogged, ChangesAreLocked, ChangesGoInTheOrderOfLocks, DirtyPagesStandAlone, DropsHaveACause, ExpiredLeasesEmptyClients, GraceWaits, HardIsHard, HardStaysHard, LeasesAreDatedFromRequests, NoConflictIsSent, ReadsReturnLastWrites, TheHistoryIsTheWorlds, TheReportTellsTheLog, TheftsComeLate};
+ghost use Rattle.st_rows.specs.Broken.{IsKeptBut, answered_twice, beside_a_held_lock, beside_a_lock, conflict_sent, cut_and_not_logged, cut_without_a_lock, cutting, date_unknown, dated_from_the_arrival, dropped_by_another_command, dropped_without_a_crash, dropped_without_a_report, grace_never_begun, grace_too_short, grant_unknown, hard_and_pending, hard_no_more, hard_too_early, hard_twice, kept_behind_the_end, past, past_cut, past_met, read_behind_the_end, reading, replied_behind_a_timer, stale_read, stolen_as_another_life, stolen_early, submitted_behind_the_end, syncing, timer_unknown, timer_without_a_suspect, writing, written_and_not_answered, written_and_not_logged, written_under_a_lesser_grant, written_under_another_number, written_without_a_lock};
+ghost use Rattle.st_rules.specs.Safety.{AnswersAreLogged, AsksAreAnsweredOnce, ChangesAreLocked, ChangesGoInTheOrderOfLocks, DirtyPagesStandAlone, DropsHaveACause, ExpiredLeasesEmptyClients, GraceWaits, HardIsHard, HardStaysHard, LeasesAreDatedFromRequests, NoConflictIsSent, ReadsReturnLastWrites, TheHistoryIsTheWorlds, TheReportTellsTheLog, TheftsComeLate};
 
 /// A page that is dirty while another client has a row of its file.
 #[tactic(auto, unfolding(crate::specs::Broken::broken_open))]
@@ -149,72 +149,86 @@ pub fn a_cut_from_before_the_ask_is_refused()
     ensures kept { IsKeptBut (11 ∷ []) past_cut cut_and_not_logged }
 {}
 
+/// A write that is logged and not answered.
+#[tactic(auto, unfolding(crate::specs::Broken::broken_open))]
+pub fn a_write_that_is_not_answered_is_refused()
+    ensures broken { ¬ AsksAreAnsweredOnce (past reading) written_and_not_answered }
+    ensures kept { IsKeptBut (12 ∷ []) (past reading) written_and_not_answered }
+{}
+
+/// An ask that is answered a second time.
+#[tactic(auto, unfolding(crate::specs::Broken::broken_open))]
+pub fn a_second_answer_is_refused()
+    ensures broken { ¬ AsksAreAnsweredOnce (past reading) answered_twice }
+    ensures kept { IsKeptBut (12 ∷ []) (past reading) answered_twice }
+{}
+
 /// A write that is logged for a client without a lease or a lock.
 #[tactic(auto, unfolding(crate::specs::Broken::broken_open))]
 pub fn a_write_without_a_lock_is_refused()
     ensures broken { ¬ ChangesAreLocked (past reading) written_without_a_lock }
-    ensures kept { IsKeptBut (12 ∷ []) (past reading) written_without_a_lock }
+    ensures kept { IsKeptBut (13 ∷ []) (past reading) written_without_a_lock }
 {}
 
 /// A cut of a file on which the server has no exclusive row.
 #[tactic(auto, unfolding(crate::specs::Broken::broken_open))]
 pub fn a_cut_without_a_lock_is_refused()
     ensures broken { ¬ ChangesAreLocked (past reading) cut_without_a_lock }
-    ensures kept { IsKeptBut (12 ∷ []) (past reading) cut_without_a_lock }
+    ensures kept { IsKeptBut (13 ∷ []) (past reading) cut_without_a_lock }
 {}
 
 /// A write that is accepted under a lesser grant number than the one before it.
 #[tactic(auto, unfolding(crate::specs::Broken::broken_open))]
 pub fn a_write_under_a_lesser_grant_is_refused()
     ensures broken { ¬ ChangesGoInTheOrderOfLocks (past reading) written_under_a_lesser_grant }
-    ensures kept { IsKeptBut (13 ∷ []) (past reading) written_under_a_lesser_grant }
+    ensures kept { IsKeptBut (14 ∷ []) (past reading) written_under_a_lesser_grant }
 {}
 
 /// A client that takes a step at its lease end and keeps what it had.
 #[tactic(auto, unfolding(crate::specs::Broken::broken_open))]
 pub fn a_client_that_keeps_what_it_had_is_refused()
     ensures broken { ¬ ExpiredLeasesEmptyClients (past reading) kept_behind_the_end }
-    ensures kept { IsKeptBut (14 ∷ []) (past reading) kept_behind_the_end }
+    ensures kept { IsKeptBut (15 ∷ []) (past reading) kept_behind_the_end }
 {}
 
 /// A client that submits a command in the step in which it loses its lease.
 #[tactic(auto, unfolding(crate::specs::Broken::broken_open))]
 pub fn a_command_behind_the_end_is_refused()
     ensures broken { ¬ ExpiredLeasesEmptyClients (past reading) submitted_behind_the_end }
-    ensures kept { IsKeptBut (14 ∷ []) (past reading) submitted_behind_the_end }
+    ensures kept { IsKeptBut (15 ∷ []) (past reading) submitted_behind_the_end }
 {}
 
 /// A client that answers a read in the step in which it loses its lease.
 #[tactic(auto, unfolding(crate::specs::Broken::broken_open))]
 pub fn a_read_behind_the_end_is_refused()
     ensures broken { ¬ ExpiredLeasesEmptyClients (past reading) read_behind_the_end }
-    ensures kept { IsKeptBut (14 ∷ []) (past reading) read_behind_the_end }
+    ensures kept { IsKeptBut (15 ∷ []) (past reading) read_behind_the_end }
 {}
 
 /// A server that suspects a client while the history has no timer.
 #[tactic(auto, unfolding(crate::specs::Broken::broken_open))]
 pub fn a_timer_that_is_not_remembered_is_refused()
     ensures broken { ¬ TheHistoryIsTheWorlds (past reading) timer_unknown }
-    ensures kept { IsKeptBut (15 ∷ []) (past reading) timer_unknown }
+    ensures kept { IsKeptBut (16 ∷ []) (past reading) timer_unknown }
 {}
 
 /// A timer of the history while no server suspects the client.
 #[tactic(auto, unfolding(crate::specs::Broken::broken_open))]
 pub fn a_timer_without_a_suspect_is_refused()
     ensures broken { ¬ TheHistoryIsTheWorlds (past reading) timer_without_a_suspect }
-    ensures kept { IsKeptBut (15 ∷ []) (past reading) timer_without_a_suspect }
+    ensures kept { IsKeptBut (16 ∷ []) (past reading) timer_without_a_suspect }
 {}
 
 /// A lease that does not stand among the dates.
 #[tactic(auto, unfolding(crate::specs::Broken::broken_open))]
 pub fn a_lease_without_a_date_is_refused()
     ensures broken { ¬ TheHistoryIsTheWorlds (past reading) date_unknown }
-    ensures kept { IsKeptBut (15 ∷ []) (past reading) date_unknown }
+    ensures kept { IsKeptBut (16 ∷ []) (past reading) date_unknown }
 {}
 
 /// An entry of the log that has no grant.
 #[tactic(auto, unfolding(crate::specs::Broken::broken_open))]
 pub fn an_entry_without_a_grant_is_refused()
     ensures broken { ¬ TheHistoryIsTheWorlds (past reading) grant_unknown }
-    ensures kept { IsKeptBut (15 ∷ []) (past reading) grant_unknown }
+    ensures kept { IsKeptBut (16 ∷ []) (past reading) grant_unknown }
 {}

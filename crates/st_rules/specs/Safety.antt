@@ -317,6 +317,59 @@ AreLogged past x line (o ∷ os) = IsLogged past x line o × AreLogged past x (S
 abbrev pub AnswersAreLogged : Promise
 AnswersAreLogged past x = AreLogged past x None x.seen
 
+-- Asks are answered once: each answer goes to an ask of its client that was not answered before, and behind the line of a write or
+-- a patch comes at once the `written` of its client. So each ask has one line in the log at most, and each line has its ask.
+abbrev pub is_answer_to : ClientId → ℕ → Observation → Bool
+is_answer_to c op (seen.Answered d n answer) = same_client d c && (n == op)
+is_answer_to c op o = false
+
+-- the ask was answered in a step
+abbrev pub answers_in : ClientId → ℕ → Step → Bool
+answers_in c op x = list_any (is_answer_to c op) x.seen
+
+-- the ask was answered in earlier steps, or by earlier lines
+abbrev pub was_answered : List Step → List Observation → ClientId → ℕ → Bool
+was_answered past lines c op = list_any (answers_in c op) past || list_any (is_answer_to c op) lines
+
+-- it is the first answer to something that was asked
+abbrev pub is_first_answer : List Step → Step → List Observation → ClientId → ℕ → Bool
+is_first_answer past x lines c op = is_some (ask_of past x c op) && not (was_answered past lines c op)
+
+-- an observation that is no answer owes nothing
+abbrev pub is_answered_once : List Step → Step → List Observation → Observation → Bool
+is_answered_once past x lines (seen.Answered c op answer) = is_first_answer past x lines c op
+is_answered_once past x lines o = true
+
+-- each of these observations, behind these lines
+unfoldable pub all_answered_once : List Step → Step → List Observation → List Observation → Bool
+all_answered_once past x lines [] = true
+all_answered_once past x lines (o ∷ os) = is_answered_once past x lines o && all_answered_once past x (lines ++ o ∷ []) os
+
+-- a client is answered `written`
+abbrev pub is_written_to : ClientId → Observation → Bool
+is_written_to c (seen.Answered d op answers.Written) = same_client d c
+is_written_to c o = false
+
+-- the first of these lines answers a client `written`
+abbrev pub begins_written : ClientId → List Observation → Bool
+begins_written c [] = false
+begins_written c (o ∷ os) = is_written_to c o
+
+-- the line of a write or a patch is followed by its answer
+abbrev pub is_followed : Observation → List Observation → Bool
+is_followed (seen.Wrote index c f p bytes) os = begins_written c os
+is_followed (seen.Patched index c f p at bytes) os = begins_written c os
+is_followed o os = true
+
+-- each of these lines is followed by what it owes
+unfoldable pub all_followed : List Observation → Bool
+all_followed [] = true
+all_followed (o ∷ os) = is_followed o os && all_followed os
+
+-- Asks are answered once
+abbrev pub AsksAreAnsweredOnce : Promise
+AsksAreAnsweredOnce past x = all_answered_once past x [] x.seen && all_followed x.seen ≡ true
+
 -- Changes are locked: behind an event that logged a write or a patch, its client's lease lasts, the client has an exclusive lock on
 -- the file, and the page is dirty. Behind one that logged a cut, the file's server runs and has an exclusive row on the file.
 abbrev pub has_exclusive : ℕ → Option Association → Bool
@@ -865,6 +918,7 @@ pub record IsSafe (xs : List Step) : Type 0 where
   pub conflicts : Throughout NoConflictIsSent [] xs
   pub told : Throughout TheReportTellsTheLog [] xs
   pub logged : Throughout AnswersAreLogged [] xs
+  pub once : Throughout AsksAreAnsweredOnce [] xs
   pub locked : Throughout ChangesAreLocked [] xs
   pub order : Throughout ChangesGoInTheOrderOfLocks [] xs
   pub emptied : Throughout ExpiredLeasesEmptyClients [] xs
@@ -890,5 +944,5 @@ pub record IsAllPromised : Type 0 where
 
 -- opens all of this file
 unfoldable pub safety_open : ⊤
-unfolding steps_on steps left_by Throughout ask_of_client log_behind AtEach log_told all_tell_log AreLogged never_fall fit_log keep_hard replied_from
+unfolding steps_on steps left_by Throughout ask_of_client log_behind AtEach log_told all_tell_log AreLogged all_answered_once all_followed never_fall fit_log keep_hard replied_from
 safety_open = tt

@@ -20,6 +20,7 @@ returns c =
       conflicts = (refl, (refl, (refl, (refl, (refl, (refl, (refl, (refl, (refl, (refl, (refl, (refl, (refl, (refl, (refl, (refl, (refl, (refl, (refl, (refl, (refl, (refl, tt))))))))))))))))))))));
       told = (record { entries = through ([]) refl refl; numbers = refl }, (record { entries = through ([]) refl refl; numbers = refl }, (record { entries = through ([]) refl refl; numbers = refl }, (record { entries = through ([]) refl refl; numbers = refl }, (record { entries = through ([]) refl refl; numbers = refl }, (record { entries = through ([]) refl refl; numbers = refl }, (record { entries = through (((written 1 1 1 2 0 (filled 77) fates.Pending) ∷ [])) refl refl; numbers = refl }, (record { entries = through (((written 1 1 1 2 0 (filled 77) fates.Pending) ∷ [])) refl refl; numbers = refl }, (record { entries = through (((written 1 1 1 2 0 (filled 77) fates.Pending) ∷ [])) refl refl; numbers = refl }, (record { entries = through (((written 1 1 1 2 0 (filled 77) fates.Pending) ∷ [])) refl refl; numbers = refl }, (record { entries = through (((written 1 1 1 2 0 (filled 77) fates.Pending) ∷ [])) refl refl; numbers = refl }, (record { entries = through (((written 1 1 1 2 0 (filled 77) fates.Pending) ∷ [])) refl refl; numbers = refl }, (record { entries = through (((written 1 1 1 2 0 (filled 77) fates.Pending) ∷ [])) refl refl; numbers = refl }, (record { entries = through (((written 1 1 1 2 0 (filled 77) fates.Pending) ∷ [])) refl refl; numbers = refl }, (record { entries = through (((written 1 1 1 2 0 (filled 77) fates.Pending) ∷ [])) refl refl; numbers = refl }, (record { entries = through (((written 1 1 1 2 0 (filled 77) fates.Pending) ∷ [])) refl refl; numbers = refl }, (record { entries = through (((written 1 1 1 2 0 (filled 77) fates.Pending) ∷ [])) refl refl; numbers = refl }, (record { entries = through (((written 1 1 1 2 0 (filled 77) fates.Pending) ∷ [])) refl refl; numbers = refl }, (record { entries = through (((written 1 1 1 2 0 (filled 77) fates.Pending) ∷ [])) refl refl; numbers = refl }, (record { entries = through (((written 1 1 1 2 0 (filled 77) fates.Pending) ∷ [])) refl refl; numbers = refl }, (record { entries = through (((written 1 1 1 2 0 (filled 77) fates.Pending) ∷ [])) refl refl; numbers = refl }, (record { entries = through (((written 1 1 1 2 0 (filled 77) fates.Pending) ∷ [])) refl refl; numbers = refl }, tt))))))))))))))))))))));
       logged = ((tt, tt), ((tt, tt), ((tt, (tt, tt)), ((tt, tt), ((tt, tt), ((tt, tt), ((tt, (refl, tt)), ((tt, tt), ((tt, tt), ((tt, (tt, tt)), ((tt, (tt, tt)), (tt, ((tt, tt), (tt, (tt, (tt, ((tt, tt), ((tt, tt), ((tt, tt), ((tt, tt), ((tt, tt), ((tt, tt), tt))))))))))))))))))))));
+      once = (refl, (refl, (refl, (refl, (refl, (refl, (refl, (refl, (refl, (refl, (refl, (refl, (refl, (refl, (refl, (refl, (refl, (refl, (refl, (refl, (refl, (refl, tt))))))))))))))))))))));
       locked = (refl, (refl, (refl, (refl, (refl, (refl, (refl, (refl, (refl, (refl, (refl, (refl, (refl, (refl, (refl, (refl, (refl, (refl, (refl, (refl, (refl, (refl, tt))))))))))))))))))))));
       order = (refl, (refl, (refl, (refl, (refl, (refl, (refl, (refl, (refl, (refl, (refl, (refl, (refl, (refl, (refl, (refl, (refl, (refl, (refl, (refl, (refl, (refl, tt))))))))))))))))))))));
       emptied = (refl, (refl, (refl, (refl, (refl, (refl, (refl, (refl, (refl, (refl, (refl, (refl, (refl, (refl, (refl, (refl, (refl, (refl, (refl, (refl, (refl, (refl, tt))))))))))))))))))))));
