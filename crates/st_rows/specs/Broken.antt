@@ -3,12 +3,12 @@ use Rattle.std.specs.Prelude.{ℕ, ◌==◌, Bool, true, false, List, [], ◌∷
 use Rattle.std.specs.List.{list_any}
 use Rattle.st_base.specs.Page.{filled}
 use Rattle.st_base.specs.declared.mode.Mode.TheVariants as modes
-use Rattle.st_codec.specs.declared.answer.AppAnswer.TheVariants as answers
-use Rattle.st_codec.specs.declared.ask.Ask.TheVariants as asks
-use Rattle.st_codec.specs.declared.event.Event.{Event}
-use Rattle.st_codec.specs.declared.event.Event.TheVariants as events
-use Rattle.st_codec.specs.declared.message.Body.TheVariants as bodies
-use Rattle.st_codec.specs.declared.message.Why.TheVariants as why
+use Rattle.st_messages.specs.declared.answer.AppAnswer.TheVariants as answers
+use Rattle.st_messages.specs.declared.ask.Ask.TheVariants as asks
+use Rattle.st_messages.specs.declared.event.Event.{Event}
+use Rattle.st_messages.specs.declared.event.Event.TheVariants as events
+use Rattle.st_messages.specs.declared.message.Body.TheVariants as bodies
+use Rattle.st_messages.specs.declared.message.Why.TheVariants as why
 use Rattle.st_rules.specs.declared.client.HeldLock.{HeldLock}
 use Rattle.st_rules.specs.declared.locks.LockRow.{LockRow}
 use Rattle.st_rules.specs.declared.log.Cause.TheVariants as causes

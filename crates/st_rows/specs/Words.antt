@@ -10,10 +10,10 @@ use Rattle.st_base.specs.declared.ids.Stamp.{Stamp}
 use Rattle.st_base.specs.declared.disk.BlockAt.{BlockAt}
 use Rattle.st_base.specs.declared.names.NameRow.{NameRow}
 use Rattle.st_base.specs.declared.rows.ExtentRow.{ExtentRow}
-use Rattle.st_codec.specs.declared.message.Body.{Body}
-use Rattle.st_codec.specs.declared.output.Note.{Note}
-use Rattle.st_codec.specs.declared.output.Output.{Output}
-use Rattle.st_codec.specs.declared.output.Output.TheVariants as outputs
+use Rattle.st_messages.specs.declared.message.Body.{Body}
+use Rattle.st_messages.specs.declared.output.Note.{Note}
+use Rattle.st_messages.specs.declared.output.Output.{Output}
+use Rattle.st_messages.specs.declared.output.Output.TheVariants as outputs
 use Rattle.st_rules.specs.declared.input.ServerInput.{ServerInput}
 use Rattle.st_rules.specs.declared.input.ServerInput.TheVariants.{Control}
 

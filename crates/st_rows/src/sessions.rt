@@ -1,5 +1,5 @@
 ghost use Rattle.std.specs.Prelude.{◌≡◌, ◌∷◌, [], true, false, Some, None};
-ghost use Rattle.st_codec.specs.declared.message.Body.TheVariants.{Ack, Reasserted};
+ghost use Rattle.st_messages.specs.declared.message.Body.TheVariants.{Ack, Reasserted};
 ghost use Rattle.st_rules.specs.declared.sessions.Hello.TheVariants as hellos;
 ghost use Rattle.st_rules.specs.declared.sessions.Taken.TheVariants as takes;
 ghost use Rattle.st_rules.specs.Sessions as rules;

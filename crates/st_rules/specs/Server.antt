@@ -15,17 +15,17 @@ use Rattle.st_base.specs.Mode.{covers}
 use Rattle.st_base.specs.declared.names.NameRow.{NameRow}
 use Rattle.st_base.specs.declared.names.NameRefusal.{NameRefusal}
 use Rattle.st_base.specs.declared.names.NameRefusal.TheVariants.{IsDir}
-use Rattle.st_codec.specs.declared.message.Header.{Header}
-use Rattle.st_codec.specs.declared.message.Body.{Body}
-use Rattle.st_codec.specs.declared.message.Body.TheVariants as bodies
-use Rattle.st_codec.specs.declared.message.Why.TheVariants as why
-use Rattle.st_codec.specs.declared.message.NameOp.{NameOp}
-use Rattle.st_codec.specs.declared.message.NameOp.TheVariants.{Lookup, Create, Mkdir, Remove, Rename, List as ListFrom}
-use Rattle.st_codec.specs.declared.message.NameReply.TheVariants.{Ino, Listed, Refused}
-use Rattle.st_codec.specs.declared.output.Note.{Note}
-use Rattle.st_codec.specs.declared.output.Note.TheVariants as notes
-use Rattle.st_codec.specs.declared.output.Output.{Output}
-use Rattle.st_codec.specs.declared.output.Output.TheVariants as outputs
+use Rattle.st_messages.specs.declared.message.Header.{Header}
+use Rattle.st_messages.specs.declared.message.Body.{Body}
+use Rattle.st_messages.specs.declared.message.Body.TheVariants as bodies
+use Rattle.st_messages.specs.declared.message.Why.TheVariants as why
+use Rattle.st_messages.specs.declared.message.NameOp.{NameOp}
+use Rattle.st_messages.specs.declared.message.NameOp.TheVariants.{Lookup, Create, Mkdir, Remove, Rename, List as ListFrom}
+use Rattle.st_messages.specs.declared.message.NameReply.TheVariants.{Ino, Listed, Refused}
+use Rattle.st_messages.specs.declared.output.Note.{Note}
+use Rattle.st_messages.specs.declared.output.Note.TheVariants as notes
+use Rattle.st_messages.specs.declared.output.Output.{Output}
+use Rattle.st_messages.specs.declared.output.Output.TheVariants as outputs
 use Rattle.st_rules.specs.declared.input.ServerInput.{ServerInput}
 use Rattle.st_rules.specs.declared.input.ServerInput.TheVariants.{Tick, Control}
 use Rattle.st_rules.specs.declared.locks.LockRow.{LockRow}

@@ -4,8 +4,8 @@ use denote.Ref.{Bor}
 use Rattle.st_base.specs.declared.ids.ClientId.{ClientId}
 use Rattle.st_base.specs.declared.ids.Life.{Life}
 use Rattle.st_base.specs.declared.ids.Epoch.{Epoch}
-use Rattle.st_codec.specs.declared.message.Body.{Body}
-use Rattle.st_codec.specs.declared.message.Body.TheVariants.{Reasserted}
+use Rattle.st_messages.specs.declared.message.Body.{Body}
+use Rattle.st_messages.specs.declared.message.Body.TheVariants.{Reasserted}
 use Rattle.st_rules.specs.declared.sessions.SessionState.{SessionState}
 use Rattle.st_rules.specs.declared.sessions.SessionState.TheVariants.{Live, Ended}
 use Rattle.st_rules.specs.declared.sessions.Session.{Session}

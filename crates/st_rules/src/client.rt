@@ -2,7 +2,7 @@ ghost use Rattle.std.specs.Prelude.{◌≡◌, IfOk};
 ghost use Rattle.st_rules.specs.declared.client.CacheRefusal.TheVariants as refusals;
 
 use st_base::{BlockAt, GrantNo, Mode, PageBytes, PageNo, Stamp, Tag};
-use st_codec::{Ask, Body, Message};
+use st_messages::{Ask, Body, Message};
 use std::alloc::{AllocError, AllocFailed};
 use thiserror::Error;
 
