@@ -7,7 +7,9 @@ use Rattle.st_rules.specs.Leases.{AllAccepted, AllFull, AllRated, AllRunning, Is
 
 -- without a grain, a run whose increments are all at least 1 is in bound exactly where each of its advances is
 abbrev pub InBoundWhereRated : Type 0
-InBoundWhereRated = (k : Config) (nodes : ℕ) (advances : List (List ℕ)) → k.grain ≡ 0 → AllFull nodes advances → AllRunning advances → IsInBound k nodes advances ↔ AllRated k advances
+InBoundWhereRated =
+    (k : Config) (nodes : ℕ) (advances : List (List ℕ)) → k.grain ≡ 0 → AllFull nodes advances → AllRunning advances →
+    IsInBound k nodes advances ↔ AllRated k advances
 
 -- no number of a row is above 2^60, which den * grain never is
 abbrev pub IsLow : List ℕ → Type 0

@@ -6,8 +6,10 @@ use Rattle.st_base.specs.declared.disk.Tag.{Tag}
 use Rattle.st_base.specs.declared.disk.Command.{Command}
 use Rattle.st_base.specs.declared.disk.Command.TheVariants.{Read, Write}
 use Rattle.st_rules.specs.declared.disks.Block.{Block}
-use Rattle.st_rules.specs.declared.disks.DiskRefusal.{DiskRefusal}
-use Rattle.st_rules.specs.declared.disks.DiskRefusal.TheVariants as refusals
+use Rattle.st_rules.specs.declared.disks.CommandRefusal.{CommandRefusal}
+use Rattle.st_rules.specs.declared.disks.CommandRefusal.TheVariants as rules
+use Rattle.st_disk.specs.declared.refusal.DiskRefusal.{DiskRefusal}
+use Rattle.st_disk.specs.declared.refusal.DiskRefusal.TheVariants as refusals
 use Rattle.st_rules.specs.declared.disks.DiskCommand.{DiskCommand}
 use Rattle.st_rules.specs.Disks.{Disks, command_at}
 
@@ -27,11 +29,23 @@ pub record SameSize (old new : Disks) : Type 0 where
   pub disks : new.disks ≡ old.disks
   pub blocks : new.blocks ≡ old.blocks
 
--- a call did what the rule says, or found no memory; where it refused, nothing changed
-abbrev pub Answers : Disks → Disks → Result Unit DiskRefusal → Result Disks DiskRefusal → Type 0
+-- the calls have the rules' refusals, and run out of memory besides
+abbrev pub as_told : CommandRefusal → DiskRefusal
+as_told (rules.NoCommand n) = refusals.NoCommand n
+as_told (rules.Twice n) = refusals.Twice n
+as_told (rules.NotEffected n) = refusals.NotEffected n
+as_told (rules.Reported n) = refusals.Reported n
+
+-- what the rule gives, as the calls tell it
+abbrev pub told : Result Disks CommandRefusal → Result Disks DiskRefusal
+told (Ok d) = Ok d
+told (Err r) = Err (as_told r)
+
+-- a call did what the rule says, or ran out of memory; where it refused, nothing changed
+abbrev pub Answers : Disks → Disks → Result Unit DiskRefusal → Result Disks CommandRefusal → Type 0
 Answers old new (Ok u) rule = rule ≡ Ok new
 Answers old new (Err refusals.Memory) rule = new ≡ old
-Answers old new (Err f) rule = (rule ≡ Err f) × (new ≡ old)
+Answers old new (Err f) rule = (told rule ≡ Err f) × (new ≡ old)
 
 -- what a call leaves, or its refusal
 abbrev pub ended : Result Unit DiskRefusal → Disks → Result Disks DiskRefusal

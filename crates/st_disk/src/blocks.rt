@@ -1,6 +1,6 @@
 // The blocks that were written.
-ghost use Rattle.std.specs.Prelude.{◌≡◌, ◌≤◌, ◌∷◌, ◌++◌, [], OnOk, OnErr, filter, find, not};
-ghost use Rattle.std.specs.Vec.{vec_capacity, vec_len};
+ghost use Rattle.std.specs.Prelude.{◌≡◌, OnOk, OnErr, find};
+ghost use Rattle.std.specs.List.{position};
 ghost use Rattle.std.specs.Option.{option_copied};
 ghost use Rattle.st_rules.specs.Keys as keys;
 ghost use Rattle.st_rules.specs.Disks as rules;
@@ -22,21 +22,21 @@ pub fn find_block(written: &[Block], at: BlockAt) -> Option<&Block>
     written.iter().find(|block| is_at(block, at))
 }
 
-fn drop_block(written: &mut Vec<Block>, at: BlockAt)
-    ensures items { written.new.items ≡ filter (λ b. not (rules.is_block_at at b)) written.old.items }
-    ensures room { vec_capacity written.new ≡ vec_capacity written.old }
-    ensures fewer { vec_len written.new ≤ vec_len written.old }
+/// Where the block of a place is among the written ones.
+fn index_of_block(written: &[Block], at: BlockAt) -> Option<usize>
+    ensures { result ≡ position (rules.is_block_at at) written.now }
 {
-    written.retain(|block| !is_at(block, at));
+    written.iter().position(|block| is_at(block, at))
 }
 
-/// Puts a block in its place.
+/// Puts a block in its place: it replaces the one that was written there, or goes last.
 pub fn put_block(written: &mut Vec<Block>, block: Block) -> Result<(), AllocError>
-    ensures ok { OnOk result (written.new.items ≡ filter (λ b. not (rules.is_block_at block.at b)) written.old.items ++ block ∷ []) }
+    ensures ok { OnOk result (written.new.items ≡ keys.put (rules.is_block_at block.at) block written.old.items) }
     ensures err { OnErr result (written.new.items ≡ written.old.items) }
 {
-    written.reserve(1)?;
-    drop_block(written, block.at);
-    written.push(block)?;
+    match index_of_block(written.as_slice(), block.at) {
+        None => written.push(block)?,
+        Some(index) => written[index] = block,
+    }
     Ok(())
 }

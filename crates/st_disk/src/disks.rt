@@ -3,12 +3,13 @@ ghost use Rattle.std.specs.Prelude.{◌≡◌, ◌<◌, ◌+◌, IfOk, OnOk, OnE
 ghost use Rattle.std.specs.Option.{option_map};
 ghost use Rattle.st_rules.specs.declared.disks.DiskCommand.{DiskCommand};
 ghost use Rattle.st_rules.specs.Disks as rules;
-ghost use Rattle.st_disk.specs.Calls.{Answers, HasBlock, SameSize, ended, place, shown};
+ghost use Rattle.st_disk.specs.Calls.{Answers, HasBlock, SameSize, ended, place, shown, told};
 
 use crate::blocks::{find_block, put_block};
 use crate::commands::{command_at, effect_command, index_of, report_command, sample_command};
+use crate::refusal::DiskRefusal;
 use st_base::{BlockAt, Command, FileId, PageBytes, PageNo, ServerId, Tag};
-use st_rules::{Block, DiskCommand, DiskRefusal, Report};
+use st_rules::{Block, DiskCommand, Report};
 use std::alloc::{AllocError, Global};
 use std::marker::Model;
 
@@ -146,7 +147,8 @@ impl Disks {
 
     /// Gives a command its effect: a write makes the whole block its tag and bytes, and a read keeps the block as it finds
     /// it. It is refused, in this order, where there is no such command (`NoCommand`), where it was reported (`Reported`),
-    /// and where it had its effect (`Twice`); a refusal changes nothing, nor does want of memory.
+    /// and where it had its effect (`Twice`); a refusal changes nothing, and neither does
+    /// a call that runs out of memory.
     #[tactic(auto, unfolding(st_rules::specs::Disks::disks_open))]
     pub fn effect(&mut self, n: u64) -> Result<(), DiskRefusal>
         ensures exact { Answers self.old self.new result (rules.effect self.old n) }
@@ -171,7 +173,7 @@ impl Disks {
     /// nothing. It takes no memory.
     #[tactic(auto, unfolding(st_rules::specs::Disks::disks_open))]
     pub fn done(&mut self, n: u64, ok: bool) -> Result<(), DiskRefusal>
-        ensures exact { ended result self.new ≡ rules.done self.old n ok }
+        ensures exact { ended result self.new ≡ told (rules.done self.old n ok) }
         ensures size { SameSize self.old self.new }
         ensures err { OnErr result (self.new ≡ self.old) }
     {

@@ -7,7 +7,7 @@ use Rattle.std.proofs.lemmas.Grind.{common_steps}
 use Rattle.st_base.specs.declared.ids.FileId.{FileId}
 use Rattle.st_base.specs.declared.ids.PageNo.{PageNo}
 use Rattle.st_base.specs.declared.disk.BlockAt.{BlockAt}
-use Rattle.st_rules.specs.declared.extents.ExtentRefusal.TheVariants.{NoSpace}
+use Rattle.st_rules.specs.declared.extents.AllocateRefusal.TheVariants.{NoSpace}
 use Rattle.st_rules.specs.declared.extents.Extent.{Extent}
 use Rattle.st_rules.specs.Extents.{numbers, own_blocks, free_blocks, no_extents, is_extent_of, Extents, place_on, with_extent, new_extent, place_pages, allocate, allocate_pages, unmapped, free}
 use Rattle.st_rules.specs.Keys.{page_no}

@@ -5,8 +5,10 @@ use Rattle.st_base.specs.declared.ids.ServerId.{ServerId}
 use Rattle.st_base.specs.declared.ids.FileId.{FileId}
 use Rattle.st_base.specs.declared.ids.PageNo.{PageNo}
 use Rattle.st_rules.specs.declared.extents.Extent.{Extent}
-use Rattle.st_rules.specs.declared.extents.ExtentRefusal.{ExtentRefusal}
-use Rattle.st_rules.specs.declared.extents.ExtentRefusal.TheVariants.{NoSpace, Memory}
+use Rattle.st_rules.specs.declared.extents.AllocateRefusal.{AllocateRefusal}
+use Rattle.st_rules.specs.declared.extents.AllocateRefusal.TheVariants.{NoSpace}
+use Rattle.st_extents.specs.declared.refusal.ExtentRefusal.{ExtentRefusal}
+use Rattle.st_extents.specs.declared.refusal.ExtentRefusal.TheVariants as refusals
 use Rattle.st_base.specs.declared.disk.BlockAt.{BlockAt}
 use Rattle.st_rules.specs.Extents.{Extents, lies_at, is_extent_of, pages_from}
 
@@ -39,9 +41,9 @@ none_at rows b = not (list_any (lies_at b) rows)
 abbrev pub unmapped_of : List Extent → FileId → PageNo → ℕ → List PageNo
 unmapped_of rows f p count = filter (λ q. not (is_some (find (is_extent_of f q) rows))) (pages_from p count)
 
--- What a call that maps pages answers and leaves: what the rule gives; and where the rule refuses, or memory is
--- wanting, nothing is changed.
-abbrev pub Allocates : Extents → Extents → Result Unit ExtentRefusal → Result Extents ExtentRefusal → Type 0
+-- What a call that maps pages answers and leaves: what the rule gives; and where the rule refuses, or the call runs out of
+-- memory, nothing is changed.
+abbrev pub Allocates : Extents → Extents → Result Unit ExtentRefusal → Result Extents AllocateRefusal → Type 0
 Allocates old new (Ok done) rule = rule ≡ Ok new
-Allocates old new (Err Memory) rule = new ≡ old
-Allocates old new (Err (NoSpace free asked)) rule = (rule ≡ Err (NoSpace free asked)) × (new ≡ old)
+Allocates old new (Err refusals.Memory) rule = new ≡ old
+Allocates old new (Err (refusals.NoSpace free asked)) rule = (rule ≡ Err (NoSpace free asked)) × (new ≡ old)

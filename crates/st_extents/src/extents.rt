@@ -4,9 +4,10 @@ ghost use Rattle.st_extents.specs.Layout.{extents, IsWithinLimits, Allocates};
 ghost use Rattle.st_extents.specs.Ownership.{IsOwned};
 
 use crate::layout::Layout;
+use crate::refusal::ExtentRefusal;
 use crate::rows::{extent_of, release, unmapped};
 use st_base::{BlockAt, FileId, PageNo, ServerId};
-use st_rules::{Extent, ExtentRefusal};
+use st_rules::Extent;
 use std::alloc::{AllocError, Global};
 use std::marker::Model;
 
@@ -59,7 +60,7 @@ impl Extents {
     }
 
     /// Maps each page of the range that has no block, in rising order, to the free block with the least disk and then the
-    /// least number, under the next birth; or maps none, where the free blocks are too few or memory is wanting.
+    /// least number, under the next birth; or maps none, where the free blocks are too few or it runs out of memory.
     pub fn allocate(&mut self, file: FileId, page: PageNo, count: u32) -> Result<(), ExtentRefusal>
         requires range { page.0 + count ≤ 1048576 }
         requires births { self.old.births < 2 ^ 62 }
@@ -83,7 +84,7 @@ impl Extents {
         Ok(())
     }
 
-    /// Every page of the file from there on is unmapped, and its block is free. Nothing changes where memory is wanting.
+    /// Every page of the file from there on is unmapped, and its block is free. Nothing changes where it runs out of memory.
     pub fn release_from(&mut self, file: FileId, page: PageNo) -> Result<(), AllocError>
         ensures ok { OnOk result (self.new ≡ rules.release_from self.old file page) }
         ensures err { OnErr result (self.new ≡ self.old) }

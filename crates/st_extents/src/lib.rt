@@ -3,7 +3,9 @@
 
 mod extents;
 mod layout;
+mod refusal;
 mod rows;
 
 pub use extents::Extents;
-pub use st_rules::{Extent, ExtentRefusal};
+pub use refusal::ExtentRefusal;
+pub use st_rules::Extent;

@@ -2,14 +2,14 @@ ghost use Rattle.std.specs.Prelude.{◌≡◌, ◌+◌, ◌-◌, ◌<◌, ◌≤
 ghost use Rattle.std.specs.Option.{option_copied};
 ghost use Rattle.st_base.specs.declared.names.NameRefusal.TheVariants as refusals;
 ghost use Rattle.st_rules.specs.Names as rules;
-ghost use Rattle.st_namespace.specs.Answers.{Changes, ChangesInPlace, IsTold, ino_and_mark, ino_told};
+ghost use Rattle.st_namespace.specs.Answers.{Changes, ChangesInPlace, IsTold, answer, as_told, ino_and_mark, ino_told};
 ghost use Rattle.st_namespace.specs.Order.{IsInOrder};
 
 use crate::entries;
 use crate::listing::rows_above;
 use crate::words::is_good;
 use st_base::{Name, NameRefusal, NameRow};
-use st_rules::NameEntry;
+use st_rules::{EntryRefusal, NameEntry};
 use std::alloc::{AllocError, Global};
 use std::marker::Model;
 
@@ -31,6 +31,22 @@ impl Model for Names {
     ghost view = { λ n. record { entries = n.entries.items; next = n.next } };
 
     ghost invariant = { λ n. IsInOrder (record { entries = n.entries.items; next = n.next }) };
+}
+
+/// A refusal of the rules, as the calls tell it.
+fn told(refusal: EntryRefusal) -> NameRefusal
+    ensures { result ≡ as_told refusal }
+{
+    match refusal {
+        EntryRefusal::NoEntry => NameRefusal::NoEntry,
+        EntryRefusal::Exists => NameRefusal::Exists,
+        EntryRefusal::NotDir => NameRefusal::NotDir,
+        EntryRefusal::IsDir => NameRefusal::IsDir,
+        EntryRefusal::NotEmpty => NameRefusal::NotEmpty,
+        EntryRefusal::Cycle => NameRefusal::Cycle,
+        EntryRefusal::BadName => NameRefusal::BadName,
+        EntryRefusal::TooMany => NameRefusal::TooMany,
+    }
 }
 
 /// One of the files of a fresh server.
@@ -105,18 +121,18 @@ impl Names {
         }
     }
 
-    fn dir_refusal(&self, dir: u32) -> Option<NameRefusal>
+    fn dir_refusal(&self, dir: u32) -> Option<EntryRefusal>
         ensures { result ≡ rules.dir_refusal self.now dir }
     {
         match self.kind_of(dir) {
-            None => Some(NameRefusal::NoEntry),
-            Some(false) => Some(NameRefusal::NotDir),
+            None => Some(EntryRefusal::NoEntry),
+            Some(false) => Some(EntryRefusal::NotDir),
             Some(true) => None,
         }
     }
 
     #[tactic(auto, unfolding(st_rules::specs::Names::place_refusal))]
-    fn place_refusal(&self, dir: u32, name: &[u8]) -> Option<NameRefusal>
+    fn place_refusal(&self, dir: u32, name: &[u8]) -> Option<EntryRefusal>
         ensures { result ≡ rules.place_refusal self.now dir name.now }
     {
         match self.dir_refusal(dir) {
@@ -125,7 +141,7 @@ impl Names {
                 if is_good(name) {
                     None
                 } else {
-                    Some(NameRefusal::BadName)
+                    Some(EntryRefusal::BadName)
                 }
             }
         }
@@ -144,10 +160,10 @@ impl Names {
     /// The inode of a name in a directory.
     #[tactic(auto, unfolding(st_rules::specs::Names::lookup, st_rules::specs::Names::lookup_at))]
     pub fn lookup(&self, dir: u32, name: &[u8]) -> Result<u32, NameRefusal>
-        ensures { result ≡ rules.lookup self.now dir name.now }
+        ensures { result ≡ answer (rules.lookup self.now dir name.now) }
     {
         match self.place_refusal(dir, name) {
-            Some(refusal) => Err(refusal),
+            Some(refusal) => Err(told(refusal)),
             None => match self.entry_at(dir, name) {
                 None => Err(NameRefusal::NoEntry),
                 Some(entry) => Ok(entry.ino),
@@ -204,7 +220,7 @@ impl Names {
         ensures order { IsInOrder self.new }
     {
         if let Some(refusal) = self.place_refusal(dir, name) {
-            return Err(refusal);
+            return Err(told(refusal));
         }
         if self.has_entry(dir, name) {
             return Err(NameRefusal::Exists);
@@ -261,7 +277,7 @@ impl Names {
         ensures order { IsInOrder self.new }
     {
         if let Some(refusal) = self.place_refusal(dir, name) {
-            return Err(refusal);
+            return Err(told(refusal));
         }
         let Some((ino, directory)) = self.found(dir, name) else {
             return Err(NameRefusal::NoEntry);
@@ -308,10 +324,10 @@ impl Names {
         ensures order { IsInOrder self.new }
     {
         if let Some(refusal) = self.place_refusal(dir, name) {
-            return Err(refusal);
+            return Err(told(refusal));
         }
         if let Some(refusal) = self.place_refusal(dir2, name2) {
-            return Err(refusal);
+            return Err(told(refusal));
         }
         let ino = self.moved(dir, name, dir2, name2)?;
         let alloc = *self.entries.allocator();
@@ -330,7 +346,7 @@ impl Names {
         ensures refused { IfErr result (λ r. IsTold r (rules.list self.now dir after.now)) }
     {
         if let Some(refusal) = self.dir_refusal(dir) {
-            return Err(refusal);
+            return Err(told(refusal));
         }
         let alloc = *self.entries.allocator();
         match rows_above(alloc, self.entries.as_slice(), dir, after) {
