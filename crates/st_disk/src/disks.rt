@@ -13,7 +13,7 @@ use st_rules::{Block, DiskCommand, Report};
 use std::alloc::{AllocError, Global};
 use std::marker::Model;
 
-/// Disks with their blocks and commands. A block that was never written takes no page.
+/// Disks with their blocks and commands. Only blocks that were written are kept.
 #[derive(Drop)]
 pub struct Disks {
     disks: u16,
@@ -45,20 +45,21 @@ const FRESH_TAG: Tag = Tag {
 };
 
 impl Disks {
-    /// So many disks with so many blocks each, none of which was written, and no commands.
-    pub fn new(alloc: Global, disks: u16, blocks: u32) -> Result<Disks, AllocError>
-        ensures { IfOk result (λ d. d ≡ rules.fresh_disks disks blocks) }
+    /// Makes this number of disks with this number of blocks each. No block was written, and there are no commands. It does
+    /// not allocate.
+    pub fn new(alloc: Global, disks: u16, blocks: u32) -> Disks
+        ensures { result ≡ rules.fresh_disks disks blocks }
     {
-        Ok(Disks {
+        Disks {
             disks,
             blocks,
             written: Vec::new(alloc),
             commands: Vec::new(alloc),
-            zeros: PageBytes::filled(alloc, 0)?,
-        })
+            zeros: PageBytes::filled(0),
+        }
     }
 
-    /// Takes a command, and gives its number: 1, 2 and so on. It has no effect yet.
+    /// Takes a command, and returns its number: 1, 2 and so on. The command has no effect yet.
     pub fn submit(&mut self, command: Command) -> Result<u64, AllocError>
         requires exists { HasBlock self.old (place command) }
         ensures ok { OnOk result (self.new ≡ rules.submit self.old command) }
@@ -75,7 +76,7 @@ impl Disks {
         Ok(self.commands.len() as u64)
     }
 
-    /// The tag and the bytes of a block; birth 0 and zeros where it was never written. It takes no memory.
+    /// Returns the tag and the bytes of a block: birth 0 and zeros if it was never written. It does not allocate.
     pub fn block(&self, at: BlockAt) -> (Tag, &PageBytes)
         requires exists { HasBlock self.now at }
         ensures tag { result.0 ≡ (rules.block self.now at).tag }
@@ -87,8 +88,8 @@ impl Disks {
         }
     }
 
-    /// The tag and the bytes that a read found when it had its effect; `None` exactly where the command is no read with an
-    /// effect. It takes no memory.
+    /// Returns the tag and the bytes that a read found at its effect, or `None` if the command is not a read with an effect.
+    /// It does not allocate.
     pub fn sample(&self, n: u64) -> Option<(Tag, &PageBytes)>
         ensures exact { option_map (λ s. (s.0, s.1.now)) result ≡ option_map shown (rules.sample self.now n) }
     {
@@ -145,10 +146,9 @@ impl Disks {
         }
     }
 
-    /// Gives a command its effect: a write makes the whole block its tag and bytes, and a read keeps the block as it finds
-    /// it. It is refused, in this order, where there is no such command (`NoCommand`), where it was reported (`Reported`),
-    /// and where it had its effect (`Twice`); a refusal changes nothing, and neither does
-    /// a call that runs out of memory.
+    /// Gives a command its effect: a write replaces the block's tag and bytes, and a read samples the block. It is refused,
+    /// in this order, if there is no such command (`NoCommand`), if it was reported (`Reported`), or if it had its effect
+    /// (`Twice`). A refusal changes nothing. If the call runs out of memory, nothing changes either.
     #[tactic(auto, unfolding(st_rules::specs::Disks::disks_open))]
     pub fn effect(&mut self, n: u64) -> Result<(), DiskRefusal>
         ensures exact { Answers self.old self.new result (rules.effect self.old n) }
@@ -168,9 +168,9 @@ impl Disks {
         Ok(self.act(index, what)?)
     }
 
-    /// Reports a command, which ends it. It is refused, in this order, where there is no such command (`NoCommand`), where
-    /// it was reported (`Twice`), and where success is reported without an effect (`NotEffected`); a refusal changes
-    /// nothing. It takes no memory.
+    /// Reports a command, which ends it. It is refused, in this order, if there is no such command (`NoCommand`), if it was
+    /// reported (`Twice`), or if success is reported without an effect (`NotEffected`). A refusal changes nothing. It does
+    /// not allocate.
     #[tactic(auto, unfolding(st_rules::specs::Disks::disks_open))]
     pub fn done(&mut self, n: u64, ok: bool) -> Result<(), DiskRefusal>
         ensures exact { ended result self.new ≡ told (rules.done self.old n ok) }

@@ -1,4 +1,4 @@
-ghost use Rattle.std.specs.Prelude.{◌≡◌, ◌≤◌, ◌+◌, ◌<◌, ◌^◌, IfOk, OnOk, OnErr, ℕ, length};
+ghost use Rattle.std.specs.Prelude.{◌≡◌, ◌≤◌, ◌+◌, ◌<◌, ◌^◌, IfOk, ℕ, length};
 ghost use Rattle.st_rules.specs.Extents as rules;
 ghost use Rattle.st_extents.specs.Layout.{extents, IsWithinLimits, Allocates};
 ghost use Rattle.st_extents.specs.Ownership.{IsOwned};
@@ -84,14 +84,12 @@ impl Extents {
         Ok(())
     }
 
-    /// Every page of the file from there on is unmapped, and its block is free. Nothing changes where it runs out of memory.
-    pub fn release_from(&mut self, file: FileId, page: PageNo) -> Result<(), AllocError>
-        ensures ok { OnOk result (self.new ≡ rules.release_from self.old file page) }
-        ensures err { OnErr result (self.new ≡ self.old) }
+    /// Unmaps every page of the file from this page on, and frees their blocks. It does not allocate.
+    pub fn release_from(&mut self, file: FileId, page: PageNo)
+        ensures released { self.new ≡ rules.release_from self.old file page }
         ensures owned { IsOwned self.new }
     {
         release(&mut self.rows, file, page);
-        Ok(())
     }
 
     /// How many blocks of this server's disks are free.

@@ -2,12 +2,14 @@
 //! a program or a test hands in. The rules stand in docs/PROTOCOL.md, chapter "Sources and sinks".
 #![tactic(auto)]
 
+mod calls;
 mod ends;
 mod link;
 mod memory;
 mod safe;
 mod whole;
 
+pub use calls::{ReadCall, WriteCall};
 pub use ends::{ReaderSource, WriterSink};
 pub use link::{Failed, Sink, Source};
 pub use memory::{MemorySink, MemorySource};

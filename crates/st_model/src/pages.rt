@@ -4,7 +4,7 @@ ghost use Rattle.st_base.specs.Page.{filled};
 ghost use Rattle.st_model.specs.Kept.{IsInPage};
 ghost use Rattle.st_rules.specs.FlatLog as rules;
 
-use st_base::{FileId, PageNo};
+use st_base::{FileId, PageBytes, PageNo};
 use st_rules::{Change, Fate, LogEntry};
 
 fn reaches(change: &Change, from: PageNo, page: PageNo) -> bool
@@ -57,7 +57,7 @@ fn last_at(
     Some(number)
 }
 
-/// The number of the last entry that touches the page and is not gone.
+/// Returns the number of the last entry that touches the page and is not gone.
 #[tactic(auto, unfolding(st_rules::specs::FlatLog::last_from, st_rules::specs::FlatLog::last))]
 pub(crate) fn last_of(entries: &[LogEntry], file: FileId, page: PageNo) -> Option<u64>
     ensures { result ≡ rules.last entries.now file page }
@@ -75,7 +75,7 @@ fn clear(into: &mut [u8])
     requires { length into.old ≡ 4096 }
     ensures { into.new ≡ filled 0 }
 {
-    into.fill(0);
+    PageBytes::filled(0).write_to(into);
 }
 
 #[tactic(auto, unfolding(st_rules::specs::FlatLog::overlay))]
@@ -92,7 +92,7 @@ fn change_page(change: &Change, into: &mut [u8])
     ensures { into.new ≡ rules.changed change.now into.old }
 {
     match change {
-        Change::Write(bytes) => into.copy_from_slice(bytes.as_slice()),
+        Change::Write(bytes) => bytes.write_to(into),
         Change::Patch(at, bytes) => put(into, *at as usize, bytes.as_slice()),
         Change::Cut => clear(into),
     }
@@ -109,7 +109,7 @@ fn put_entry(entry: &LogEntry, file: FileId, page: PageNo, into: &mut [u8])
     }
 }
 
-/// The bytes of a page by these entries.
+/// Writes the bytes that these entries give to a page.
 #[tactic(auto, unfolding(st_rules::specs::FlatLog::content_from, st_rules::specs::FlatLog::content))]
 pub(crate) fn content_of(entries: &[LogEntry], file: FileId, page: PageNo, into: &mut [u8])
     requires whole { length into.old ≡ 4096 }

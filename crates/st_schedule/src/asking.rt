@@ -12,12 +12,12 @@ use st_messages::{Ask, Event, PatchBytes};
 use std::alloc::{AllocError, Global};
 
 #[tactic(auto, unfolding(crate::specs::Reading::write_at))]
-fn write_at(alloc: Global, rest: &[u8]) -> Result<(Ask, &[u8]), ReadError>
+fn write_at(rest: &[u8]) -> Result<(Ask, &[u8]), ReadError>
     ensures { Gives (λ x. (x.0, words_behind x.1.now)) result (reading.write_at (words_behind rest.now)) }
 {
     let ((file, page), rest) = place_at(rest)?;
     let (byte, rest) = number_at(0, 255, rest)?;
-    let bytes = PageBytes::filled(alloc, byte as u8)?;
+    let bytes = PageBytes::filled(byte as u8);
     Ok((Ask::Write(file, page, bytes), rest))
 }
 
@@ -165,7 +165,7 @@ fn asked_at(alloc: Global, verb: AskVerb, rest: &[u8]) -> Result<(Ask, &[u8]), R
     ensures { Gives (λ x. (x.0, words_behind x.1.now)) result (reading.asked_at verb (words_behind rest.now)) }
 {
     match verb {
-        AskVerb::Write => write_at(alloc, rest),
+        AskVerb::Write => write_at(rest),
         AskVerb::Read => read_at(rest),
         AskVerb::Sync => sync_at(rest),
         AskVerb::Cut => cut_at(rest),

@@ -4,7 +4,7 @@ ghost use Rattle.st_schedule.specs.Words.{line_of, spaced};
 ghost use Rattle.st_schedule.specs.Grammar as grammar;
 ghost use Rattle.st_schedule.specs.Reader.{IsReadAs};
 
-use st_base::{ClientId, FileId, NameAsk, NodeId, PageNo, ServerId};
+use st_base::{ClientId, FileId, NameAsk, NodeId, PageBytes, PageNo, ServerId};
 use st_messages::{Ask, Event};
 use std::alloc::{AllocError, Global};
 
@@ -72,6 +72,14 @@ fn byte_of(bytes: &[u8]) -> u8
     }
 }
 
+/// The first byte of a page.
+fn page_byte(bytes: &PageBytes) -> u8
+    ensures { result ≡ grammar.byte_of bytes.now }
+{
+    let _len = bytes.len();
+    *bytes.get(0)
+}
+
 fn put_after(out: &mut Vec<u8>, after: &[u8]) -> Result<(), AllocError>
     ensures { OnOk result (out.new.items ≡ out.old.items ++ 32 ∷ grammar.after_text after.now) }
 {
@@ -134,7 +142,7 @@ fn put_ask(out: &mut Vec<u8>, ask: &Ask) -> Result<(), AllocError>
         Ask::Write(file, page, bytes) => {
             put_word(out, b"write")?;
             put_place(out, *file, *page)?;
-            put_number(out, u64::from(byte_of(bytes.as_slice())))
+            put_number(out, u64::from(page_byte(bytes)))
         }
         Ask::Read(file, page) => {
             put_word(out, b"read")?;

@@ -212,19 +212,16 @@ fn lease_note(date: u64) -> Output
     })
 }
 
-fn zeros_if_unmapped(
-    alloc: Global,
-    known: Option<KnownPage>,
-) -> Result<Option<PageBytes>, AllocError>
-    ensures { IfOk result (λ found. found ≡ rules.unmapped_bytes known) }
+fn zeros_if_unmapped(known: Option<KnownPage>) -> Option<PageBytes>
+    ensures { result ≡ rules.unmapped_bytes known }
 {
     match known {
-        None => Ok(None),
+        None => None,
         Some(k) => {
             if k.row.is_none() {
-                Ok(Some(PageBytes::filled(alloc, 0)?))
+                Some(PageBytes::filled(0))
             } else {
-                Ok(None)
+                None
             }
         }
     }
@@ -461,7 +458,7 @@ impl ClientNode {
         ensures { IfOk result (λ found. found ≡ rules.cached_bytes self.now file page (rules.dirty_of self.now.dirty file page)) }
     {
         match dirty_of(&self.dirty, file, page) {
-            None => zeros_if_unmapped(self.alloc, known_of(&self.known, file.ino, page)),
+            None => Ok(zeros_if_unmapped(known_of(&self.known, file.ino, page))),
             Some(d) => Ok(Some(d.bytes.copy()?)),
         }
     }
