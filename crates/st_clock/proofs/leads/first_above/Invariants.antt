@@ -1,7 +1,7 @@
 use Rattle.std.proofs.Common.{◌≡◌, drop}
 use Rattle.st_rules.specs.Leases.{excess_in_row, raise_row}
 use Rattle.st_clock.specs.Drifts.{IsLow}
-use Rattle.st_clock.proofs.row.first_above.Given as goal
+use Rattle.st_clock.proofs.leads.first_above.Given as goal
 
 abbrev pub invariant-loop-e : goal.invariant-loop-e
 invariant-loop-e l = record {

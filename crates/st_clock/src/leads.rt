@@ -1,19 +1,20 @@
-// The numbers of one node, by the others.
+// How far one node's clock ran ahead of each other clock.
 ghost use Rattle.std.specs.Prelude.{◌≡◌, ◌≤◌, ◌<◌, ◌+◌, ◌*◌, ◌^◌, IfOk, length, replicate};
-ghost use Rattle.st_rules.specs.Leases as rules;
+ghost use Rattle.st_rules.specs.Leases as leases;
 ghost use Rattle.st_clock.specs.Drifts.{IsLow};
 
 use st_rules::Excess;
 use std::alloc::{AllocError, Global};
 use std::marker::Model;
 
-/// The numbers of one node, none of which is above 2^60. Contracts see it as their list.
+/// How far the clock of one node ran ahead of each clock: number `n` is the lead over node `n`, at most 2^60. Contracts see
+/// it as the list of its numbers.
 #[derive(Drop)]
-pub struct Row {
+pub struct Leads {
     numbers: Vec<u128>,
 }
 
-impl Model for Row {
+impl Model for Leads {
     ghost use Rattle.std.specs.Prelude.{List, ℕ};
     ghost use Rattle.st_clock.specs.Drifts.{IsLow};
 
@@ -24,9 +25,10 @@ impl Model for Row {
     ghost invariant = { λ r. IsLow r.numbers.items };
 }
 
+/// The lead of a node that gained `sm` over one that gained `sn`, where it was `e` before.
 fn raised(e: u128, sm: u64, sn: u64, num: u64, den: u64) -> u128
     requires { e ≤ 2 ^ 60 }
-    ensures { result ≡ rules.raised num den e sm sn }
+    ensures { result ≡ leases.raised num den e sm sn }
 {
     (e + den as u128 * sm as u128).saturating_sub(num as u128 * sn as u128)
 }
@@ -43,7 +45,7 @@ fn first_above(
 ) -> Option<Excess>
     requires whole { length steps.now ≡ length numbers.now }
     requires low { IsLow numbers.now }
-    ensures { result ≡ rules.excess_in_row limit m 0 (rules.raise_row num den sm steps.now numbers.now) }
+    ensures { result ≡ leases.excess_in_row limit m 0 (leases.raise_row num den sm steps.now numbers.now) }
 {
     let mut n = 0;
     for e in numbers {
@@ -60,24 +62,25 @@ fn first_above(
 fn raise_all(numbers: &mut Vec<u128>, sm: u64, steps: &[u64], num: u64, den: u64)
     requires whole { length steps.now ≡ length numbers.old.items }
     requires low { IsLow numbers.old.items }
-    ensures { numbers.new.items ≡ rules.raise_row num den sm steps.now numbers.old.items }
+    ensures { numbers.new.items ≡ leases.raise_row num den sm steps.now numbers.old.items }
 {
     for n in 0..steps.len() {
         numbers[n] = raised(numbers[n], sm, steps[n], num, den);
     }
 }
 
-impl Row {
-    /// The numbers before the first advance.
-    pub fn new(alloc: Global, nodes: usize) -> Result<Row, AllocError>
+impl Leads {
+    /// The leads before the first advance: zeros, one for each of `nodes` clocks.
+    pub fn new(alloc: Global, nodes: usize) -> Result<Leads, AllocError>
         ensures { IfOk result (λ r. r ≡ replicate nodes 0) }
     {
-        Ok(Row {
+        Ok(Leads {
             numbers: vec![in alloc; 0u128; nodes]?,
         })
     }
 
-    /// The first number above the limit after one more advance, in which this node gains `sm`.
+    /// The first lead that is above the limit after one more advance, in which this node `m` gains `sm` and node `n` gains
+    /// `steps[n]`. It changes nothing and takes no memory.
     pub fn excess(
         &self,
         limit: u128,
@@ -88,16 +91,16 @@ impl Row {
         den: u64,
     ) -> Option<Excess>
         requires whole { length steps.now ≡ length self.now }
-        ensures { result ≡ rules.excess_in_row limit m 0 (rules.raise_row num den sm steps.now self.now) }
+        ensures { result ≡ leases.excess_in_row limit m 0 (leases.raise_row num den sm steps.now self.now) }
     {
         first_above(&self.numbers, limit, m, sm, steps, num, den)
     }
 
-    /// The numbers after one more advance.
+    /// Takes one more advance, in which this node gains `sm` and node `n` gains `steps[n]`. It takes no memory.
     pub fn raise(&mut self, sm: u64, steps: &[u64], num: u64, den: u64)
         requires whole { length steps.now ≡ length self.old }
-        requires low { IsLow (rules.raise_row num den sm steps.now self.old) }
-        ensures { self.new ≡ rules.raise_row num den sm steps.now self.old }
+        requires low { IsLow (leases.raise_row num den sm steps.now self.old) }
+        ensures { self.new ≡ leases.raise_row num den sm steps.now self.old }
     {
         raise_all(&mut self.numbers, sm, steps, num, den);
     }

@@ -1,7 +1,7 @@
 use Rattle.std.proofs.Common.{◌≡◌, ◌++◌, drop, take, length}
 use Rattle.st_rules.specs.Leases.{raise_row}
 use Rattle.st_clock.specs.Drifts.{IsLow}
-use Rattle.st_clock.proofs.row.raise_all.Given as goal
+use Rattle.st_clock.proofs.leads.raise_all.Given as goal
 
 abbrev pub invariant-loop-n : goal.invariant-loop-n
 invariant-loop-n l = record {
