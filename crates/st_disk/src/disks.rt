@@ -1,9 +1,10 @@
-// The disks.
+// The disks, and the calls on them.
 ghost use Rattle.std.specs.Prelude.{◌≡◌, ◌<◌, ◌+◌, IfOk, OnOk, OnErr, Some, length, slice_get};
 ghost use Rattle.std.specs.Option.{option_map};
 ghost use Rattle.st_rules.specs.declared.disks.DiskCommand.{DiskCommand};
-ghost use Rattle.st_rules.specs.Disks as rules;
-ghost use Rattle.st_disk.specs.Calls.{Answers, HasBlock, SameSize, ended, place, shown};
+ghost use Rattle.st_rules.specs.Disks as disks;
+ghost use Rattle.st_rules.specs.Disks.{fresh_disks};
+ghost use Rattle.st_disk.specs.Calls.{Answers, HasBlock, SameSize, ended, place, sampled_at, shown, written_at};
 
 use crate::blocks::{find_block, put_block};
 use crate::commands::{command_at, effect_command, index_of, report_command, sample_command};
@@ -25,9 +26,9 @@ pub struct Disks {
 impl Model for Disks {
     ghost use Rattle.std.specs.Prelude.{◌≡◌};
     ghost use Rattle.st_base.specs.Page.{filled};
-    ghost use Rattle.st_rules.specs.Disks as rules;
+    ghost use Rattle.st_rules.specs.Disks as shared_disks;
 
-    ghost Value = { rules.Disks };
+    ghost Value = { shared_disks.Disks };
 
     ghost view = { λ d. record { disks = d.disks; blocks = d.blocks; written = d.written.items; commands = d.commands.items } };
 
@@ -44,9 +45,9 @@ const FRESH_TAG: Tag = Tag {
 };
 
 impl Disks {
-    /// So many disks with so many blocks each, none of which was written, and no commands.
+    /// This many disks with this many blocks each, none written yet, and no commands.
     pub fn new(alloc: Global, disks: u16, blocks: u32) -> Result<Disks, AllocError>
-        ensures { IfOk result (λ d. d ≡ rules.fresh_disks disks blocks) }
+        ensures { IfOk result (λ d. d ≡ fresh_disks disks blocks) }
     {
         Ok(Disks {
             disks,
@@ -57,10 +58,10 @@ impl Disks {
         })
     }
 
-    /// Takes a command, and gives its number: 1, 2 and so on. It has no effect yet.
+    /// Takes a command and returns its number: 1, 2 and so on. The command has no effect yet.
     pub fn submit(&mut self, command: Command) -> Result<u64, AllocError>
         requires exists { HasBlock self.old (place command) }
-        ensures ok { OnOk result (self.new ≡ rules.submit self.old command) }
+        ensures ok { OnOk result (self.new ≡ disks.submit self.old command) }
         ensures number { IfOk result (λ n. n ≡ length self.new.commands) }
         ensures size { SameSize self.old self.new }
         ensures err { OnErr result (self.new ≡ self.old) }
@@ -77,8 +78,8 @@ impl Disks {
     /// The tag and the bytes of a block; birth 0 and zeros where it was never written. It takes no memory.
     pub fn block(&self, at: BlockAt) -> (Tag, &PageBytes)
         requires exists { HasBlock self.now at }
-        ensures tag { result.0 ≡ (rules.block self.now at).tag }
-        ensures bytes { result.1.now ≡ (rules.block self.now at).bytes }
+        ensures tag { result.0 ≡ (disks.block self.now at).tag }
+        ensures bytes { result.1.now ≡ (disks.block self.now at).bytes }
     {
         match find_block(&self.written, at) {
             Some(block) => (block.tag, &block.bytes),
@@ -86,18 +87,19 @@ impl Disks {
         }
     }
 
-    /// The tag and the bytes that a read found when it had its effect; `None` exactly where the command is no read with an
-    /// effect. It takes no memory.
+    /// The tag and the bytes that a read found when it had its effect; `None` exactly where the command is not a read or had
+    /// no effect yet. It takes no memory.
     pub fn sample(&self, n: u64) -> Option<(Tag, &PageBytes)>
-        ensures exact { option_map (λ s. (s.0, s.1.now)) result ≡ option_map shown (rules.sample self.now n) }
+        ensures exact { option_map (λ s. (s.0, s.1.now)) result ≡ option_map shown (disks.sample self.now n) }
     {
         let command = command_at(&self.commands, n)?;
         let block = command.sample.as_ref()?;
         Some((block.tag, &block.bytes))
     }
 
+    /// A copy of a block as it stands.
     fn found(&self, at: BlockAt) -> Result<Block, AllocError>
-        ensures { IfOk result (λ b. b ≡ rules.block self.now at) }
+        ensures { IfOk result (λ b. b ≡ disks.block self.now at) }
     {
         match find_block(&self.written, at) {
             Some(block) => block.copy(),
@@ -109,9 +111,10 @@ impl Disks {
         }
     }
 
+    /// Gives the read at this index its effect.
     fn read(&mut self, index: usize, at: BlockAt) -> Result<(), AllocError>
         requires { index < length self.old.commands }
-        ensures ok { (c : DiskCommand) → slice_get self.old.commands index ≡ Some c → OnOk result (self.new ≡ rules.with_command (index + 1) (rules.sampled (rules.block self.old at) c) self.old) }
+        ensures ok { (c : DiskCommand) → slice_get self.old.commands index ≡ Some c → OnOk result (self.new ≡ sampled_at index at c self.old) }
         ensures size { SameSize self.old self.new }
         ensures err { OnErr result (self.new ≡ self.old) }
     {
@@ -120,9 +123,10 @@ impl Disks {
         Ok(())
     }
 
+    /// Gives the write at this index its effect.
     fn write(&mut self, index: usize, block: Block) -> Result<(), AllocError>
         requires { index < length self.old.commands }
-        ensures ok { (c : DiskCommand) → slice_get self.old.commands index ≡ Some c → OnOk result (self.new ≡ rules.with_block block (rules.with_command (index + 1) (rules.effected c) self.old)) }
+        ensures ok { (c : DiskCommand) → slice_get self.old.commands index ≡ Some c → OnOk result (self.new ≡ written_at index block c self.old) }
         ensures size { SameSize self.old self.new }
         ensures err { OnErr result (self.new ≡ self.old) }
     {
@@ -131,10 +135,11 @@ impl Disks {
         Ok(())
     }
 
+    /// Gives the command at this index its effect.
     #[tactic(auto, unfolding(st_rules::specs::Disks::effect_of))]
     fn act(&mut self, index: usize, what: Command) -> Result<(), AllocError>
         requires { index < length self.old.commands }
-        ensures ok { (c : DiskCommand) → slice_get self.old.commands index ≡ Some c → OnOk result (self.new ≡ rules.effect_of self.old (index + 1) c what) }
+        ensures ok { (c : DiskCommand) → slice_get self.old.commands index ≡ Some c → OnOk result (self.new ≡ disks.effect_of self.old (index + 1) c what) }
         ensures size { SameSize self.old self.new }
         ensures err { OnErr result (self.new ≡ self.old) }
     {
@@ -144,12 +149,13 @@ impl Disks {
         }
     }
 
-    /// Gives a command its effect: a write makes the whole block its tag and bytes, and a read keeps the block as it finds
-    /// it. It is refused, in this order, where there is no such command (`NoCommand`), where it was reported (`Reported`),
-    /// and where it had its effect (`Twice`); a refusal changes nothing, nor does want of memory.
+    /// Gives a command its effect: a write replaces the whole block, tag and bytes; a read keeps a copy of the block as it
+    /// finds it. It is refused, in this order, where there is no such command (`NoCommand`), where it was reported
+    /// (`Reported`), and where it had its effect already (`Twice`). A refusal changes nothing, and neither does an error for
+    /// lack of memory (`Memory`).
     #[tactic(auto, unfolding(st_rules::specs::Disks::disks_open))]
     pub fn effect(&mut self, n: u64) -> Result<(), DiskRefusal>
-        ensures exact { Answers self.old self.new result (rules.effect self.old n) }
+        ensures exact { Answers self.old self.new result (disks.effect self.old n) }
         ensures size { SameSize self.old self.new }
     {
         let Some(index) = index_of(&self.commands, n) else {
@@ -167,11 +173,11 @@ impl Disks {
     }
 
     /// Reports a command, which ends it. It is refused, in this order, where there is no such command (`NoCommand`), where
-    /// it was reported (`Twice`), and where success is reported without an effect (`NotEffected`); a refusal changes
+    /// it was reported already (`Twice`), and where success is reported without an effect (`NotEffected`). A refusal changes
     /// nothing. It takes no memory.
     #[tactic(auto, unfolding(st_rules::specs::Disks::disks_open))]
     pub fn done(&mut self, n: u64, ok: bool) -> Result<(), DiskRefusal>
-        ensures exact { ended result self.new ≡ rules.done self.old n ok }
+        ensures exact { ended result self.new ≡ disks.done self.old n ok }
         ensures size { SameSize self.old self.new }
         ensures err { OnErr result (self.new ≡ self.old) }
     {
