@@ -1,4 +1,4 @@
--- What a log keeps of its entries beside what they are.
+-- What always holds of a log: its patches lie in their pages, and its cuts share one page of zeros.
 use Rattle.std.specs.Prelude.{◌≡◌, ℕ, ◌+◌, ◌≤◌, List, length, Option, Some, IfSome}
 use Rattle.std.specs.List.{All}
 use Rattle.st_base.specs.Page.{filled}
@@ -26,7 +26,7 @@ HasZeros zeros (Write bytes) = Unit {0}
 HasZeros zeros (Patch at bytes) = Unit {0}
 HasZeros zeros Cut = zeros ≡ Some (filled 0)
 
--- what a log with this page of zeros keeps
+-- what always holds of a log with this page of zeros
 pub record IsKept (zeros : Option (List ℕ)) (log : List LogEntry) : Type 0 where
   pub blank : IfSome zeros (λ page. page ≡ filled 0)
   pub ranges : All (λ (e : LogEntry). IsInPage e.change) log

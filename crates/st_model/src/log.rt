@@ -3,7 +3,7 @@ ghost use Rattle.std.specs.Option.{option_map};
 ghost use Rattle.st_base.specs.Page.{filled};
 ghost use Rattle.st_model.specs.Kept.{HasZeros, IsWhole};
 ghost use Rattle.st_model.specs.Last.{LastTells};
-ghost use Rattle.st_rules.specs.FlatLog as rules;
+ghost use Rattle.st_rules.specs.FlatLog as flat_log;
 
 use crate::marks::{harden_all, lose};
 use crate::pages::{content_of, last_of};
@@ -33,7 +33,7 @@ impl Model for FlatLog {
     ghost invariant = { λ l. IsKept l.zeros l.entries.items };
 }
 
-/// The page of zeros, made where there is none yet.
+/// Makes the page of zeros where there is none yet.
 fn keep_zeros(zeros: &mut Option<PageBytes>, alloc: Global) -> Result<(), AllocError>
     requires { IfSome zeros.old (λ page. page ≡ filled 0) }
     ensures ok { OnOk result (zeros.new ≡ Some (filled 0)) }
@@ -56,9 +56,9 @@ fn kept_page(zeros: &Option<PageBytes>) -> &PageBytes
 }
 
 fn page_of<'a>(entry: &'a LogEntry, zeros: &'a Option<PageBytes>) -> &'a PageBytes
-    requires whole { IsWhole (rules.head_of entry.now) }
+    requires whole { IsWhole (flat_log.head_of entry.now) }
     requires zeros { HasZeros zeros.now entry.now.change }
-    ensures { result.now ≡ rules.bytes_of entry.now.change }
+    ensures { result.now ≡ flat_log.bytes_of entry.now.change }
 {
     match &entry.change {
         Change::Write(bytes) => bytes,
@@ -68,7 +68,7 @@ fn page_of<'a>(entry: &'a LogEntry, zeros: &'a Option<PageBytes>) -> &'a PageByt
 }
 
 fn head_by(of: LogOwner, change: &Change) -> EntryHead
-    ensures { result ≡ rules.head_by of change.now }
+    ensures { result ≡ flat_log.head_by of change.now }
 {
     let LogOwner {
         client,
@@ -104,8 +104,8 @@ impl FlatLog {
         }
     }
 
-    /// Adds a pending write of a whole page, and gives its number. The page is shared. Without memory the log stays as it
-    /// was.
+    /// Adds a pending write of a whole page, and returns its number. The page is shared. Where memory runs out the log stays
+    /// as it was.
     #[tactic(auto, unfolding(st_rules::specs::FlatLog::accept))]
     pub fn accept(
         &mut self,
@@ -115,7 +115,7 @@ impl FlatLog {
         page: PageNo,
         bytes: &PageBytes,
     ) -> Result<u64, AllocError>
-        ensures entry { OnOk result (self.new ≡ rules.accept self.old client life file page bytes.now) }
+        ensures entry { OnOk result (self.new ≡ flat_log.accept self.old client life file page bytes.now) }
         ensures number { IfOk result (λ n. n ≡ length self.old + 1) }
         ensures err { OnErr result (self.new ≡ self.old) }
     {
@@ -133,7 +133,7 @@ impl FlatLog {
         Ok(self.entries.len() as u64)
     }
 
-    /// Adds a pending patch of the bytes from `at` on, and gives its number. Without memory the log stays as it was.
+    /// Adds a pending patch of the bytes from `at` on, and returns its number. Where memory runs out the log stays as it was.
     #[tactic(auto, unfolding(st_rules::specs::FlatLog::patch))]
     pub fn patch(
         &mut self,
@@ -146,7 +146,7 @@ impl FlatLog {
     ) -> Result<u64, AllocError>
         requires some { 1 ≤ length bytes.now }
         requires range { at + length bytes.now ≤ 4096 }
-        ensures entry { OnOk result (self.new ≡ rules.patch self.old client life file page at bytes.now) }
+        ensures entry { OnOk result (self.new ≡ flat_log.patch self.old client life file page at bytes.now) }
         ensures number { IfOk result (λ n. n ≡ length self.old + 1) }
         ensures err { OnErr result (self.new ≡ self.old) }
     {
@@ -164,11 +164,11 @@ impl FlatLog {
         Ok(self.entries.len() as u64)
     }
 
-    /// Adds a cut of a file's pages from one on, which is hard at once, and gives its number. Without memory the log stays
-    /// as it was.
+    /// Adds a cut of a file's pages from `from` on, which is hard at once, and returns its number. Where memory runs out the
+    /// log stays as it was.
     #[tactic(auto, unfolding(st_rules::specs::FlatLog::cut))]
     pub fn cut(&mut self, file: FileId, from: PageNo) -> Result<u64, AllocError>
-        ensures entry { OnOk result (self.new ≡ rules.cut self.old file from) }
+        ensures entry { OnOk result (self.new ≡ flat_log.cut self.old file from) }
         ensures number { IfOk result (λ n. n ≡ length self.old + 1) }
         ensures err { OnErr result (self.new ≡ self.old) }
     {
@@ -187,29 +187,29 @@ impl FlatLog {
         Ok(self.entries.len() as u64)
     }
 
-    /// An entry and the earlier writes and patches of its client, life, file and page become hard where they are pending.
+    /// Makes an entry and the earlier entries of its client, life, file and page hard where they are pending.
     /// It takes no memory.
     pub fn harden(&mut self, index: u64)
         requires some { 1 ≤ index }
         requires known { index ≤ length self.old }
-        ensures { self.new ≡ rules.harden self.old index }
+        ensures { self.new ≡ flat_log.harden self.old index }
     {
         let of = self.entries[(index - 1) as usize].of;
         harden_all(&mut self.entries, index, of);
     }
 
-    /// An entry is gone with this cause where it is pending. It takes no memory.
+    /// Makes an entry gone with this cause where it is pending. It takes no memory.
     pub fn gone(&mut self, index: u64, cause: Cause)
         requires some { 1 ≤ index }
         requires known { index ≤ length self.old }
-        ensures { self.new ≡ rules.gone self.old index cause }
+        ensures { self.new ≡ flat_log.gone self.old index cause }
     {
         lose(&mut self.entries[(index - 1) as usize], cause);
     }
 
     /// The number of the last entry that touches the page and is not gone, if there is one. It takes no memory.
     pub fn last(&self, file: FileId, page: PageNo) -> Option<u64>
-        ensures last { result ≡ rules.last self.now file page }
+        ensures last { result ≡ flat_log.last self.now file page }
         ensures content { LastTells self.now file page result }
     {
         last_of(&self.entries, file, page)
@@ -217,10 +217,10 @@ impl FlatLog {
 
     /// The bytes of a write, or zeros of a cut, whatever the page is that is asked for. `entry` tells a patch from both.
     pub fn bytes(&self, index: u64, _page: PageNo) -> &PageBytes
-        requires whole { IfSome (option_map rules.head_of (rules.entry_at self.now index)) IsWhole }
+        requires whole { IfSome (option_map flat_log.head_of (flat_log.entry_at self.now index)) IsWhole }
         requires some { 1 ≤ index }
         requires known { index ≤ length self.now }
-        ensures { option_map (λ (e : LogEntry). rules.bytes_of e.change) (rules.entry_at self.now index) ≡ Some result.now }
+        ensures { option_map (λ (e : LogEntry). flat_log.bytes_of e.change) (flat_log.entry_at self.now index) ≡ Some result.now }
     {
         page_of(&self.entries[(index - 1) as usize], &self.zeros)
     }
@@ -229,16 +229,16 @@ impl FlatLog {
     /// gone, in order. It takes no memory.
     pub fn content(&self, file: FileId, page: PageNo, into: &mut [u8])
         requires { length into.old ≡ 4096 }
-        ensures { into.new ≡ rules.content self.now file page }
+        ensures { into.new ≡ flat_log.content self.now file page }
     {
         content_of(&self.entries, file, page, into);
     }
 
-    /// What became of an entry.
+    /// The fate of an entry. It takes no memory.
     pub fn fate(&self, index: u64) -> Fate
         requires some { 1 ≤ index }
         requires known { index ≤ length self.now }
-        ensures { option_map (λ (e : LogEntry). e.fate) (rules.entry_at self.now index) ≡ Some result }
+        ensures { option_map (λ (e : LogEntry). e.fate) (flat_log.entry_at self.now index) ≡ Some result }
     {
         self.entries[(index - 1) as usize].fate
     }
@@ -254,7 +254,7 @@ impl FlatLog {
     pub fn entry(&self, index: u64) -> EntryHead
         requires some { 1 ≤ index }
         requires known { index ≤ length self.now }
-        ensures { option_map rules.head_of (rules.entry_at self.now index) ≡ Some result }
+        ensures { option_map flat_log.head_of (flat_log.entry_at self.now index) ≡ Some result }
     {
         let entry = &self.entries[(index - 1) as usize];
         head_by(entry.of, &entry.change)
