@@ -3,7 +3,7 @@
 
 mod extents;
 mod layout;
-mod rows;
+mod mapping;
 
 pub use extents::Extents;
 pub use st_rules::{Extent, ExtentRefusal};

@@ -1,6 +1,6 @@
 use Rattle.std.proofs.Common.{arith, sym, ◌∙◌}
 use Rattle.st_extents.proofs.Blocks.{page_skip, page_more, pages_end}
-use Rattle.st_extents.proofs.rows.unmapped.Goals as goal
+use Rattle.st_extents.proofs.mapping.unmapped.Goals as goal
 
 pub loop-place-preserved-then-is_mapped : goal.loop-place-preserved-then-is_mapped
 loop-place-preserved-then-is_mapped c = record {

@@ -1,7 +1,7 @@
 use Rattle.std.proofs.Common.{◌≡◌, ◌-◌, ◌≤◌, ◌+◌, ◌++◌, vec_len}
 use Rattle.st_extents.specs.Layout.{unmapped_of}
 use Rattle.st_extents.proofs.Blocks.{pages_left}
-use Rattle.st_extents.proofs.rows.unmapped.Given as goal
+use Rattle.st_extents.proofs.mapping.unmapped.Given as goal
 
 abbrev pub invariant-loop-place : goal.invariant-loop-place
 invariant-loop-place l = record {

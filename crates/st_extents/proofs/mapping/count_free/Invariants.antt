@@ -1,6 +1,6 @@
 use Rattle.std.proofs.Common.{◌≡◌, ◌≤◌, filter, length, take}
 use Rattle.st_extents.specs.Layout.{none_at}
-use Rattle.st_extents.proofs.rows.count_free.Given as goal
+use Rattle.st_extents.proofs.mapping.count_free.Given as goal
 
 abbrev pub invariant-loop-at : goal.invariant-loop-at
 invariant-loop-at l = record {
