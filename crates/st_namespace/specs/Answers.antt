@@ -1,20 +1,20 @@
--- What calls of names answer and leave.
+-- What calls on names return and leave.
 use Rattle.std.specs.Prelude.{ℕ, ◌≡◌, ◌⊎◌, Bool, Result, Ok, Err}
 use Rattle.st_base.specs.declared.names.NameRefusal.{NameRefusal}
 use Rattle.st_base.specs.declared.names.NameRefusal.TheVariants.{Memory}
 use Rattle.st_rules.specs.declared.names.NameEntry.{NameEntry}
 use Rattle.st_rules.specs.Names.{Names, Changed}
 
--- the refusal is the rule's, or memory was wanting
+-- the refusal is the rule's, or memory ran out
 abbrev pub IsTold : {A : Type 0} → NameRefusal → Result A NameRefusal → Type 0
 IsTold r rule = (rule ≡ Err r) ⊎ (r ≡ Memory)
 
--- A call that changes names and may want memory: what the rule gives; after a refusal nothing is changed.
+-- A call that changes names and may run out of memory does what the rule gives; a refusal changes nothing.
 abbrev pub Changes : Names → Names → Result ℕ NameRefusal → Result Changed NameRefusal → Type 0
 Changes old new (Ok ino) rule = rule ≡ Ok (record { names = new; ino = ino })
 Changes old new (Err r) rule = IsTold r rule × (new ≡ old)
 
--- A call that changes names and takes no memory.
+-- A call that changes names and takes no memory does what the rule gives; a refusal changes nothing.
 abbrev pub ChangesInPlace : Names → Names → Result ℕ NameRefusal → Result Changed NameRefusal → Type 0
 ChangesInPlace old new (Ok ino) rule = rule ≡ Ok (record { names = new; ino = ino })
 ChangesInPlace old new (Err r) rule = (rule ≡ Err r) × (new ≡ old)

@@ -1,6 +1,6 @@
 use Rattle.std.proofs.Common.{arith, sym, ◌∙◌}
 use Rattle.st_namespace.proofs.Bytes.{below_same, below_apart, below_first_ends, below_second_ends}
-use Rattle.st_namespace.proofs.words.is_below.Goals as goal
+use Rattle.st_namespace.proofs.name_bytes.is_below.Goals as goal
 
 pub returns-then-place-a : goal.returns-then-place-a
 returns-then-place-a c = sym (below_first_ends c.args.a.now c.args.b.now c.loop-place.place (omega (arith, c.if-place-a.true)) c.loop-place-test.true) ∙ c.loop-place.invariant.rest

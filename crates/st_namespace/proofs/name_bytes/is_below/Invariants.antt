@@ -1,6 +1,6 @@
 use Rattle.std.proofs.Common.{◌≡◌, ◌≤◌, drop, length}
 use Rattle.st_rules.specs.Names.{name_below}
-use Rattle.st_namespace.proofs.words.is_below.Given as goal
+use Rattle.st_namespace.proofs.name_bytes.is_below.Given as goal
 
 abbrev pub invariant-loop-place : goal.invariant-loop-place
 invariant-loop-place l = record {
