@@ -10,8 +10,8 @@ use Rattle.st_schedule.specs.Words.{split, line_of, is_long}
 use Rattle.st_schedule.specs.Grammar.{words, words_after, verb}
 use Rattle.st_schedule.specs.Reading.{line_event}
 use Rattle.st_schedule.specs.Reader.{later_line, nodes_of, MOST_EVENTS, IsReadAs}
-use Rattle.st_schedule.proofs.Again.{event_is_read}
-use Rattle.st_schedule.proofs.Written.{line_has_words, length-line, words_take, Take}
+use Rattle.st_schedule.proofs.EventsAreRead.{event_is_read}
+use Rattle.st_schedule.proofs.LineRoom.{line_has_words, length-line, words_take, Take}
 
 short : (e : Event) → Take 253 (words e) → is_long (line_of (words e)) ≡ false
 short e h =

@@ -1,8 +1,8 @@
 use Rattle.std.proofs.lemmas.Result.{err_from_is_err_and}
 use Rattle.st_schedule.specs.Words.{words_behind}
 use Rattle.st_schedule.specs.Reading.{steps_at}
-use Rattle.st_schedule.proofs.Steps.{goes_on, stops, is_done}
-use Rattle.st_schedule.proofs.happening.steps_at.Goals as goal
+use Rattle.st_schedule.proofs.Increments.{goes_on, stops, is_done}
+use Rattle.st_schedule.proofs.event_line.steps_at.Goals as goal
 
 pub returns-in_err-step : goal.returns-in_err-step
 returns-in_err-step c =

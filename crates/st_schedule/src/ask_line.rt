@@ -4,9 +4,9 @@ ghost use Rattle.st_schedule.specs.Reading.{Gives};
 ghost use Rattle.st_schedule.specs.Reading as reading;
 
 use crate::fault::ReadError;
-use crate::place::{after_at, ask_verb_at, client_at, file_at, name_at, number_at, place_at};
+use crate::next_word::{after_at, ask_verb_at, client_at, file_at, name_at, number_at, place_at};
 use crate::verb::AskVerb;
-use crate::word::MOST_NUMBER;
+use crate::word_values::MOST_NUMBER;
 use st_base::{FileId, Name, NameAsk, PageBytes};
 use st_codec::{Ask, Event, PatchBytes};
 use std::alloc::{AllocError, Global};
@@ -45,7 +45,7 @@ fn cut_at(rest: &[u8]) -> Result<(Ask, &[u8]), ReadError>
     Ok((Ask::Cut(file, page), rest))
 }
 
-/// A place in a page, and how many bytes from there on, within the page.
+/// A place in a page, and a number of bytes from there on, all within the page.
 #[tactic(auto, unfolding(crate::specs::Reading::range_at))]
 fn range_at(rest: &[u8]) -> Result<((u16, usize), &[u8]), ReadError>
     ensures range { Gives (λ x. (x.0, words_behind x.1.now)) result (reading.range_at (words_behind rest.now)) }
@@ -179,7 +179,7 @@ fn asked_at(alloc: Global, verb: AskVerb, rest: &[u8]) -> Result<(Ask, &[u8]), R
     }
 }
 
-/// What an application asks of a client.
+/// The event of a line `app`: what an application asks of a client.
 #[tactic(auto, unfolding(crate::specs::Reading::app_at))]
 pub(crate) fn app_at(alloc: Global, form: u8, rest: &[u8]) -> Result<(Event, &[u8]), ReadError>
     ensures { Gives (λ x. (x.0, words_behind x.1.now)) result (reading.app_at form (words_behind rest.now)) }

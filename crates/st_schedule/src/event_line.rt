@@ -4,16 +4,16 @@ ghost use Rattle.st_schedule.specs.Grammar.{least_step as least_step_of};
 ghost use Rattle.st_schedule.specs.Reading.{Gives};
 ghost use Rattle.st_schedule.specs.Reading as reading;
 
-use crate::asking::app_at;
+use crate::ask_line::app_at;
 use crate::fault::{Fault, ReadError};
-use crate::place::{ends, node_at, number_at, result_at};
+use crate::next_word::{ends, node_at, number_at, result_at};
 use crate::verb::{Verb, verb_of};
-use crate::word::{MOST_NUMBER, is, split_word};
+use crate::word_values::{MOST_NUMBER, is, split_word};
 use st_base::NodeId;
 use st_codec::{Event, Steps};
 use std::alloc::Global;
 
-/// So many increments.
+/// Reads `count` increments, each at least `least`.
 fn steps_at(
     alloc: Global,
     least: u64,
@@ -32,8 +32,8 @@ fn steps_at(
     Ok((steps, after))
 }
 
-/// One increment alone is that of all nodes; more words are one for each node.
-#[tactic(auto, using(crate::proofs::Steps::more_words), unfolding(crate::specs::Reading::steps_of))]
+/// A line with one increment gives it to every node; a line with more words has one increment for each node.
+#[tactic(auto, using(crate::proofs::Increments::more_words), unfolding(crate::specs::Reading::steps_of))]
 fn steps_of<'a>(
     alloc: Global,
     least: u64,
@@ -148,13 +148,14 @@ fn report_at(rest: &[u8]) -> Result<(Event, &[u8]), ReadError>
     Ok((Event::Report { k, ok }, rest))
 }
 
+/// The least increment: 1 under the first form, 0 under the second.
 fn least_step(form: u8) -> u64
     ensures { result ≡ least_step_of form }
 {
     if form == 1 { 1 } else { 0 }
 }
 
-/// What an event says behind its first word.
+/// The event of a line whose first word is this verb.
 #[tactic(auto, unfolding(crate::specs::Reading::event_at))]
 fn event_at(
     alloc: Global,
@@ -180,7 +181,7 @@ fn event_at(
     }
 }
 
-/// What a line's first word says.
+/// The verb that the first word of a line is.
 #[tactic(auto, using(crate::proofs::Words::left_split), unfolding(crate::specs::Reading::verb_in))]
 fn verb_in(word: &[u8], line: &[u8]) -> Result<Verb, ReadError>
     ensures { Gives (λ x. x) result (reading.verb_in word.now (split line.now)) }

@@ -5,13 +5,16 @@ ghost use Rattle.st_schedule.specs.Words as words;
 
 use st_base::{ClientId, FileId, NodeId, ServerId};
 
+/// The most bytes of a line.
 const LONGEST_LINE: usize = 256;
 
+/// The greatest number of a client or a server in a word.
 const MOST_NODE: u64 = 99;
 
+/// The greatest number of a file's server in a word.
 const MOST_SERVER: u64 = 65_535;
 
-/// The greatest number of most places.
+/// The greatest value of most numbers in a line.
 pub(crate) const MOST_NUMBER: u64 = 4_294_967_295;
 
 pub(crate) fn is_long(line: &[u8]) -> bool
@@ -53,7 +56,7 @@ fn are_digits(word: &[u8]) -> bool
     word.iter().all(|b| is_digit(*b))
 }
 
-/// Whether the word is one of digits.
+/// Whether the word is not empty and all its bytes are digits.
 pub(crate) fn is_number(word: &[u8]) -> bool
     ensures { result ≡ words.is_number word.now }
 {
@@ -69,7 +72,7 @@ fn has_leading_zero(word: &[u8]) -> bool
     }
 }
 
-/// The number of these digits, if it is not above the greatest.
+/// The value of these digits, if it is at most `most`.
 #[tactic(auto, using(crate::proofs::Words::value_above))]
 fn value_up_to(most: u64, word: &[u8]) -> Option<u64>
     ensures { result ≡ words.at_most most (words.value word.now) }
@@ -85,7 +88,7 @@ fn value_up_to(most: u64, word: &[u8]) -> Option<u64>
     Some(n)
 }
 
-/// The number of a word of digits, without a leading zero and in its range.
+/// The value of a word of digits, if it has no leading zero and is from `least` to `most`.
 pub(crate) fn in_range(least: u64, most: u64, word: &[u8]) -> Option<u64>
     ensures value { result ≡ words.in_range least most word.now }
     ensures range { IfSome result (λ n. (least ≤ n) × (n ≤ most)) }
@@ -97,7 +100,7 @@ pub(crate) fn in_range(least: u64, most: u64, word: &[u8]) -> Option<u64>
     if least <= n { Some(n) } else { None }
 }
 
-/// A number as a part of a longer word.
+/// The value of a number that is a part of a longer word.
 fn plain(least: u64, most: u64, word: &[u8]) -> Option<u64>
     ensures value { result ≡ words.plain least most word.now }
     ensures range { IfSome result (λ n. (least ≤ n) × (n ≤ most)) }
@@ -109,7 +112,7 @@ fn plain(least: u64, most: u64, word: &[u8]) -> Option<u64>
     }
 }
 
-/// `c` or `s`, and a number from 1 to 99.
+/// The node that a word names: `c` or `s`, and a number from 1 to 99.
 pub(crate) fn node_of(word: &[u8]) -> Option<NodeId>
     ensures { result ≡ words.node_of word.now }
 {
@@ -142,7 +145,7 @@ fn colon(word: &[u8]) -> Option<usize>
     word.iter().position(|b| *b == b':')
 }
 
-/// The file of the parts on both sides of a colon.
+/// The file that the parts on both sides of a colon name.
 fn file_parted(word: &[u8], colon: usize) -> Option<FileId>
     requires { colon < length word.now }
     ensures { result ≡ words.file_parted word.now colon }
@@ -166,7 +169,7 @@ fn file_in(server: u16, ino: Option<u64>) -> Option<FileId>
     }
 }
 
-/// A server's number, a colon and an inode.
+/// The file that a word names: a server's number, a colon and an inode.
 pub(crate) fn file_word(word: &[u8]) -> Option<FileId>
     ensures { result ≡ words.file_word word.now }
 {

@@ -6,13 +6,16 @@ ghost use Rattle.st_schedule.specs.Reading as reading;
 
 use crate::fault::{Fault, ReadError};
 use crate::verb::{AskVerb, ask_verb_of, form_of, result_of};
-use crate::word::{client_word, file_word, in_range, is, is_name, is_number, node_of, split_word};
+use crate::word_values::{
+    client_word, file_word, in_range, is, is_name, is_number, node_of, split_word,
+};
 use st_base::{ClientId, FileId, Name, NodeId, PageNo};
 use std::alloc::Global;
 
+/// The greatest page number.
 const MOST_PAGE: u64 = 1_048_575;
 
-/// How many bytes of the line stand from the next word on.
+/// The number of bytes from the first byte of the next word to the end of the line.
 #[tactic(auto, using(crate::proofs::Words::left_behind))]
 fn left(rest: &[u8]) -> usize
     ensures { result ≡ words.left (words_behind rest.now) }
@@ -20,7 +23,7 @@ fn left(rest: &[u8]) -> usize
     rest.len().saturating_sub(1)
 }
 
-/// The fault of a word that is wrong, missing or too much.
+/// The fault of a word that is wrong, missing or superfluous.
 pub(crate) fn syntax(rest: &[u8]) -> ReadError
     ensures { result ≡ ReadError.Fault (Fault.Syntax (words.left (words_behind rest.now))) }
 {
@@ -109,7 +112,7 @@ fn after_of(word: &[u8]) -> &[u8]
     if is(word, b"-") { &[] } else { word }
 }
 
-/// A name, or `-` for the beginning.
+/// A name, or `-`, which stands for the empty name at the beginning of a directory.
 #[tactic(auto, unfolding(crate::specs::Reading::after_at))]
 pub(crate) fn after_at(alloc: Global, rest: &[u8]) -> Result<(Name, &[u8]), ReadError>
     ensures { Gives (λ x. (x.0, words_behind x.1.now)) result (reading.after_at (words_behind rest.now)) }
@@ -165,8 +168,8 @@ pub(crate) fn place_at(rest: &[u8]) -> Result<((FileId, PageNo), &[u8]), ReadErr
     Ok(((file, PageNo(page as u32)), rest))
 }
 
-/// No word is too much.
-#[tactic(auto, using(crate::proofs::Ends::too_much), unfolding(crate::specs::Reading::ends))]
+/// The end of the line, or the fault of a superfluous word.
+#[tactic(auto, using(crate::proofs::LineEnds::too_much), unfolding(crate::specs::Reading::ends))]
 pub(crate) fn ends(rest: &[u8]) -> Result<(), ReadError>
     ensures { Gives (λ x. x) result (reading.ends (words_behind rest.now)) }
 {
