@@ -1,7 +1,7 @@
 ghost use Rattle.std.specs.Prelude.{◌≡◌, ◌++◌, OnOk, string_bytes};
 ghost use Rattle.std.specs.List.{flat_map};
 ghost use Rattle.st_world.specs.Report as text;
-ghost use Rattle.st_world.specs.declared.rows.Observation.TheVariants as observation;
+ghost use Rattle.st_world.specs.declared.machine_types.Observation.TheVariants as observation;
 
 use st_base::{ClientId, ExtentRow, FileId, PageBytes, PageNo, ServerId};
 use st_codec::{AppAnswer, Body, Message};
@@ -48,7 +48,7 @@ fn put_file(out: &mut String, file: FileId) -> Result<(), AllocError>
     write!(out, " {server}:{ino}")
 }
 
-/// The kinds of the first path; the others are never sent in it.
+/// The name of a message's kind. The first path sends only these kinds.
 fn kind(body: &Body) -> &'static str
     ensures { result.now ≡ text.kind body.now }
 {
@@ -82,7 +82,7 @@ fn put_rows(out: &mut String, rows: &[ExtentRow]) -> Result<(), AllocError>
     Ok(())
 }
 
-/// What a message of the first path says, in the order in which it is written.
+/// Appends the fields of a message of the first path, in the order of the report.
 fn put_fields(out: &mut String, body: &Body) -> Result<(), AllocError>
     ensures { OnOk result (string_bytes out.new ≡ string_bytes out.old ++ text.fields body.now) }
 {
@@ -159,7 +159,7 @@ fn put_runs_from(out: &mut String, first: u8, bytes: &[u8]) -> Result<(), AllocE
     put_run(out, count, byte)
 }
 
-/// The bytes of a page as runs of equal ones.
+/// Appends the bytes of a page as runs of equal bytes.
 fn put_runs(out: &mut String, bytes: &[u8]) -> Result<(), AllocError>
     ensures { OnOk result (string_bytes out.new ≡ string_bytes out.old ++ text.runs bytes.now) }
 {
@@ -172,7 +172,7 @@ fn put_runs(out: &mut String, bytes: &[u8]) -> Result<(), AllocError>
     }
 }
 
-/// The answers of the first path; the others are never given in it.
+/// Appends an answer. The first path gives only these answers.
 fn put_answer(out: &mut String, answer: &AppAnswer) -> Result<(), AllocError>
     ensures { OnOk result (string_bytes out.new ≡ string_bytes out.old ++ text.answer answer.now) }
 {
@@ -246,7 +246,7 @@ fn put_line(out: &mut String, event: u64, o: &Observation) -> Result<(), AllocEr
     out.push_str("\n")
 }
 
-/// A line for each of an event's observations.
+/// Appends a line for each observation of an event.
 pub(crate) fn put_lines(
     out: &mut String,
     event: u64,

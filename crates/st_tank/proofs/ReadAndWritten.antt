@@ -6,7 +6,7 @@ use Rattle.std.specs.Io.KnownBytes.{Consumes, Appends, IsAtEnd}
 use Rattle.st_link.specs.Prefixes.{AppendsPrefix}
 use Rattle.st_tank.specs.Replay.{Report, report_of, status_of}
 use Rattle.st_tank.proofs.FirstBytes.{long_enough}
-use Rattle.st_tank.proofs.Wholes.{whole_short}
+use Rattle.st_tank.proofs.WholeSchedules.{whole_short}
 
 -- the bytes that were read have the report of all the bytes
 same_report : (xs bytes ys : List ℕ) → xs ≡ bytes ++ ys → length bytes ≤ 25700515 → (length bytes < 25700515 → ys ≡ []) →

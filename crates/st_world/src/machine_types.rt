@@ -1,3 +1,4 @@
+// What the machine of the first path keeps, takes and shows.
 use st_base::{ClientId, ExtentRow, FileId, GrantNo, Mode, PageBytes, PageNo, ServerId, Stamp};
 use st_codec::{AppAnswer, Ask, Body, Message};
 

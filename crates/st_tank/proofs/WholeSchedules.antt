@@ -6,7 +6,7 @@ use Rattle.st_schedule.specs.declared.reader.Line.TheVariants as said
 use Rattle.st_schedule.specs.declared.reader.Progress.{Progress}
 use Rattle.st_schedule.specs.declared.reader.Progress.TheVariants as progress
 use Rattle.st_schedule.specs.Reader.{Told, read_line, read_end}
-use Rattle.st_world.specs.declared.rows.Observation.{Observation}
+use Rattle.st_world.specs.declared.machine_types.Observation.{Observation}
 use Rattle.st_world.specs.declared.fault.WorldRefusal.{WorldRefusal}
 use Rattle.st_world.specs.World.{World, fresh_world}
 use Rattle.st_world.specs.Run.{run}
