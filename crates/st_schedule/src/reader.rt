@@ -10,7 +10,7 @@ use crate::fault::{Fault, ReadError, ScheduleRefusal};
 use crate::head::head_at;
 use crate::word_values::{is, is_long, split_word};
 use st_base::Config;
-use st_codec::{Counts, Event};
+use st_messages::{Counts, Event};
 use std::alloc::Global;
 use std::marker::Model;
 

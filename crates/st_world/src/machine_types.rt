@@ -1,6 +1,6 @@
 // What the machine of the first path keeps, takes and shows.
 use st_base::{ClientId, ExtentRow, FileId, GrantNo, Mode, PageBytes, PageNo, ServerId, Stamp};
-use st_codec::{AppAnswer, Ask, Body, Message};
+use st_messages::{AppAnswer, Ask, Body, Message};
 
 /// What a server keeps of a client that greeted it: the last request's number and the reply to it.
 #[derive(Drop)]
