@@ -3,7 +3,7 @@ use Rattle.std.specs.Prelude.{ℕ, List, [], ◌++◌, length, take, drop, ◌+�
 use Rattle.std.specs.Int.{w32, from_be_bytes}
 use Rattle.st_codec.specs.declared.frames.Front.{Front}
 use Rattle.st_codec.specs.declared.frames.Front.TheVariants.{Partial, TooLong, Whole}
-use Rattle.st_codec.specs.declared.message.Message.{Message}
+use Rattle.st_messages.specs.declared.message.Message.{Message}
 use Rattle.st_codec.specs.declared.refusal.CodecRefusal.{CodecRefusal}
 use Rattle.st_codec.specs.declared.refusal.CodecRefusal.TheVariants as refusals
 use Rattle.st_codec.specs.Reading.{decoded}

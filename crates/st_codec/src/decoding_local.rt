@@ -1,19 +1,17 @@
 ghost use Rattle.std.specs.Prelude.{◌≡◌};
 ghost use Rattle.st_codec.specs.Reading as reading;
-ghost use Rattle.st_codec.specs.declared.answer.AppAnswer.TheVariants as answers;
-ghost use Rattle.st_codec.specs.declared.ask.Ask.TheVariants as asks;
+ghost use Rattle.st_messages.specs.declared.answer.AppAnswer.TheVariants as answers;
+ghost use Rattle.st_messages.specs.declared.ask.Ask.TheVariants as asks;
 
-use crate::answer::AppAnswer;
-use crate::ask::Ask;
 use crate::decoding_names::read_name_ask;
 use crate::fault::{Fault, ReadError};
 use crate::field::{
     read_byte, read_file, read_ino, read_page, read_patch_bytes, read_tag, read_whole_page,
     read_word16_in, read_word64,
 };
-use crate::message::DiskResult;
 use crate::row::{read_lost, read_names};
 use st_base::{BlockAt, Command, FileId, PageBytes, PageNo, ServerId, Tag};
+use st_messages::{AppAnswer, Ask, DiskResult};
 use std::alloc::Global;
 
 #[tactic(auto, unfolding(crate::specs::Reading::file_page_at))]

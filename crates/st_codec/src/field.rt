@@ -2,9 +2,9 @@ ghost use Rattle.std.specs.Prelude.{◌≡◌, ◌≤◌, IfOk, length};
 ghost use Rattle.st_codec.specs.Reading as reading;
 
 use crate::fault::{Fault, ReadError};
-use crate::patch::PatchBytes;
-use crate::range::within;
 use st_base::{BlockAt, DiskId, FileId, GrantNo, Mode, Name, PageBytes, PageNo, ServerId, Tag};
+use st_messages::PatchBytes;
+use st_messages::range::within;
 use std::alloc::Global;
 
 /// The fault of a field that begins where these bytes begin.

@@ -2,8 +2,8 @@ ghost use Rattle.std.specs.Prelude.{◌≡◌, ◌≤◌, ◌+◌, ℕ, IfOk, On
 ghost use Rattle.st_codec.specs.Frames as rules;
 
 use crate::decoding::decode;
-use crate::message::Message;
 use crate::refusal::CodecRefusal;
+use st_messages::Message;
 use std::alloc::{AllocError, Global};
 use std::marker::Model;
 

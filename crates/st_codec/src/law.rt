@@ -1,14 +1,14 @@
 ghost use Rattle.std.specs.Prelude.{◌≡◌, ◌<◌, ◌≤◌, ◌++◌, true, ℕ, List, Some, None, Ok, Err, length};
 ghost use Rattle.st_codec.specs.Grammar.{Spells};
-ghost use Rattle.st_codec.specs.Fits as fits;
+ghost use Rattle.st_messages.specs.Fits as fits;
 ghost use Rattle.st_codec.specs.Frames as frames;
 ghost use Rattle.st_codec.specs.Reading as reading;
-ghost use Rattle.st_codec.specs.Sizes as sizes;
+ghost use Rattle.st_messages.specs.Sizes as sizes;
 ghost use Rattle.st_codec.specs.Spelling as spells;
 ghost use Rattle.st_codec.specs.Stream as streams;
 
-use crate::message::Message;
 use crate::refusal::CodecRefusal;
+use st_messages::Message;
 
 /// A message has at most one spelling, and bytes spell at most one message.
 pub fn one_spelling()

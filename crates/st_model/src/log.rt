@@ -8,7 +8,7 @@ ghost use Rattle.st_rules.specs.FlatLog as rules;
 use crate::marks::{harden_all, lose};
 use crate::pages::{content_of, last_of};
 use st_base::{ClientId, FileId, Life, PageBytes, PageNo};
-use st_codec::PatchBytes;
+use st_messages::PatchBytes;
 use st_rules::{Cause, Change, EntryHead, Fate, LogEntry, LogOwner};
 use std::alloc::{AllocError, Global};
 use std::marker::Model;

@@ -2,12 +2,12 @@
 use Rattle.std.specs.Prelude.{ℕ, ◌==◌, Bool, true, false, List, [], ◌∷◌, ◌++◌, map, Option, Some, None, ⊤}
 use Rattle.st_base.specs.Page.{filled}
 use Rattle.st_base.specs.declared.mode.Mode.TheVariants as modes
-use Rattle.st_codec.specs.declared.answer.AppAnswer.TheVariants as answers
-use Rattle.st_codec.specs.declared.ask.Ask.TheVariants as asks
-use Rattle.st_codec.specs.declared.event.Event.{Event}
-use Rattle.st_codec.specs.declared.event.Event.TheVariants as events
-use Rattle.st_codec.specs.declared.message.Body.TheVariants as bodies
-use Rattle.st_codec.specs.declared.message.Why.TheVariants as why
+use Rattle.st_messages.specs.declared.answer.AppAnswer.TheVariants as answers
+use Rattle.st_messages.specs.declared.ask.Ask.TheVariants as asks
+use Rattle.st_messages.specs.declared.event.Event.{Event}
+use Rattle.st_messages.specs.declared.event.Event.TheVariants as events
+use Rattle.st_messages.specs.declared.message.Body.TheVariants as bodies
+use Rattle.st_messages.specs.declared.message.Why.TheVariants as why
 use Rattle.st_rules.specs.declared.client.HeldLock.{HeldLock}
 use Rattle.st_rules.specs.declared.locks.LockRow.{LockRow}
 use Rattle.st_rules.specs.declared.log.Cause.TheVariants as causes
@@ -16,7 +16,8 @@ use Rattle.st_rules.specs.declared.log.Fate.TheVariants as fates
 use Rattle.st_rules.specs.declared.log.LogEntry.{LogEntry}
 use Rattle.st_rules.specs.declared.observation.Observation.{Observation}
 use Rattle.st_rules.specs.ClientState.{ClientSession, Association}
-use Rattle.st_rules.specs.World.{World, ClientSite, ServerNode}
+use Rattle.st_rules.specs.World.{World, ClientSite}
+use Rattle.st_rules.specs.Server.{ServerNode}
 use Rattle.st_rules.specs.History.{Traced, TracedRun, TimerStart, trace, traced}
 use Rattle.st_rules.specs.Safety.{Step, steps, DirtyPagesStandAlone, ReadsReturnLastWrites, DropsHaveACause, HardStaysHard, HardIsHard, TheftsComeLate, LeasesAreDatedFromRequests, GraceWaits, NoConflictIsSent}
 use Rattle.st_rows.specs.Words.{c, life, epoch, page, stamp, g}
@@ -132,7 +133,8 @@ abbrev pub association_dated : ℕ → Association → Association
 association_dated n a = record a { session = session_in n a.session }
 
 abbrev pub site_dated : ℕ → ClientSite → ClientSite
-site_dated n site = record site { node = record site.node { state = record site.node.state { associations = map (association_dated n) site.node.state.associations } } }
+site_dated n site =
+    record site { node = record site.node { state = record site.node.state { associations = map (association_dated n) site.node.state.associations } } }
 
 abbrev pub all_dated : ℕ → World → World
 all_dated n w = record w { clients = map (site_dated n) w.clients }
@@ -152,7 +154,8 @@ abbrev pub association_locked : Association → Association
 association_locked a = record a { session = locked_in a.session }
 
 abbrev pub site_locked : ClientSite → ClientSite
-site_locked site = record site { node = record site.node { state = record site.node.state { associations = map association_locked site.node.state.associations } } }
+site_locked site =
+    record site { node = record site.node { state = record site.node.state { associations = map association_locked site.node.state.associations } } }
 
 abbrev pub all_locked : World → World
 all_locked w = record w { clients = map site_locked w.clients }
@@ -170,7 +173,8 @@ by_event e x = record x { event = e }
 
 -- the server is in its second epoch, whose grace is over
 abbrev pub node_restarted : ServerNode → ServerNode
-node_restarted node = record node { state = record node.state { stable = record node.state.stable { epoch = epoch 2 }; grace = record { wait = 1; start = Some (stamp 0) } } }
+node_restarted node =
+    record node { state = record node.state { stable = record node.state.stable { epoch = epoch 2 }; grace = Some (record { start = stamp 0; wait = 1 }) } }
 
 abbrev pub out_of_grace : World → World
 out_of_grace w = record w { servers = map node_restarted w.servers }

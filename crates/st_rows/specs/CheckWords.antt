@@ -3,7 +3,7 @@
 use Rattle.std.specs.Prelude.{ℕ, List, [], ◌∷◌, map, None, ⊤}
 use Rattle.std.specs.Fmt.{digits}
 use Rattle.st_base.specs.declared.disk.Command.TheVariants as commands
-use Rattle.st_codec.specs.declared.event.Event.{Event}
+use Rattle.st_messages.specs.declared.event.Event.{Event}
 use Rattle.st_rules.specs.Disks as disks
 use Rattle.st_rules.specs.Extents.{numbers}
 use Rattle.st_rules.specs.Report.{report_open}

@@ -1,6 +1,6 @@
 -- Scripts: a client is given inputs at moments, and what it says is compared.
 use Rattle.std.specs.Prelude.{ℕ, List, [], ◌∷◌, ◌++◌, ⊤}
-use Rattle.st_codec.specs.declared.output.Output.{Output}
+use Rattle.st_messages.specs.declared.output.Output.{Output}
 use Rattle.st_rules.specs.declared.client.ClientInput.{ClientInput}
 use Rattle.st_rules.specs.ClientState.{ClientState, ClientTurn}
 use Rattle.st_rules.specs.Client.{client_step, fresh_client, crash, start, client_open}

@@ -1,7 +1,7 @@
 -- Scripts: a server is given inputs at moments, and what it says is compared.
 use Rattle.std.specs.Prelude.{ℕ, List, [], ◌∷◌, ◌++◌, ⊤}
 use Rattle.st_base.specs.declared.config.Config.{Config}
-use Rattle.st_codec.specs.declared.output.Output.{Output}
+use Rattle.st_messages.specs.declared.output.Output.{Output}
 use Rattle.st_rules.specs.declared.input.ServerInput.{ServerInput}
 use Rattle.st_rules.specs.Server.{ServerState, Turn, server_step, fresh_server, crash, start}
 use Rattle.st_rules.specs.Rules.{rules_open}

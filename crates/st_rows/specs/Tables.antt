@@ -8,7 +8,7 @@ use Rattle.st_base.specs.declared.disk.Command.TheVariants.{Read, Write}
 use Rattle.st_base.specs.declared.mode.Mode.{Mode}
 use Rattle.st_base.specs.declared.mode.Mode.TheVariants as modes
 use Rattle.st_base.specs.Page.{filled}
-use Rattle.st_codec.specs.declared.message.Body.{Body}
+use Rattle.st_messages.specs.declared.message.Body.{Body}
 use Rattle.st_rules.specs.declared.authority.Suspect.{Suspect}
 use Rattle.st_rules.specs.declared.extents.Extent.{Extent}
 use Rattle.st_rules.specs.declared.locks.RowDemand.{RowDemand}

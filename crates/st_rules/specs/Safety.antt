@@ -11,19 +11,19 @@ use Rattle.st_base.specs.declared.ids.Stamp.{Stamp}
 use Rattle.st_base.specs.declared.ids.NodeId.TheVariants as nodes
 use Rattle.st_base.specs.declared.config.Config.{Config}
 use Rattle.st_base.specs.Config.{check}
-use Rattle.st_codec.specs.declared.ask.Ask.{Ask}
-use Rattle.st_codec.specs.declared.ask.Ask.TheVariants as asks
-use Rattle.st_codec.specs.declared.answer.AppAnswer.{AppAnswer}
-use Rattle.st_codec.specs.declared.answer.AppAnswer.TheVariants as answers
-use Rattle.st_codec.specs.declared.message.Message.{Message}
-use Rattle.st_codec.specs.declared.message.Header.{Header}
-use Rattle.st_codec.specs.declared.message.Body.{Body}
-use Rattle.st_codec.specs.declared.message.Body.TheVariants as bodies
-use Rattle.st_codec.specs.declared.message.Why.{Why}
-use Rattle.st_codec.specs.declared.message.Why.TheVariants as why
-use Rattle.st_codec.specs.declared.event.Event.{Event}
-use Rattle.st_codec.specs.declared.event.Event.TheVariants as events
-use Rattle.st_codec.specs.Fits.{is_ask}
+use Rattle.st_messages.specs.declared.ask.Ask.{Ask}
+use Rattle.st_messages.specs.declared.ask.Ask.TheVariants as asks
+use Rattle.st_messages.specs.declared.answer.AppAnswer.{AppAnswer}
+use Rattle.st_messages.specs.declared.answer.AppAnswer.TheVariants as answers
+use Rattle.st_messages.specs.declared.message.Message.{Message}
+use Rattle.st_messages.specs.declared.message.Header.{Header}
+use Rattle.st_messages.specs.declared.message.Body.{Body}
+use Rattle.st_messages.specs.declared.message.Body.TheVariants as bodies
+use Rattle.st_messages.specs.declared.message.Why.{Why}
+use Rattle.st_messages.specs.declared.message.Why.TheVariants as why
+use Rattle.st_messages.specs.declared.event.Event.{Event}
+use Rattle.st_messages.specs.declared.event.Event.TheVariants as events
+use Rattle.st_messages.specs.Fits.{is_ask}
 use Rattle.st_rules.specs.declared.pages.DirtyPage.{DirtyPage}
 use Rattle.st_rules.specs.declared.client.HeldLock.{HeldLock}
 use Rattle.st_rules.specs.declared.input.ServerInput.TheVariants as serving
@@ -39,7 +39,7 @@ use Rattle.st_rules.specs.declared.observation.Observation.TheVariants as seen
 use Rattle.st_rules.specs.declared.observation.WorldRefusal.{WorldRefusal}
 use Rattle.st_rules.specs.declared.sessions.Session.{Session}
 use Rattle.st_rules.specs.declared.world.SentMessage.{SentMessage}
-use Rattle.st_rules.specs.Keys.{same_client, same_server, same_file}
+use Rattle.st_rules.specs.Keys.{same_client, same_server, same_file, server_node}
 use Rattle.st_rules.specs.ClientLocks.{is_lock_on}
 use Rattle.st_rules.specs.ClientState.{ClientState, ClientSession, Association, ClientTurn}
 use Rattle.st_rules.specs.Client as client
@@ -47,8 +47,9 @@ use Rattle.st_rules.specs.FlatLog as log
 use Rattle.st_rules.specs.Grace as grace
 use Rattle.st_rules.specs.Locks as locks
 use Rattle.st_rules.specs.Server as server
+use Rattle.st_rules.specs.Server.{ServerNode}
 use Rattle.st_rules.specs.Sessions as sessions
-use Rattle.st_rules.specs.World.{World, ClientSite, ServerNode, site_of, node_of, all_clients, all_servers, clock_of, numbered, with_numbered, lease_end_of, fresh_world}
+use Rattle.st_rules.specs.World.{World, ClientSite, site_of, node_of, all_clients, all_servers, clock_of, numbered, with_numbered, lease_end_of, fresh_world}
 use Rattle.st_rules.specs.Events.{Scene, world_step, present_life, is_hard_fate, last_write}
 use Rattle.st_rules.specs.History.{Traced, History, TimerStart, LeaseDate, traced, traced_after}
 
@@ -327,8 +328,6 @@ TheftsComeLate past x = list_all (is_late x.before.world) x.seen ≡ true
 
 -- Leases are dated from a request: a lease's date is the client's own reading when it sent a request of this life, and the
 -- server sent that request's reply before any timer that runs for this client now.
-abbrev pub server_number : ServerId → ℕ
-server_number s = 32768 + s.0
 
 -- a request: what a client sends but a seen demand
 abbrev pub is_request : Body → Bool
@@ -337,7 +336,8 @@ is_request body = true
 
 -- a request of a client's life to a server, with this stamp
 abbrev pub is_request_at : ClientId → ServerId → Life → Stamp → Message → Bool
-is_request_at c s life date m = ((m.header.from == c.0) && (m.header.to == server_number s)) && (is_request m.body && ((m.header.life == life.0) && (m.header.stamp == date.0)))
+is_request_at c s life date m =
+    ((m.header.from == c.0) && (m.header.to == server_node s)) && (is_request m.body && ((m.header.life == life.0) && (m.header.stamp == date.0)))
 
 -- a refusal of the client itself or of its epoch, by which no lease is renewed
 abbrev pub refuses_client : Why → Bool
@@ -358,7 +358,9 @@ may_date number body = true
 
 -- a reply to a request, by which a lease may be dated
 abbrev pub is_reply_to : Message → Message → Bool
-is_reply_to q m = (may_date m.header.number m.body && ((m.header.from == q.header.to) && (m.header.to == q.header.from))) && ((m.header.life == q.header.life) && ((m.header.number == q.header.number) && (m.header.stamp == q.header.stamp)))
+is_reply_to q m =
+    (may_date m.header.number m.body && ((m.header.from == q.header.to) && (m.header.to == q.header.from)))
+    && ((m.header.life == q.header.life) && ((m.header.number == q.header.number) && (m.header.stamp == q.header.stamp)))
 
 -- a timer of this client started after so many messages
 abbrev pub started_after : ServerId → ClientId → ℕ → TimerStart → Bool
@@ -416,7 +418,8 @@ is_reasserted_body body = false
 
 -- a reply that accepts a client's reassertion in this epoch
 abbrev pub accepts_in : ServerId → ClientId → Epoch → SentMessage → Bool
-accepts_in s c epoch m = is_reasserted_body m.message.body && ((m.message.header.from == server_number s) && ((m.message.header.to == c.0) && (m.message.header.epoch == epoch.0)))
+accepts_in s c epoch m =
+    is_reasserted_body m.message.body && ((m.message.header.from == server_node s) && ((m.message.header.to == c.0) && (m.message.header.epoch == epoch.0)))
 
 -- a client was reasserted in this epoch
 abbrev pub was_reasserted : World → ServerId → ClientId → Epoch → Bool
@@ -432,12 +435,13 @@ client_waited_for t s epoch c = was_reasserted t.world s c epoch || list_all (is
 
 -- a running server whose grace is over
 abbrev pub is_out_of_grace : Stamp → ServerNode → Bool
-is_out_of_grace clock node = node.running && (is_some node.state.grace.start && not (grace.is_on node.state.grace clock))
+is_out_of_grace clock node = node.running && (is_some node.state.grace && not (grace.is_on node.state.grace clock))
 
 -- a server that began its epoch with a grace
 abbrev pub node_waited : Traced → ServerId → Option ServerNode → Bool
 node_waited t s None = true
-node_waited t s (Some node) = not (is_out_of_grace (clock_of t.world (nodes.Server s)) node) || list_all (client_waited_for t s node.state.stable.epoch) (all_clients t.world)
+node_waited t s (Some node) =
+    not (is_out_of_grace (clock_of t.world (nodes.Server s)) node) || list_all (client_waited_for t s node.state.stable.epoch) (all_clients t.world)
 
 -- a server waited for all clients
 abbrev pub has_waited : Traced → ServerId → Bool
@@ -484,7 +488,7 @@ is_old_for (Some s) h body = is_other_epoch s h && not (is_newer_epoch s h body)
 
 -- an old message at an association
 abbrev pub is_old_at : Header → Body → Association → Bool
-is_old_at h body a = not (h.from == server_number a.server) || (not (h.life == a.life.0) || is_old_for a.session h body)
+is_old_at h body a = not (h.from == server_node a.server) || (not (h.life == a.life.0) || is_old_for a.session h body)
 
 -- a message that is old at every association
 abbrev pub is_old : ClientState → Message → Bool
@@ -515,7 +519,9 @@ is_of_past_life s m = is_below m.header (sessions.session_of s.sessions (server.
 
 -- Old messages change nothing at a server
 abbrev pub OldMessagesChangeNoServer : Type 0
-OldMessagesChangeNoServer = (t : server.Turn) (now : Stamp) (m : Message) → is_of_other_epoch t.state m || is_of_past_life t.state m ≡ true → (server.take_input t now (serving.Control m)).state ≡ t.state
+OldMessagesChangeNoServer =
+    (t : server.Turn) (now : Stamp) (m : Message) → is_of_other_epoch t.state m || is_of_past_life t.state m ≡ true →
+    (server.take_input t now (serving.Control m)).state ≡ t.state
 
 -- The heads of schedules: settings without a fault, and counts in their ranges; the first form has no grain.
 pub record IsHead (k : Config) (clients servers disks blocks form : ℕ) : Type 0 where
@@ -554,7 +560,10 @@ IsSafeRun w es = IsSafe (steps es (traced w))
 
 -- Every run is safe, from the world of every head and over every list of events, up to the first that is refused
 abbrev pub EveryRunIsSafe : Type 0
-EveryRunIsSafe = (k : Config) (clients servers disks blocks form : ℕ) (es : List Event) → IsHead k clients servers disks blocks form → list_all (is_event (clients + servers)) es ≡ true → IsSafeRun (fresh_world k clients servers disks blocks form) es
+EveryRunIsSafe =
+    (k : Config) (clients servers disks blocks form : ℕ) (es : List Event) →
+    IsHead k clients servers disks blocks form → list_all (is_event (clients + servers)) es ≡ true →
+    IsSafeRun (fresh_world k clients servers disks blocks form) es
 
 -- All that is promised: every run is safe, and old messages change nothing.
 pub record IsAllPromised : Type 0 where

@@ -1,10 +1,8 @@
 ghost use Rattle.std.specs.Prelude.{◌≡◌, IfOk};
-ghost use Rattle.st_rules.specs.declared.client.CacheRefusal.TheVariants as refusals;
 
 use st_base::{BlockAt, GrantNo, Mode, PageBytes, PageNo, Stamp, Tag};
-use st_codec::{Ask, Body, Message};
-use std::alloc::{AllocError, AllocFailed};
-use thiserror::Error;
+use st_messages::{Ask, Body, Message};
+use std::alloc::AllocError;
 
 /// What comes to a client.
 #[derive(Drop)]
@@ -106,12 +104,10 @@ pub struct CleanPage {
 }
 
 /// Why a page is not written.
-#[derive(Clone, Copy, Debug, PartialEq, Eq, Error)]
-pub enum CacheRefusal {
-    #[error("64 other pages are dirty")]
+#[derive(Clone, Copy, Debug, PartialEq, Eq)]
+pub enum WriteRefusal {
+    /// 64 other pages are dirty.
     DirtyFull,
-    #[error("out of memory")]
-    Memory,
 }
 
 /// What a disk command is for: to read its page, or to write the version of it that it carries.
@@ -176,22 +172,6 @@ pub struct Operation {
     pub op: u32,
     pub ask: Ask,
     pub stage: Stage,
-}
-
-impl From<AllocError> for CacheRefusal {
-    ghost from_gives = { λ _ e. e ≡ refusals.Memory };
-
-    fn from(_e: AllocError) -> CacheRefusal {
-        CacheRefusal::Memory
-    }
-}
-
-impl<T: Drop> From<AllocFailed<T>> for CacheRefusal {
-    ghost from_gives = { λ _ e. e ≡ refusals.Memory };
-
-    fn from(_e: AllocFailed<T>) -> CacheRefusal {
-        CacheRefusal::Memory
-    }
 }
 
 fn copy_block(block: &Option<(Tag, PageBytes)>) -> Result<Option<(Tag, PageBytes)>, AllocError>

@@ -1,9 +1,7 @@
 ghost use Rattle.std.specs.Prelude.{◌≡◌, IfOk};
-ghost use Rattle.st_rules.specs.declared.disks.DiskRefusal.TheVariants as refusals;
 
 use st_base::{BlockAt, Command, PageBytes, Tag};
-use std::alloc::{AllocError, AllocFailed};
-use thiserror::Error;
+use std::alloc::AllocError;
 
 /// A block, by its place, with its tag and its bytes.
 #[derive(Drop)]
@@ -30,35 +28,16 @@ pub struct DiskCommand {
     pub sample: Option<Block>,
 }
 
-/// Why the disks refuse a call; the value is the command's number.
-#[derive(Clone, Copy, Debug, PartialEq, Eq, Error)]
-pub enum DiskRefusal {
-    #[error("no command {0}")]
+/// Why a disk command takes no effect or no report; the value is the command's number.
+#[derive(Clone, Copy, Debug, PartialEq, Eq)]
+pub enum CommandRefusal {
     NoCommand(u64),
-    #[error("command {0} was done")]
+    /// It had its effect, or its report, before.
     Twice(u64),
-    #[error("command {0} had no effect")]
+    /// It had no effect, so that it is not reported as a success.
     NotEffected(u64),
-    #[error("command {0} was reported")]
+    /// It was reported, so that it has no further effect.
     Reported(u64),
-    #[error("out of memory")]
-    Memory,
-}
-
-impl From<AllocError> for DiskRefusal {
-    ghost from_gives = { λ _ e. e ≡ refusals.Memory };
-
-    fn from(_e: AllocError) -> DiskRefusal {
-        DiskRefusal::Memory
-    }
-}
-
-impl<T: Drop> From<AllocFailed<T>> for DiskRefusal {
-    ghost from_gives = { λ _ e. e ≡ refusals.Memory };
-
-    fn from(_e: AllocFailed<T>) -> DiskRefusal {
-        DiskRefusal::Memory
-    }
 }
 
 impl Block {

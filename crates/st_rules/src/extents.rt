@@ -1,9 +1,4 @@
-ghost use Rattle.std.specs.Prelude.{◌≡◌};
-ghost use Rattle.st_rules.specs.declared.extents.ExtentRefusal.TheVariants as refusals;
-
 use st_base::{BlockAt, FileId, PageNo};
-use std::alloc::{AllocError, AllocFailed};
-use thiserror::Error;
 
 /// Where a page of a file lies. The birth tells this mapping of the page from every other one of its server.
 #[derive(Clone, Copy, Debug, PartialEq, Eq)]
@@ -15,26 +10,8 @@ pub struct Extent {
 }
 
 /// Why pages are not mapped.
-#[derive(Clone, Copy, Debug, PartialEq, Eq, Error)]
-pub enum ExtentRefusal {
-    #[error("{free} free blocks for {asked} pages")]
+#[derive(Clone, Copy, Debug, PartialEq, Eq)]
+pub enum AllocateRefusal {
+    /// How many blocks are free, and how many pages have none.
     NoSpace { free: u64, asked: u64 },
-    #[error("out of memory")]
-    Memory,
-}
-
-impl From<AllocError> for ExtentRefusal {
-    ghost from_gives = { λ _ e. e ≡ refusals.Memory };
-
-    fn from(_e: AllocError) -> ExtentRefusal {
-        ExtentRefusal::Memory
-    }
-}
-
-impl<T: Drop> From<AllocFailed<T>> for ExtentRefusal {
-    ghost from_gives = { λ _ e. e ≡ refusals.Memory };
-
-    fn from(_e: AllocFailed<T>) -> ExtentRefusal {
-        ExtentRefusal::Memory
-    }
 }

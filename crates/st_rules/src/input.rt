@@ -1,6 +1,6 @@
 ghost use Rattle.std.specs.Prelude.{◌≡◌, IfOk};
 
-use st_codec::Message;
+use st_messages::Message;
 use std::alloc::AllocError;
 
 /// What comes to a server.

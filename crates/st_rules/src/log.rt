@@ -1,7 +1,7 @@
 ghost use Rattle.std.specs.Prelude.{◌≡◌, IfOk};
 
 use st_base::{ClientId, FileId, Life, PageBytes, PageNo};
-use st_codec::PatchBytes;
+use st_messages::PatchBytes;
 use std::alloc::AllocError;
 
 /// Why an entry of the log is gone: its client crashed, or this command was to write it and failed.

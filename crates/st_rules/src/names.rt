@@ -12,6 +12,27 @@ pub struct NameEntry {
     pub directory: bool,
 }
 
+/// Why a call on the names of a server is refused.
+#[derive(Clone, Copy, Debug, PartialEq, Eq)]
+pub enum EntryRefusal {
+    /// There is no such entry, or no such directory.
+    NoEntry,
+    /// The entry is there already.
+    Exists,
+    /// The inode is no directory.
+    NotDir,
+    /// The entry is a directory.
+    IsDir,
+    /// The directory has entries.
+    NotEmpty,
+    /// A directory would come under itself.
+    Cycle,
+    /// The bytes are no name.
+    BadName,
+    /// There are 4,096 inodes.
+    TooMany,
+}
+
 impl NameEntry {
     /// The same entry, once more.
     pub fn copy(&self) -> Result<NameEntry, AllocError>

@@ -2,7 +2,7 @@ ghost use Rattle.std.specs.Prelude.{◌≡◌, IfOk};
 
 use crate::log::Cause;
 use st_base::{ClientId, Command, FileId, Life, NodeId, PageBytes, PageNo, ServerId, Stamp};
-use st_codec::{AppAnswer, Message, PatchBytes};
+use st_messages::{AppAnswer, Message, PatchBytes};
 use std::alloc::AllocError;
 use thiserror::Error;
 

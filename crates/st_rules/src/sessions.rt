@@ -1,7 +1,7 @@
 ghost use Rattle.std.specs.Prelude.{◌≡◌, IfOk};
 
 use st_base::{ClientId, Life};
-use st_codec::Body;
+use st_messages::Body;
 use std::alloc::AllocError;
 
 /// Whether requests of a session's life are served: `last` is the greatest number that was, and `reply` what it was

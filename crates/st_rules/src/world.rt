@@ -1,5 +1,5 @@
 use st_base::{ClientId, FileId, Life, NodeId, PageNo, ServerId, Stamp};
-use st_codec::Message;
+use st_messages::Message;
 
 /// A message that was sent. One that is lost is delivered no more.
 #[derive(Drop)]

@@ -2,8 +2,8 @@
 use Rattle.std.proofs.Common.{◌≡◌, ℕ, ◌+◌, ◌<◌, ◌≤◌, true, false, List, length, refl, ◌∙◌, ap, arith}
 use Rattle.std.specs.Prelude.{nat_lt, Some, Ok}
 use Rattle.std.proofs.lemmas.Bool.Decides.{nat_tests}
-use Rattle.st_codec.specs.declared.event.Counts.{Counts}
-use Rattle.st_codec.specs.declared.event.Event.{Event}
+use Rattle.st_messages.specs.declared.event.Counts.{Counts}
+use Rattle.st_messages.specs.declared.event.Event.{Event}
 use Rattle.st_schedule.specs.declared.reader.Line.TheVariants as lines
 use Rattle.st_schedule.specs.declared.reader.Progress.TheVariants as progress
 use Rattle.st_schedule.specs.Words.{split, line_of, is_long}

@@ -5,7 +5,7 @@ use Rattle.std.specs.Fmt.{decimal}
 use Rattle.std.proofs.lemmas.Bool.Decides.{nat_tests}
 use Rattle.std.proofs.lemmas.Fmt.{decimal_digit}
 use Rattle.st_base.specs.declared.config.Config.{Config}
-use Rattle.st_codec.specs.declared.event.Counts.{Counts}
+use Rattle.st_messages.specs.declared.event.Counts.{Counts}
 use Rattle.st_schedule.specs.declared.fault.Fault.{Fault}
 use Rattle.st_schedule.specs.Grammar.{MOST_SETTING, grains, counts_of, head_numbers, AreSettings, AreCounts, IsForm, SpellsHead}
 use Rattle.st_schedule.specs.Reading.{setting_at, three_at, form_at, form_of, grain_at, rate_at, config_of, config_at, counts_at, head_at, ends}

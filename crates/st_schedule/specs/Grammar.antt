@@ -13,11 +13,11 @@ use Rattle.st_base.specs.declared.ids.NodeId.{NodeId}
 use Rattle.st_base.specs.declared.ids.NodeId.TheVariants as nodes
 use Rattle.st_base.specs.declared.names.NameAsk.{NameAsk}
 use Rattle.st_base.specs.declared.names.NameAsk.TheVariants as name_asks
-use Rattle.st_codec.specs.declared.ask.Ask.{Ask}
-use Rattle.st_codec.specs.declared.ask.Ask.TheVariants as asks
-use Rattle.st_codec.specs.declared.event.Counts.{Counts}
-use Rattle.st_codec.specs.declared.event.Event.{Event}
-use Rattle.st_codec.specs.declared.event.Event.TheVariants as events
+use Rattle.st_messages.specs.declared.ask.Ask.{Ask}
+use Rattle.st_messages.specs.declared.ask.Ask.TheVariants as asks
+use Rattle.st_messages.specs.declared.event.Counts.{Counts}
+use Rattle.st_messages.specs.declared.event.Event.{Event}
+use Rattle.st_messages.specs.declared.event.Event.TheVariants as events
 use Rattle.st_schedule.specs.Words.{MOST_NODE, MOST_SERVER, MOST_NUMBER, is_name}
 
 -- The words of an event.

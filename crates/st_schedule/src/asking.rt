@@ -8,7 +8,7 @@ use crate::place::{after_at, ask_verb_at, client_at, file_at, name_at, number_at
 use crate::verb::AskVerb;
 use crate::word::MOST_NUMBER;
 use st_base::{FileId, Name, NameAsk, PageBytes};
-use st_codec::{Ask, Event, PatchBytes};
+use st_messages::{Ask, Event, PatchBytes};
 use std::alloc::{AllocError, Global};
 
 #[tactic(auto, unfolding(crate::specs::Reading::write_at))]

@@ -10,7 +10,7 @@ use crate::place::{ends, node_at, number_at, result_at};
 use crate::verb::{Verb, verb_of};
 use crate::word::{MOST_NUMBER, is, split_word};
 use st_base::NodeId;
-use st_codec::{Event, Steps};
+use st_messages::{Event, Steps};
 use std::alloc::Global;
 
 /// So many increments.

@@ -6,7 +6,7 @@ ghost use Rattle.st_schedule.specs.Reading as reading;
 use crate::fault::ReadError;
 use crate::place::{ends, form_at, number_at};
 use st_base::Config;
-use st_codec::Counts;
+use st_messages::Counts;
 
 const MOST_SETTING: u64 = 9_223_372_036_854_775_807;
 

@@ -1,5 +1,5 @@
 ghost use Rattle.std.specs.Prelude.{◌≡◌, ◌≤◌, ◌∷◌, [], ℕ, List, length, None, Ok, Some, codes};
-ghost use Rattle.st_codec.specs.declared.event.Event.{Event};
+ghost use Rattle.st_messages.specs.declared.event.Event.{Event};
 ghost use Rattle.st_schedule.specs.declared.reader.Line.{Line};
 ghost use Rattle.st_schedule.specs.declared.reader.Progress.{Progress};
 ghost use Rattle.st_schedule.specs.Reading.{line_event};

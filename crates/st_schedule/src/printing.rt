@@ -5,7 +5,7 @@ ghost use Rattle.st_schedule.specs.Grammar as grammar;
 ghost use Rattle.st_schedule.specs.Reader.{IsReadAs};
 
 use st_base::{ClientId, FileId, NameAsk, NodeId, PageNo, ServerId};
-use st_codec::{Ask, Event};
+use st_messages::{Ask, Event};
 use std::alloc::{AllocError, Global};
 
 /// A word behind others.

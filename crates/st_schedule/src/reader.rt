@@ -10,7 +10,7 @@ use crate::happening::line_event;
 use crate::head::head_at;
 use crate::word::{is, is_long, split_word};
 use st_base::Config;
-use st_codec::{Counts, Event};
+use st_messages::{Counts, Event};
 use std::alloc::Global;
 use std::marker::Model;
 

@@ -10,8 +10,8 @@ use Rattle.std.proofs.lemmas.List.{length-take-le}
 use Rattle.st_base.specs.Config.{check}
 use Rattle.st_base.specs.declared.config.Config.{Config}
 use Rattle.st_base.specs.declared.config.ConfigRefusal.{ConfigRefusal}
-use Rattle.st_codec.specs.declared.event.Counts.{Counts}
-use Rattle.st_codec.specs.declared.event.Event.{Event}
+use Rattle.st_messages.specs.declared.event.Counts.{Counts}
+use Rattle.st_messages.specs.declared.event.Event.{Event}
 use Rattle.st_schedule.specs.declared.fault.Fault.{Fault}
 use Rattle.st_schedule.specs.declared.fault.ScheduleRefusal.TheVariants.{LineTooLong}
 use Rattle.st_schedule.specs.declared.reader.Line.{Line}

@@ -3,8 +3,8 @@ use Rattle.std.specs.Prelude.{◌≡◌, ℕ, ◌+◌, ◌==◌, ◌&&◌, if◌
 use Rattle.st_base.specs.declared.config.Config.{Config}
 use Rattle.st_base.specs.declared.config.ConfigRefusal.{ConfigRefusal}
 use Rattle.st_base.specs.declared.config.ConfigRefusal.TheVariants.{Order, Rate, TooLong, Demand, Grain}
-use Rattle.st_codec.specs.declared.event.Counts.{Counts}
-use Rattle.st_codec.specs.declared.event.Event.{Event}
+use Rattle.st_messages.specs.declared.event.Counts.{Counts}
+use Rattle.st_messages.specs.declared.event.Event.{Event}
 use Rattle.st_schedule.specs.declared.fault.ScheduleRefusal.{ScheduleRefusal}
 use Rattle.st_schedule.specs.declared.fault.ScheduleRefusal.TheVariants as refusals
 use Rattle.st_schedule.specs.declared.reader.Line.{Line}

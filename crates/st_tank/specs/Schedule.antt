@@ -1,6 +1,6 @@
 -- The lines of a schedule, and what a reader of lines makes of them, one after the other. docs/PROTOCOL.md, "Schedules".
 use Rattle.std.specs.Prelude.{ℕ, ◌+◌, ◌==◌, if◌then◌else◌, List, [], ◌∷◌, Result, Ok, Err}
-use Rattle.st_codec.specs.declared.event.Event.{Event}
+use Rattle.st_messages.specs.declared.event.Event.{Event}
 use Rattle.st_schedule.specs.declared.fault.ScheduleRefusal.{ScheduleRefusal}
 use Rattle.st_schedule.specs.declared.reader.Line.{Line}
 use Rattle.st_schedule.specs.declared.reader.Line.TheVariants as said

@@ -9,7 +9,7 @@ ghost use Rattle.st_tank.specs.Replay.{Begins, BeginsLine, Adds};
 use crate::lines::first_line;
 use crate::report::put_lines;
 use st_base::{Config, ConfigRefusal};
-use st_codec::{Counts, Event};
+use st_messages::{Counts, Event};
 use st_schedule::{Line, ScheduleReader, ScheduleRefusal};
 use st_world::{World, WorldFault, WorldRefusal};
 use std::alloc::{AllocError, Global};

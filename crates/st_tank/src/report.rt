@@ -4,7 +4,7 @@ ghost use Rattle.st_world.specs.Report as text;
 ghost use Rattle.st_world.specs.declared.rows.Observation.TheVariants as observation;
 
 use st_base::{ClientId, ExtentRow, FileId, PageBytes, PageNo, ServerId};
-use st_codec::{AppAnswer, Body, Message};
+use st_messages::{AppAnswer, Body, Message};
 use st_world::Observation;
 use std::alloc::AllocError;
 use std::fmt::Write;

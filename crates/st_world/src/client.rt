@@ -7,7 +7,7 @@ ghost use Rattle.st_world.specs.World.{fresh_client};
 use crate::rows::{ClientInput, DirtyPage, HeldLock, KnownPage, Pending, Request};
 use crate::server::SERVER;
 use st_base::{ExtentRow, FileId, GrantNo, Mode, PageBytes, PageNo, ServerId, Stamp};
-use st_codec::{AppAnswer, Ask, Body, Header, Message, Note, Output};
+use st_messages::{AppAnswer, Ask, Body, Header, Message, Note, Output};
 use std::alloc::{AllocError, Global};
 use std::marker::Model;
 use std::mem;

@@ -1,5 +1,5 @@
 use st_base::{ClientId, ExtentRow, FileId, GrantNo, Mode, PageBytes, PageNo, ServerId, Stamp};
-use st_codec::{AppAnswer, Ask, Body, Message};
+use st_messages::{AppAnswer, Ask, Body, Message};
 
 /// What a server keeps of a client that greeted it: the last request's number and the reply to it.
 #[derive(Drop)]

@@ -7,7 +7,7 @@ ghost use Rattle.st_world.specs.World.{fresh_server};
 
 use crate::rows::{LockRow, MappedPage, Session};
 use st_base::{BlockAt, DiskId, ExtentRow, ExtentRows, GrantNo, Mode, PageNo};
-use st_codec::{Body, Header, Message};
+use st_messages::{Body, Header, Message};
 use std::alloc::{AllocError, Global};
 use std::marker::Model;
 

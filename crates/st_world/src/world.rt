@@ -11,7 +11,7 @@ use crate::fault::{WorldFault, WorldRefusal};
 use crate::rows::{ClientInput, Observation};
 use crate::server::ServerNode;
 use st_base::{ClientId, FileId, Life, PageBytes, PageNo};
-use st_codec::{AppAnswer, Ask, Event, Message, Note, Output};
+use st_messages::{AppAnswer, Ask, Event, Message, Note, Output};
 use st_model::FlatLog;
 use std::alloc::{AllocError, Global};
 use std::marker::Model;

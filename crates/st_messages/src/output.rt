@@ -1,5 +1,5 @@
 ghost use Rattle.std.specs.Prelude.{◌≡◌};
-ghost use Rattle.st_codec.specs.declared.output.StepFault.TheVariants.{Memory};
+ghost use Rattle.st_messages.specs.declared.output.StepFault.TheVariants.{Memory};
 
 use crate::answer::AppAnswer;
 use crate::message::Message;

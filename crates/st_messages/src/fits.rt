@@ -1,7 +1,6 @@
 ghost use Rattle.std.specs.Prelude.{◌≡◌, ◌&&◌, ◌-◌};
-ghost use Rattle.st_codec.specs.Kinds as kinds;
-ghost use Rattle.st_codec.specs.Fits as fits;
-ghost use Rattle.st_codec.specs.Spelling as spells;
+ghost use Rattle.st_messages.specs.Kinds as kinds;
+ghost use Rattle.st_messages.specs.Fits as fits;
 
 use crate::answer::AppAnswer;
 use crate::ask::Ask;
@@ -169,9 +168,9 @@ fn header_fits(kind: Kind, header: &Header) -> bool
 }
 
 impl Body {
-    /// The kind by which the body is spelled.
-    pub(crate) fn kind(&self) -> Kind
-        ensures { result ≡ spells.kind_of_body self.now }
+    /// The kind of the message that has this body.
+    pub fn kind(&self) -> Kind
+        ensures { result ≡ kinds.kind_of_body self.now }
     {
         match self {
             Body::Hello => Kind::Hello,
@@ -238,7 +237,7 @@ impl Body {
 
 impl Ask {
     fn kind(&self) -> Kind
-        ensures { result ≡ spells.kind_of_ask self.now }
+        ensures { result ≡ kinds.kind_of_ask self.now }
     {
         match self {
             Ask::Patch(..) => Kind::Patch,

@@ -1,10 +1,12 @@
+//! Whether a field is in its range.
 ghost use Rattle.std.specs.Prelude.{◌≡◌};
-ghost use Rattle.st_codec.specs.Fits as fits;
-ghost use Rattle.st_codec.specs.Kinds as kinds;
+ghost use Rattle.st_messages.specs.Fits as fits;
+ghost use Rattle.st_messages.specs.Kinds as kinds;
 
 use st_base::{BlockAt, FileId, GrantNo, Mode, Tag};
 
-pub(crate) fn within(least: u64, most: u64, number: u64) -> bool
+/// Whether the number is at least `least` and at most `most`.
+pub fn within(least: u64, most: u64, number: u64) -> bool
     ensures { result ≡ kinds.between least most number }
 {
     least <= number && number <= most
@@ -105,8 +107,9 @@ pub(crate) fn is_any_block(at: BlockAt) -> bool
     is_number(at.block)
 }
 
-/// A count of pages from this one on.
-pub(crate) fn is_count(page: u32, count: u16) -> bool
+/// Whether a run of `count` pages from this one on is one that a message may name: from 1 to 64 pages, which end with the
+/// last page of a file at the latest.
+pub fn is_count(page: u32, count: u16) -> bool
     ensures { result ≡ fits.is_count page count }
 {
     let left = 1_048_576u32.saturating_sub(page);

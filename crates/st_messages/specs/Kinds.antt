@@ -1,11 +1,15 @@
--- The kinds of messages: the two bytes that name each, who sends and takes it, and what its header's numbers may be.
-use Rattle.std.specs.Prelude.{ℕ, Bool, List, [], ◌∷◌, Option, find, ◌==◌, ◌&&◌, ◌||◌, ◌^◌, nat_le, nat_lt}
-use Rattle.st_codec.specs.declared.kind.Kind.{Kind}
-use Rattle.st_codec.specs.declared.kind.Kind.TheVariants as kinds
-use Rattle.st_codec.specs.declared.kind.Need.{Need}
-use Rattle.st_codec.specs.declared.kind.Need.TheVariants.{Zero, Positive, Any}
-use Rattle.st_codec.specs.declared.kind.Party.{Party}
-use Rattle.st_codec.specs.declared.kind.Party.TheVariants.{Client, Server, Node, Surroundings}
+-- The kinds of messages: of which kind a body is, who sends and takes it, and what its header's numbers may be.
+use Rattle.std.specs.Prelude.{ℕ, Bool, ◌==◌, ◌&&◌, ◌||◌, ◌^◌, nat_le, nat_lt}
+use Rattle.st_messages.specs.declared.ask.Ask.{Ask}
+use Rattle.st_messages.specs.declared.ask.Ask.TheVariants as asks
+use Rattle.st_messages.specs.declared.kind.Kind.{Kind}
+use Rattle.st_messages.specs.declared.kind.Kind.TheVariants as kinds
+use Rattle.st_messages.specs.declared.kind.Need.{Need}
+use Rattle.st_messages.specs.declared.kind.Need.TheVariants.{Zero, Positive, Any}
+use Rattle.st_messages.specs.declared.kind.Party.{Party}
+use Rattle.st_messages.specs.declared.kind.Party.TheVariants.{Client, Server, Node, Surroundings}
+use Rattle.st_messages.specs.declared.message.Body.{Body}
+use Rattle.st_messages.specs.declared.message.Body.TheVariants as bodies
 
 abbrev pub between : ℕ → ℕ → ℕ → Bool
 between least most n = nat_le least n && nat_le n most
@@ -26,47 +30,36 @@ allows Zero n = n == 0
 allows Positive n = nat_le 1 n && is_word64 n
 allows Any n = is_word64 n
 
--- the version byte is 2 for the one ask of version 2, and 1 for every other message
-abbrev pub version_of : Kind → ℕ
-version_of kinds.Patch = 2
-version_of k = 1
+-- the kind of a body: an ask of version 2 is a kind of its own
+abbrev pub kind_of_ask : Ask → Kind
+kind_of_ask (asks.Patch f page at bytes) = kinds.Patch
+kind_of_ask a = kinds.App
 
-abbrev pub number_of : Kind → ℕ
-number_of kinds.Hello = 1
-number_of kinds.KeepAlive = 2
-number_of kinds.Acquire = 3
-number_of kinds.Released = 4
-number_of kinds.Map = 5
-number_of kinds.Allocate = 6
-number_of kinds.Cut = 7
-number_of kinds.Name = 8
-number_of kinds.Reassert = 9
-number_of kinds.DemandSeen = 10
-number_of kinds.Welcome = 32
-number_of kinds.Ack = 33
-number_of kinds.Nack = 34
-number_of kinds.Granted = 35
-number_of kinds.Queued = 36
-number_of kinds.Demand = 37
-number_of kinds.Extents = 38
-number_of kinds.Named = 39
-number_of kinds.Reasserted = 40
-number_of kinds.Tick = 64
-number_of kinds.App = 65
-number_of kinds.Patch = 65
-number_of kinds.AppDone = 66
-number_of kinds.Submit = 67
-number_of kinds.Done = 68
-
-abbrev pub all_kinds : List Kind
-all_kinds = kinds.Hello ∷ kinds.KeepAlive ∷ kinds.Acquire ∷ kinds.Released ∷ kinds.Map ∷ kinds.Allocate ∷ kinds.Cut ∷ kinds.Name ∷ kinds.Reassert ∷ kinds.DemandSeen ∷ kinds.Welcome ∷ kinds.Ack ∷ kinds.Nack ∷ kinds.Granted ∷ kinds.Queued ∷ kinds.Demand ∷ kinds.Extents ∷ kinds.Named ∷ kinds.Reasserted ∷ kinds.Tick ∷ kinds.App ∷ kinds.Patch ∷ kinds.AppDone ∷ kinds.Submit ∷ kinds.Done ∷ []
-
--- a kind has these two bytes
-abbrev pub is_kind : ℕ → ℕ → Kind → Bool
-is_kind version number k = version_of k == version && number_of k == number
-
-unfoldable pub kind_of : ℕ → ℕ → Option Kind
-kind_of version number = find (is_kind version number) all_kinds
+abbrev pub kind_of_body : Body → Kind
+kind_of_body bodies.Hello = kinds.Hello
+kind_of_body bodies.KeepAlive = kinds.KeepAlive
+kind_of_body (bodies.Acquire ino m) = kinds.Acquire
+kind_of_body (bodies.Released ino g to) = kinds.Released
+kind_of_body (bodies.Map ino g page) = kinds.Map
+kind_of_body (bodies.Allocate ino g page count) = kinds.Allocate
+kind_of_body (bodies.Cut ino g from) = kinds.Cut
+kind_of_body (bodies.Name op) = kinds.Name
+kind_of_body (bodies.Reassert rs) = kinds.Reassert
+kind_of_body (bodies.DemandSeen ino g) = kinds.DemandSeen
+kind_of_body bodies.Welcome = kinds.Welcome
+kind_of_body bodies.Ack = kinds.Ack
+kind_of_body (bodies.Nack why a b) = kinds.Nack
+kind_of_body (bodies.Granted ino g m) = kinds.Granted
+kind_of_body (bodies.Queued ino m) = kinds.Queued
+kind_of_body (bodies.Demand ino g to) = kinds.Demand
+kind_of_body (bodies.Extents ino rs) = kinds.Extents
+kind_of_body (bodies.Named reply) = kinds.Named
+kind_of_body bodies.Reasserted = kinds.Reasserted
+kind_of_body bodies.Tick = kinds.Tick
+kind_of_body (bodies.App op a) = kind_of_ask a
+kind_of_body (bodies.AppDone op a) = kinds.AppDone
+kind_of_body (bodies.Submit number at what) = kinds.Submit
+kind_of_body (bodies.Done number result) = kinds.Done
 
 abbrev pub sender : Kind → Party
 sender kinds.Tick = Surroundings

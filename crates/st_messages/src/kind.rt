@@ -1,5 +1,5 @@
 ghost use Rattle.std.specs.Prelude.{◌≡◌};
-ghost use Rattle.st_codec.specs.Kinds as rules;
+ghost use Rattle.st_messages.specs.Kinds as rules;
 
 /// The kinds of messages. `Patch` is the application's ask in version 2; all others are of version 1.
 #[derive(Clone, Copy, Debug, PartialEq, Eq)]
@@ -31,34 +31,6 @@ pub enum Kind {
     Done,
 }
 
-const KINDS: [Kind; 25] = [
-    Kind::Hello,
-    Kind::KeepAlive,
-    Kind::Acquire,
-    Kind::Released,
-    Kind::Map,
-    Kind::Allocate,
-    Kind::Cut,
-    Kind::Name,
-    Kind::Reassert,
-    Kind::DemandSeen,
-    Kind::Welcome,
-    Kind::Ack,
-    Kind::Nack,
-    Kind::Granted,
-    Kind::Queued,
-    Kind::Demand,
-    Kind::Extents,
-    Kind::Named,
-    Kind::Reasserted,
-    Kind::Tick,
-    Kind::App,
-    Kind::Patch,
-    Kind::AppDone,
-    Kind::Submit,
-    Kind::Done,
-];
-
 /// Who sends or takes a message.
 #[derive(Clone, Copy, Debug, PartialEq, Eq)]
 pub enum Party {
@@ -79,7 +51,8 @@ pub enum Need {
 }
 
 impl Party {
-    pub(crate) fn includes(self, node: u16) -> bool
+    /// Whether the node of this number is one of them.
+    pub fn includes(self, node: u16) -> bool
         ensures { result ≡ rules.includes self node }
     {
         match self {
@@ -92,8 +65,9 @@ impl Party {
 }
 
 impl Need {
+    /// Whether the number is as needed.
     #[tactic(auto, using(crate::proofs::Ranges::in_word64))]
-    pub(crate) fn allows(self, number: u64) -> bool
+    pub fn allows(self, number: u64) -> bool
         ensures { result ≡ rules.allows self number }
     {
         match self {
@@ -105,61 +79,8 @@ impl Need {
 }
 
 impl Kind {
-    /// The version byte.
-    pub(crate) fn version(self) -> u8
-        ensures { result ≡ rules.version_of self }
-    {
-        match self {
-            Kind::Patch => 2,
-            _ => 1,
-        }
-    }
-
-    /// The kind byte.
-    pub(crate) fn number(self) -> u8
-        ensures { result ≡ rules.number_of self }
-    {
-        match self {
-            Kind::Hello => 1,
-            Kind::KeepAlive => 2,
-            Kind::Acquire => 3,
-            Kind::Released => 4,
-            Kind::Map => 5,
-            Kind::Allocate => 6,
-            Kind::Cut => 7,
-            Kind::Name => 8,
-            Kind::Reassert => 9,
-            Kind::DemandSeen => 10,
-            Kind::Welcome => 32,
-            Kind::Ack => 33,
-            Kind::Nack => 34,
-            Kind::Granted => 35,
-            Kind::Queued => 36,
-            Kind::Demand => 37,
-            Kind::Extents => 38,
-            Kind::Named => 39,
-            Kind::Reasserted => 40,
-            Kind::Tick => 64,
-            Kind::App => 65,
-            Kind::Patch => 65,
-            Kind::AppDone => 66,
-            Kind::Submit => 67,
-            Kind::Done => 68,
-        }
-    }
-
-    /// The kind with these two bytes.
-    #[tactic(auto, unfolding(crate::specs::Kinds::kind_of))]
-    pub(crate) fn of(version: u8, number: u8) -> Option<Kind>
-        ensures { result ≡ rules.kind_of version number }
-    {
-        KINDS
-            .iter()
-            .copied()
-            .find(|k| k.version() == version && k.number() == number)
-    }
-
-    pub(crate) fn sender(self) -> Party
+    /// Who sends it.
+    pub fn sender(self) -> Party
         ensures { result ≡ rules.sender self }
     {
         match self {
@@ -177,7 +98,8 @@ impl Kind {
         }
     }
 
-    pub(crate) fn receiver(self) -> Party
+    /// Who takes it.
+    pub fn receiver(self) -> Party
         ensures { result ≡ rules.receiver self }
     {
         match self {
@@ -199,7 +121,8 @@ impl Kind {
         }
     }
 
-    pub(crate) fn life(self) -> Need
+    /// What its life may be.
+    pub fn life(self) -> Need
         ensures { result ≡ rules.life_of self }
     {
         match self {
@@ -209,7 +132,8 @@ impl Kind {
         }
     }
 
-    pub(crate) fn epoch(self) -> Need
+    /// What its epoch may be.
+    pub fn epoch(self) -> Need
         ensures { result ≡ rules.epoch_of self }
     {
         match self {
@@ -224,7 +148,8 @@ impl Kind {
         }
     }
 
-    pub(crate) fn request(self) -> Need
+    /// What its number may be.
+    pub fn request(self) -> Need
         ensures { result ≡ rules.request_of self }
     {
         match self {
@@ -243,7 +168,8 @@ impl Kind {
         }
     }
 
-    pub(crate) fn stamp(self) -> Need
+    /// What its stamp may be.
+    pub fn stamp(self) -> Need
         ensures { result ≡ rules.stamp_of self }
     {
         match self {
