@@ -9,12 +9,12 @@ use Rattle.st_base.specs.declared.ids.Stamp.{Stamp}
 use Rattle.st_base.specs.declared.mode.Mode.{Mode}
 use Rattle.st_base.specs.declared.mode.Mode.TheVariants as modes
 use Rattle.st_base.specs.Page.{filled}
-use Rattle.st_codec.specs.declared.ask.Ask.{Ask}
-use Rattle.st_codec.specs.declared.ask.Ask.TheVariants as asks
-use Rattle.st_codec.specs.declared.answer.AppAnswer.TheVariants as answers
-use Rattle.st_codec.specs.declared.message.Body.TheVariants as bodies
-use Rattle.st_codec.specs.declared.output.Note.{Note}
-use Rattle.st_codec.specs.declared.output.Note.TheVariants as notes
+use Rattle.st_messages.specs.declared.ask.Ask.{Ask}
+use Rattle.st_messages.specs.declared.ask.Ask.TheVariants as asks
+use Rattle.st_messages.specs.declared.answer.AppAnswer.TheVariants as answers
+use Rattle.st_messages.specs.declared.message.Body.TheVariants as bodies
+use Rattle.st_messages.specs.declared.output.Note.{Note}
+use Rattle.st_messages.specs.declared.output.Note.TheVariants as notes
 use Rattle.st_rules.specs.declared.pages.DirtyPage.{DirtyPage}
 use Rattle.st_rules.specs.declared.client.CacheRefusal.TheVariants as refusals
 use Rattle.st_rules.specs.declared.client.CleanPage.{CleanPage}
