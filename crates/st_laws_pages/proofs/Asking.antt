@@ -1,5 +1,5 @@
 -- The requests of a client at a server are lists of changes; and all passes together.
-use Rattle.std.proofs.Common.{◌≡◌, ℕ, ◌≤◌, ◌⊎◌, Bool, true, false, not, ◌&&◌, ◌||◌, List, [], ◌∷◌, ◌++◌, ◌==◌, Option, Some, None, refl, sym, ap, ◌∙◌, subst, inl, inr, arith, if◌then◌else◌}
+use Rattle.std.proofs.Common.{◌≡◌, ℕ, Bool, true, false, List, [], ◌∷◌, Option, Some, None, refl, sym, ap, ◌∙◌, subst, inl, inr, arith, if◌then◌else◌}
 use Rattle.std.specs.Prelude.{is_some}
 use Rattle.st_base.specs.declared.ids.GrantNo.{GrantNo}
 use Rattle.st_base.specs.declared.ids.PageNo.{PageNo}
@@ -24,7 +24,7 @@ use Rattle.st_rules.specs.ClientPasses as cp
 use Rattle.st_rules.specs.ClientState.{ClientSession, Turn, with_session, with_store, with_operations, is_serving, wait_of, file_of, send}
 use Rattle.st_laws_pages.specs.Client.{map_in, Asks, Goes_on, Change, Says, Operates, Follows, Forgets, Changes, Still, Then}
 use Rattle.st_laws_pages.proofs.Tables.{or_false}
-use Rattle.st_laws_pages.proofs.Changes.{one, both, if_changes, goes_same}
+use Rattle.st_laws_pages.proofs.Changes.{one, both, if_changes}
 use Rattle.st_laws_pages.proofs.Working.{c_operations, c_reductions, c_writes, c_greeting}
 
 -- what an operation asks: where a page lies, only where nothing is known of it; and a file is cut where it is idle

@@ -1,11 +1,10 @@
 -- A client's rules as lists of changes: how lists are put together.
-use Rattle.std.proofs.Common.{◌≡◌, ℕ, ◌≤◌, ◌⊎◌, Bool, true, false, List, [], ◌∷◌, ◌++◌, Option, Some, None, refl, sym, ap, ◌∙◌, subst, inl, inr, arith, if◌then◌else◌}
-use Rattle.st_base.specs.declared.ids.PageNo.{PageNo}
+use Rattle.std.proofs.Common.{◌≡◌, ℕ, Bool, true, false, [], ◌∷◌, ◌++◌, refl, ap, ◌∙◌, inl, arith, if◌then◌else◌}
 use Rattle.st_base.specs.declared.ids.Stamp.{Stamp}
 use Rattle.st_messages.specs.declared.answer.AppAnswer.{AppAnswer}
 use Rattle.st_rules.specs.declared.client.Operation.{Operation}
 use Rattle.st_rules.specs.ClientPages.{Store}
-use Rattle.st_rules.specs.ClientState.{ClientSession, Turn, with_session, keep, answered, answer_each}
+use Rattle.st_rules.specs.ClientState.{ClientSession, Turn, keep, answered, answer_each}
 use Rattle.st_laws_pages.specs.Client.{Goes_on, Change, Says, Operates, Answers, Follows, Changes, Still, Then}
 
 pub one : {now : Stamp} {t u : Turn} → Change now t u → Changes now t u

@@ -1,16 +1,14 @@
 -- What a client does with a server's message is a list of changes.
-use Rattle.std.proofs.Common.{◌≡◌, ℕ, ◌+◌, ◌≤◌, ◌<◌, ◌⊎◌, Bool, true, false, not, ◌&&◌, ◌||◌, List, [], ◌∷◌, ◌++◌, ◌==◌, Option, Some, None, refl, sym, ap, ◌∙◌, subst, inl, inr, arith, if◌then◌else◌}
-use Rattle.std.specs.Prelude.{map, is_some, nat_lt, nat_le}
+use Rattle.std.proofs.Common.{◌≡◌, ℕ, ◌+◌, ◌≤◌, Bool, true, false, not, List, [], ◌∷◌, ◌==◌, Option, Some, None, refl, sym, ap, ◌∙◌, subst, arith, if◌then◌else◌}
+use Rattle.std.specs.Prelude.{is_some, nat_lt}
 use Rattle.std.proofs.lemmas.Bool.{eqb-true, ltb-true}
 use Rattle.st_base.specs.declared.ids.Epoch.{Epoch}
 use Rattle.st_base.specs.declared.ids.GrantNo.{GrantNo}
 use Rattle.st_base.specs.declared.ids.PageNo.{PageNo}
 use Rattle.st_base.specs.declared.ids.Stamp.{Stamp}
 use Rattle.st_base.specs.declared.mode.Mode.{Mode}
-use Rattle.st_base.specs.declared.mode.Mode.TheVariants as modes
 use Rattle.st_base.specs.Mode.{covers}
 use Rattle.st_base.specs.declared.rows.ExtentRow.{ExtentRow}
-use Rattle.st_messages.specs.declared.answer.AppAnswer.{AppAnswer}
 use Rattle.st_messages.specs.declared.answer.AppAnswer.TheVariants as answers
 use Rattle.st_messages.specs.declared.message.Header.{Header}
 use Rattle.st_messages.specs.declared.message.Body.{Body}
@@ -21,7 +19,6 @@ use Rattle.st_messages.specs.declared.message.Why.{Why}
 use Rattle.st_messages.specs.declared.message.Why.TheVariants as why
 use Rattle.st_rules.specs.declared.client.Request.{Request}
 use Rattle.st_rules.specs.declared.client.HeldLock.{HeldLock}
-use Rattle.st_rules.specs.declared.client.KnownExtent.{KnownExtent}
 use Rattle.st_rules.specs.declared.client.Asked.{Asked}
 use Rattle.st_rules.specs.declared.client.Asked.TheVariants.{Reduce, NotHeld, Stale}
 use Rattle.st_rules.specs.ClientLease as lease
@@ -32,7 +29,7 @@ use Rattle.st_rules.specs.ClientPages.{Store}
 use Rattle.st_rules.specs.ClientReplies as cr
 use Rattle.st_rules.specs.ClientState as cs
 use Rattle.st_rules.specs.ClientState.{ClientSession, Turn, with_session, with_store, with_operations, with_cache, forget_wait, fits, is_asked, answer_each, send}
-use Rattle.st_laws_pages.specs.Client.{map_in, map_asked, Asks, Goes_on, Unasked, with_greeted, Change, Says, Operates, Greets, Begins, Follows, Learns, Changes, Still, Then}
+use Rattle.st_laws_pages.specs.Client.{map_in, map_asked, Goes_on, Unasked, with_greeted, Says, Operates, Greets, Begins, Follows, Learns, Changes, Still}
 use Rattle.st_laws_pages.proofs.Tables.{and_true}
 use Rattle.st_laws_pages.proofs.Changes.{one, both, if_changes, goes_same, k_each}
 
@@ -52,9 +49,9 @@ alike_if s true u v a c = a
 alike_if s false u v a c = c
 
 alike_grant : (s : ClientSession) (ino : ℕ) (g : GrantNo) (mode : Mode) → Alike s (cr.grant s ino g mode)
-unfolding cr.grant cr.grant_new cr.install cr.decline
+unfolding cr.grant cr.grant_new cr.accept_grant cr.decline
 alike_grant s ino g mode =
-    alike_if s (locks.is_above_seen s.locks ino g) (cr.grant_new s ino g mode) s (alike_if s (locks.has_place s.locks ino) (cr.install s ino g mode) (cr.decline s ino g) (record { date = refl; asked = refl }) (record { date = refl; asked = refl }))
+    alike_if s (locks.is_above_seen s.locks ino g) (cr.grant_new s ino g mode) s (alike_if s (locks.has_place s.locks ino) (cr.accept_grant s ino g mode) (cr.decline s ino g) (record { date = refl; asked = refl }) (record { date = refl; asked = refl }))
     (record { date = refl; asked = refl })
 
 alike_wait : (s : ClientSession) (ino : ℕ) (mode : Mode) (now : Stamp) → Alike s (cr.wait_unless_held s ino mode now)
@@ -154,7 +151,7 @@ module _ (now : Stamp) where
   c_removed t s None e = Still t
   c_removed t s (Some ino) e = go (locks.lock_of s.locks ino)
     where
-      go : (l : Option HeldLock) → C t (cr.drop_held t s l)
+      go : (l : Option HeldLock) → C t (cr.drop_held t s ino l)
       go None = Still t
       go (Some l) = c_session t s _ e (record { date = refl; asked = refl })
 

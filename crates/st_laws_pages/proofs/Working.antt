@@ -1,5 +1,5 @@
 -- The passes of a client at a server are lists of changes: operations, reductions, writes and greeting.
-use Rattle.std.proofs.Common.{◌≡◌, ℕ, Bool, true, false, not, ◌&&◌, ◌||◌, List, [], ◌∷◌, ◌++◌, ◌==◌, Option, Some, None, Ok, Err, refl, sym, ap, ◌∙◌, subst, if◌then◌else◌}
+use Rattle.std.proofs.Common.{◌≡◌, ℕ, Bool, true, false, not, List, [], ◌∷◌, ◌==◌, Option, Some, None, Ok, Err, refl, ap, ◌∙◌, if◌then◌else◌}
 use Rattle.std.proofs.lemmas.Bool.{eqb-true}
 use Rattle.st_base.specs.declared.ids.FileId.{FileId}
 use Rattle.st_base.specs.declared.ids.GrantNo.{GrantNo}
@@ -12,14 +12,11 @@ use Rattle.st_base.specs.Page.{filled}
 use Rattle.st_messages.specs.declared.ask.Ask.{Ask}
 use Rattle.st_messages.specs.declared.ask.Ask.TheVariants as asks
 use Rattle.st_messages.specs.declared.answer.AppAnswer.TheVariants as answers
-use Rattle.st_messages.specs.declared.message.Body.TheVariants as bodies
 use Rattle.st_messages.specs.declared.output.Note.{Note}
 use Rattle.st_messages.specs.declared.output.Note.TheVariants as notes
 use Rattle.st_rules.specs.declared.pages.DirtyPage.{DirtyPage}
-use Rattle.st_rules.specs.declared.client.CacheRefusal.TheVariants as refusals
+use Rattle.st_rules.specs.declared.client.WriteRefusal.TheVariants as refusals
 use Rattle.st_rules.specs.declared.client.CleanPage.{CleanPage}
-use Rattle.st_rules.specs.declared.client.DemandedFile.{DemandedFile}
-use Rattle.st_rules.specs.declared.client.HeldLock.{HeldLock}
 use Rattle.st_rules.specs.declared.client.KnownExtent.{KnownExtent}
 use Rattle.st_rules.specs.declared.client.Mapping.{Mapping}
 use Rattle.st_rules.specs.declared.client.Operation.{Operation}
@@ -29,7 +26,7 @@ use Rattle.st_rules.specs.ClientPages as pages
 use Rattle.st_rules.specs.ClientPages.{Pages, Store}
 use Rattle.st_rules.specs.ClientPasses as cp
 use Rattle.st_rules.specs.ClientState.{ClientSession, Turn, with_session, with_store, with_operations, with_cache, with_release, note, keep, answered, server_of, is_of, is_busy, is_serving, is_open_file, forget_wait, send}
-use Rattle.st_laws_pages.specs.Client.{Changes_page, Goes_on, Change, Says, Operates, Greets, Follows, Forgets, Caches, Writes, Reads, Submits, Changes, Still, Then}
+use Rattle.st_laws_pages.specs.Client.{Changes_page, Says, Operates, Greets, Follows, Forgets, Caches, Writes, Reads, Submits, Changes, Still}
 use Rattle.st_laws_pages.proofs.Tables.{and_true, not_true}
 use Rattle.st_laws_pages.proofs.Changes.{one, both, if_changes, goes_same, k_keep, k_answer}
 
@@ -176,7 +173,7 @@ module _ (now : Stamp) where
 
   -- what a write leaves of the session
   same_session : (t : Turn) (s : ClientSession) (tick : Bool) (o : Option DirtyPage) → (cp.write_page t s now tick o).here.session ≡ t.here.session
-  unfolding cp.write_page cp.write_due cp.write_out cp.write_out_at cp.submit_write cp.submit
+  unfolding cp.write_page cp.write_due cp.write_out cp.write_out_at cp.submit_write cp.submit_command
   same_session t s tick None = refl
   same_session t s tick (Some d) = go (cp.is_writable t s now tick d)
     where
