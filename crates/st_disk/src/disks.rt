@@ -1,14 +1,15 @@
-// The disks.
+// The disks, and the calls on them.
 ghost use Rattle.std.specs.Prelude.{◌≡◌, ◌<◌, ◌+◌, IfOk, OnOk, OnErr, Some, length, slice_get};
 ghost use Rattle.std.specs.Option.{option_map};
 ghost use Rattle.st_rules.specs.declared.disks.DiskCommand.{DiskCommand};
-ghost use Rattle.st_rules.specs.Disks as rules;
-ghost use Rattle.st_disk.specs.Calls.{Answers, HasBlock, SameSize, ended, place, shown};
+ghost use Rattle.st_rules.specs.Disks as disks;
+ghost use Rattle.st_disk.specs.Calls.{Answers, HasBlock, SameSize, ended, place, sampled_at, shown, told, written_at};
 
 use crate::blocks::{find_block, put_block};
 use crate::commands::{command_at, effect_command, index_of, report_command, sample_command};
+use crate::refusal::DiskRefusal;
 use st_base::{BlockAt, Command, FileId, PageBytes, PageNo, ServerId, Tag};
-use st_rules::{Block, DiskCommand, DiskRefusal, Report};
+use st_rules::{Block, DiskCommand, Report};
 use std::alloc::{AllocError, Global};
 use std::marker::Model;
 
@@ -25,9 +26,9 @@ pub struct Disks {
 impl Model for Disks {
     ghost use Rattle.std.specs.Prelude.{◌≡◌};
     ghost use Rattle.st_base.specs.Page.{filled};
-    ghost use Rattle.st_rules.specs.Disks as rules;
+    ghost use Rattle.st_rules.specs.Disks as shared_disks;
 
-    ghost Value = { rules.Disks };
+    ghost Value = { shared_disks.Disks };
 
     ghost view = { λ d. record { disks = d.disks; blocks = d.blocks; written = d.written.items; commands = d.commands.items } };
 
@@ -47,7 +48,7 @@ impl Disks {
     /// Makes this number of disks with this number of blocks each. No block was written, and there are no commands. It does
     /// not allocate.
     pub fn new(alloc: Global, disks: u16, blocks: u32) -> Disks
-        ensures { result ≡ rules.fresh_disks disks blocks }
+        ensures { result ≡ disks.fresh_disks disks blocks }
     {
         Disks {
             disks,
@@ -61,7 +62,7 @@ impl Disks {
     /// Takes a command, and returns its number: 1, 2 and so on. The command has no effect yet.
     pub fn submit(&mut self, command: Command) -> Result<u64, AllocError>
         requires exists { HasBlock self.old (place command) }
-        ensures ok { OnOk result (self.new ≡ rules.submit self.old command) }
+        ensures ok { OnOk result (self.new ≡ disks.submit self.old command) }
         ensures number { IfOk result (λ n. n ≡ length self.new.commands) }
         ensures size { SameSize self.old self.new }
         ensures err { OnErr result (self.new ≡ self.old) }
@@ -78,8 +79,8 @@ impl Disks {
     /// Returns the tag and the bytes of a block: birth 0 and zeros if it was never written. It does not allocate.
     pub fn block(&self, at: BlockAt) -> (Tag, &PageBytes)
         requires exists { HasBlock self.now at }
-        ensures tag { result.0 ≡ (rules.block self.now at).tag }
-        ensures bytes { result.1.now ≡ (rules.block self.now at).bytes }
+        ensures tag { result.0 ≡ (disks.block self.now at).tag }
+        ensures bytes { result.1.now ≡ (disks.block self.now at).bytes }
     {
         match find_block(&self.written, at) {
             Some(block) => (block.tag, &block.bytes),
@@ -90,15 +91,16 @@ impl Disks {
     /// Returns the tag and the bytes that a read found at its effect, or `None` if the command is not a read with an effect.
     /// It does not allocate.
     pub fn sample(&self, n: u64) -> Option<(Tag, &PageBytes)>
-        ensures exact { option_map (λ s. (s.0, s.1.now)) result ≡ option_map shown (rules.sample self.now n) }
+        ensures exact { option_map (λ s. (s.0, s.1.now)) result ≡ option_map shown (disks.sample self.now n) }
     {
         let command = command_at(&self.commands, n)?;
         let block = command.sample.as_ref()?;
         Some((block.tag, &block.bytes))
     }
 
+    /// A copy of a block as it stands.
     fn found(&self, at: BlockAt) -> Result<Block, AllocError>
-        ensures { IfOk result (λ b. b ≡ rules.block self.now at) }
+        ensures { IfOk result (λ b. b ≡ disks.block self.now at) }
     {
         match find_block(&self.written, at) {
             Some(block) => block.copy(),
@@ -110,9 +112,10 @@ impl Disks {
         }
     }
 
+    /// Gives the read at this index its effect.
     fn read(&mut self, index: usize, at: BlockAt) -> Result<(), AllocError>
         requires { index < length self.old.commands }
-        ensures ok { (c : DiskCommand) → slice_get self.old.commands index ≡ Some c → OnOk result (self.new ≡ rules.with_command (index + 1) (rules.sampled (rules.block self.old at) c) self.old) }
+        ensures ok { (c : DiskCommand) → slice_get self.old.commands index ≡ Some c → OnOk result (self.new ≡ sampled_at index at c self.old) }
         ensures size { SameSize self.old self.new }
         ensures err { OnErr result (self.new ≡ self.old) }
     {
@@ -121,9 +124,10 @@ impl Disks {
         Ok(())
     }
 
+    /// Gives the write at this index its effect.
     fn write(&mut self, index: usize, block: Block) -> Result<(), AllocError>
         requires { index < length self.old.commands }
-        ensures ok { (c : DiskCommand) → slice_get self.old.commands index ≡ Some c → OnOk result (self.new ≡ rules.with_block block (rules.with_command (index + 1) (rules.effected c) self.old)) }
+        ensures ok { (c : DiskCommand) → slice_get self.old.commands index ≡ Some c → OnOk result (self.new ≡ written_at index block c self.old) }
         ensures size { SameSize self.old self.new }
         ensures err { OnErr result (self.new ≡ self.old) }
     {
@@ -132,10 +136,11 @@ impl Disks {
         Ok(())
     }
 
+    /// Gives the command at this index its effect.
     #[tactic(auto, unfolding(st_rules::specs::Disks::effect_of))]
     fn act(&mut self, index: usize, what: Command) -> Result<(), AllocError>
         requires { index < length self.old.commands }
-        ensures ok { (c : DiskCommand) → slice_get self.old.commands index ≡ Some c → OnOk result (self.new ≡ rules.effect_of self.old (index + 1) c what) }
+        ensures ok { (c : DiskCommand) → slice_get self.old.commands index ≡ Some c → OnOk result (self.new ≡ disks.effect_of self.old (index + 1) c what) }
         ensures size { SameSize self.old self.new }
         ensures err { OnErr result (self.new ≡ self.old) }
     {
@@ -150,7 +155,7 @@ impl Disks {
     /// (`Twice`). A refusal changes nothing. If the call runs out of memory, nothing changes either.
     #[tactic(auto, unfolding(st_rules::specs::Disks::disks_open))]
     pub fn effect(&mut self, n: u64) -> Result<(), DiskRefusal>
-        ensures exact { Answers self.old self.new result (rules.effect self.old n) }
+        ensures exact { Answers self.old self.new result (disks.effect self.old n) }
         ensures size { SameSize self.old self.new }
     {
         let Some(index) = index_of(&self.commands, n) else {
@@ -172,7 +177,7 @@ impl Disks {
     /// not allocate.
     #[tactic(auto, unfolding(st_rules::specs::Disks::disks_open))]
     pub fn done(&mut self, n: u64, ok: bool) -> Result<(), DiskRefusal>
-        ensures exact { ended result self.new ≡ rules.done self.old n ok }
+        ensures exact { ended result self.new ≡ told (disks.done self.old n ok) }
         ensures size { SameSize self.old self.new }
         ensures err { OnErr result (self.new ≡ self.old) }
     {

@@ -3,7 +3,7 @@ ghost use Rattle.std.specs.Option.{option_map};
 ghost use Rattle.st_base.specs.Page.{filled};
 ghost use Rattle.st_model.specs.Kept.{IsWhole};
 ghost use Rattle.st_model.specs.Last.{LastTells};
-ghost use Rattle.st_rules.specs.FlatLog as rules;
+ghost use Rattle.st_rules.specs.FlatLog as flat_log;
 
 use crate::marks::{harden_all, lose};
 use crate::pages::{content_of, last_of};
@@ -34,9 +34,9 @@ impl Model for FlatLog {
 }
 
 fn page_of<'a>(entry: &'a LogEntry, zeros: &'a PageBytes) -> &'a PageBytes
-    requires whole { IsWhole (rules.head_of entry.now) }
+    requires whole { IsWhole (flat_log.head_of entry.now) }
     requires zeros { zeros.now ≡ filled 0 }
-    ensures { result.now ≡ rules.bytes_of entry.now.change }
+    ensures { result.now ≡ flat_log.bytes_of entry.now.change }
 {
     match &entry.change {
         Change::Write(bytes) => bytes,
@@ -46,7 +46,7 @@ fn page_of<'a>(entry: &'a LogEntry, zeros: &'a PageBytes) -> &'a PageBytes
 }
 
 fn head_by(of: LogOwner, change: &Change) -> EntryHead
-    ensures { result ≡ rules.head_by of change.now }
+    ensures { result ≡ flat_log.head_by of change.now }
 {
     let LogOwner {
         client,
@@ -93,7 +93,7 @@ impl FlatLog {
         page: PageNo,
         bytes: &PageBytes,
     ) -> Result<u64, AllocError>
-        ensures entry { OnOk result (self.new ≡ rules.accept self.old client life file page bytes.now) }
+        ensures entry { OnOk result (self.new ≡ flat_log.accept self.old client life file page bytes.now) }
         ensures number { IfOk result (λ n. n ≡ length self.old + 1) }
         ensures err { OnErr result (self.new ≡ self.old) }
     {
@@ -126,7 +126,7 @@ impl FlatLog {
     ) -> Result<u64, AllocError>
         requires some { 1 ≤ length bytes.now }
         requires range { at + length bytes.now ≤ 4096 }
-        ensures entry { OnOk result (self.new ≡ rules.patch self.old client life file page at bytes.now) }
+        ensures entry { OnOk result (self.new ≡ flat_log.patch self.old client life file page at bytes.now) }
         ensures number { IfOk result (λ n. n ≡ length self.old + 1) }
         ensures err { OnErr result (self.new ≡ self.old) }
     {
@@ -148,7 +148,7 @@ impl FlatLog {
     /// memory, the log is unchanged.
     #[tactic(auto, unfolding(st_rules::specs::FlatLog::cut))]
     pub fn cut(&mut self, file: FileId, from: PageNo) -> Result<u64, AllocError>
-        ensures entry { OnOk result (self.new ≡ rules.cut self.old file from) }
+        ensures entry { OnOk result (self.new ≡ flat_log.cut self.old file from) }
         ensures number { IfOk result (λ n. n ≡ length self.old + 1) }
         ensures err { OnErr result (self.new ≡ self.old) }
     {
@@ -170,7 +170,7 @@ impl FlatLog {
     pub fn harden(&mut self, index: u64)
         requires some { 1 ≤ index }
         requires known { index ≤ length self.old }
-        ensures { self.new ≡ rules.harden self.old index }
+        ensures { self.new ≡ flat_log.harden self.old index }
     {
         let of = self.entries[(index - 1) as usize].of;
         harden_all(&mut self.entries, index, of);
@@ -180,14 +180,14 @@ impl FlatLog {
     pub fn gone(&mut self, index: u64, cause: Cause)
         requires some { 1 ≤ index }
         requires known { index ≤ length self.old }
-        ensures { self.new ≡ rules.gone self.old index cause }
+        ensures { self.new ≡ flat_log.gone self.old index cause }
     {
         lose(&mut self.entries[(index - 1) as usize], cause);
     }
 
     /// Returns the number of the last entry that touches the page and is not gone, if there is one. It does not allocate.
     pub fn last(&self, file: FileId, page: PageNo) -> Option<u64>
-        ensures last { result ≡ rules.last self.now file page }
+        ensures last { result ≡ flat_log.last self.now file page }
         ensures content { LastTells self.now file page result }
     {
         last_of(&self.entries, file, page)
@@ -195,10 +195,10 @@ impl FlatLog {
 
     /// Returns the bytes of a write, or zeros for a cut. The entry must not be a patch; `entry` tells which it is.
     pub fn bytes(&self, index: u64) -> &PageBytes
-        requires whole { IfSome (option_map rules.head_of (rules.entry_at self.now index)) IsWhole }
+        requires whole { IfSome (option_map flat_log.head_of (flat_log.entry_at self.now index)) IsWhole }
         requires some { 1 ≤ index }
         requires known { index ≤ length self.now }
-        ensures { option_map (λ (e : LogEntry). rules.bytes_of e.change) (rules.entry_at self.now index) ≡ Some result.now }
+        ensures { option_map (λ (e : LogEntry). flat_log.bytes_of e.change) (flat_log.entry_at self.now index) ≡ Some result.now }
     {
         page_of(&self.entries[(index - 1) as usize], &self.zeros)
     }
@@ -207,7 +207,7 @@ impl FlatLog {
     /// gone, in order. It does not allocate.
     pub fn content(&self, file: FileId, page: PageNo, into: &mut [u8])
         requires { length into.old ≡ 4096 }
-        ensures { into.new ≡ rules.content self.now file page }
+        ensures { into.new ≡ flat_log.content self.now file page }
     {
         content_of(&self.entries, file, page, into);
     }
@@ -216,7 +216,7 @@ impl FlatLog {
     pub fn fate(&self, index: u64) -> Fate
         requires some { 1 ≤ index }
         requires known { index ≤ length self.now }
-        ensures { option_map (λ (e : LogEntry). e.fate) (rules.entry_at self.now index) ≡ Some result }
+        ensures { option_map (λ (e : LogEntry). e.fate) (flat_log.entry_at self.now index) ≡ Some result }
     {
         self.entries[(index - 1) as usize].fate
     }
@@ -232,7 +232,7 @@ impl FlatLog {
     pub fn entry(&self, index: u64) -> EntryHead
         requires some { 1 ≤ index }
         requires known { index ≤ length self.now }
-        ensures { option_map rules.head_of (rules.entry_at self.now index) ≡ Some result }
+        ensures { option_map flat_log.head_of (flat_log.entry_at self.now index) ≡ Some result }
     {
         let entry = &self.entries[(index - 1) as usize];
         head_by(entry.of, &entry.change)

@@ -60,12 +60,12 @@ cleaned p = record { ino = 2; page = page p; bytes = filled 7 }
 unfoldable pub dirty_client : ℕ → ClientState
 dirty_client n =
     client_with
-      one_lock
-      (record {
-        extents = map mapped (numbers 0 (n + 1));
-        pages = record { clean = []; dirty = map dirtied (numbers 0 n); next_version = n + 1 };
-        commands = [];
-      })
+    one_lock
+    (record {
+      extents = map mapped (numbers 0 (n + 1));
+      pages = record { clean = []; dirty = map dirtied (numbers 0 n); next_version = n + 1 };
+      commands = [];
+    })
 
 -- with the first so many pages clean, page 0 the newest, and one more mapped
 unfoldable pub clean_client : ℕ → ClientState

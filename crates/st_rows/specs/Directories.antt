@@ -15,9 +15,9 @@ named entries next = record { entries = entries; next = next }
 unfoldable pub deep : Names
 deep =
     named
-      (fresh_names.entries
-      ++ (entry_in 1 (codes "d") 10 true ∷ entry_in 10 (codes "e") 11 true ∷ entry_in 10 (codes "ee") 12 false ∷ entry_in 10 (codes "Z") 13 false ∷ []))
-      14
+    (fresh_names.entries
+    ++ (entry_in 1 (codes "d") 10 true ∷ entry_in 10 (codes "e") 11 true ∷ entry_in 10 (codes "ee") 12 false ∷ entry_in 10 (codes "Z") 13 false ∷ []))
+    14
 
 -- so many files in the root
 abbrev pub crowd : ℕ → NameEntry

@@ -2,7 +2,7 @@ ghost use Rattle.std.specs.Prelude.{◌≡◌, ◌++◌, OnOk, string_bytes};
 ghost use Rattle.std.specs.List.{flat_map};
 ghost use Rattle.st_base.specs.Page.{filled};
 ghost use Rattle.st_world.specs.Report as text;
-ghost use Rattle.st_world.specs.declared.rows.Observation.TheVariants as observation;
+ghost use Rattle.st_world.specs.declared.machine_types.Observation.TheVariants as observation;
 
 use st_base::{ClientId, ExtentRow, FileId, PageBytes, PageNo, ServerId};
 use st_messages::{AppAnswer, Body, Message};
@@ -49,7 +49,7 @@ fn put_file(out: &mut String, file: FileId) -> Result<(), AllocError>
     write!(out, " {server}:{ino}")
 }
 
-/// The kinds of the first path; the others are never sent in it.
+/// The name of a message's kind. The first path sends only these kinds.
 fn kind(body: &Body) -> &'static str
     ensures { result.now ≡ text.kind body.now }
 {
@@ -83,7 +83,7 @@ fn put_rows(out: &mut String, rows: &[ExtentRow]) -> Result<(), AllocError>
     Ok(())
 }
 
-/// What a message of the first path says, in the order in which it is written.
+/// Appends the fields of a message of the first path, in the order of the report.
 fn put_fields(out: &mut String, body: &Body) -> Result<(), AllocError>
     ensures { OnOk result (string_bytes out.new ≡ string_bytes out.old ++ text.fields body.now) }
 {
@@ -265,7 +265,7 @@ fn put_line(out: &mut String, event: u64, o: &Observation) -> Result<(), AllocEr
     out.push_str("\n")
 }
 
-/// A line for each of an event's observations.
+/// Appends a line for each observation of an event.
 pub(crate) fn put_lines(
     out: &mut String,
     event: u64,
