@@ -1,4 +1,4 @@
-// One call of a reader or a writer of the standard library, with what the call answered as a ghost relation.
+// One call of a reader or a writer of the standard library, and a ghost relation that a failed call gives.
 ghost use Rattle.std.specs.Prelude.{ℕ, List, OnErr};
 ghost use Rattle.std.specs.declared.option.Option.{Option};
 ghost use Rattle.std.specs.Io.{ReadsAtMost, WritesAtMost};
@@ -7,7 +7,7 @@ ghost use Rattle.st_link.specs.Refusals.{OnRefusal};
 
 use std::io::{Read, Result, Write};
 
-/// A reader whose failed calls have a name: code that is generic over it can show `failed` by a failed call alone.
+/// A reader of the standard library. Code that is generic over it can prove `failed` only from a failed call.
 pub trait ReadCall {
     /// The bytes that are still left, if the reader knows them.
     ghost left: { Self → Option (List ℕ) };
@@ -22,7 +22,7 @@ pub trait ReadCall {
         ensures failed { OnErr result (failed self.old self.new) };
 }
 
-/// A writer whose failed calls have a name: code that is generic over it can show `failed` by a failed call alone.
+/// A writer of the standard library. Code that is generic over it can prove `failed` only from a failed call.
 pub trait WriteCall {
     /// The bytes that were written, if the writer knows them.
     ghost written: { Self → Option (List ℕ) };
