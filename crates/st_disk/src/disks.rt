@@ -3,6 +3,7 @@ ghost use Rattle.std.specs.Prelude.{◌≡◌, ◌<◌, ◌+◌, IfOk, OnOk, OnE
 ghost use Rattle.std.specs.Option.{option_map};
 ghost use Rattle.st_rules.specs.declared.disks.DiskCommand.{DiskCommand};
 ghost use Rattle.st_rules.specs.Disks as disks;
+ghost use Rattle.st_rules.specs.Disks.{fresh_disks};
 ghost use Rattle.st_disk.specs.Calls.{Answers, HasBlock, SameSize, ended, place, sampled_at, shown, told, written_at};
 
 use crate::blocks::{find_block, put_block};
@@ -48,7 +49,7 @@ impl Disks {
     /// Makes this number of disks with this number of blocks each. No block was written, and there are no commands. It does
     /// not allocate.
     pub fn new(alloc: Global, disks: u16, blocks: u32) -> Disks
-        ensures { result ≡ disks.fresh_disks disks blocks }
+        ensures { result ≡ fresh_disks disks blocks }
     {
         Disks {
             disks,
