@@ -30,6 +30,7 @@ use Rattle.st_rules.specs.ClientReplies as cr
 use Rattle.st_rules.specs.ClientState as cs
 use Rattle.st_rules.specs.ClientState.{ClientSession, Turn, with_session, with_store, with_operations, with_cache, forget_wait, fits, is_asked, answer_each, send}
 use Rattle.st_laws_pages.specs.Client.{map_in, map_asked, Goes_on, Unasked, with_greeted, Says, Operates, Greets, Begins, Follows, Learns, Changes, Still}
+use Rattle.st_laws_pages.specs.Losses.{Asked_fresh, Session_fresh}
 use Rattle.st_laws_pages.proofs.Tables.{and_true}
 use Rattle.st_laws_pages.proofs.Changes.{one, both, if_changes, goes_same, k_each}
 
@@ -220,10 +221,6 @@ module _ (now : Stamp) where
       go true = both (one (Says t _ tt)) (ends (cr.note_lease (lease.renewed stamp s.lease) t) e fr)
       go false = ends t e fr
 
-  -- the invariant that a reply rests on: nothing is known of the page of which the outstanding request asks where it lies
-  abbrev pub Asked_fresh : Store → Option Request → Type 0
-  Asked_fresh st asked = (x : ℕ × PageNo) → map_asked asked ≡ Some x → pages.known_of st.extents x.0 x.1 ≡ None
-
   c_reply : (t : Turn) (s : ClientSession) (h : Header) (reply : Body) → t.here.session ≡ Some s → Asked_fresh t.here.store s.requests.asked → C t (cr.reply_of t s now h reply)
   unfolding cr.reply_of cr.counted cr.by_request cr.count_reply
   c_reply t s h reply e fr = go s.requests.asked refl
@@ -258,11 +255,6 @@ module _ (now : Stamp) where
   c_of_epoch t s h (bodies.Granted ino g mode) e fr = if_changes (h.number == 0) t _ _ (λ b. c_granted t s ino g mode e) (λ b. c_reply t s h (bodies.Granted ino g mode) e fr)
   c_of_epoch t s h (bodies.Demand ino g to) e fr = c_demand t s ino g to e
   c_of_epoch t s h body e fr = c_reply t s h body e fr
-
-  -- what is known of an association before it hears: of the page that is asked for nothing is known
-  abbrev pub Session_fresh : Store → Option ClientSession → Type 0
-  Session_fresh st None = Unit {0}
-  Session_fresh st (Some s) = Asked_fresh st s.requests.asked
 
   pub c_hear : (h : Header) (body : Body) (t : Turn) → Session_fresh t.here.store t.here.session → C t (cr.hear now h body t)
   unfolding cr.hear cr.by_session cr.with_a_session

@@ -13,6 +13,7 @@ use Rattle.st_messages.specs.declared.output.Output.TheVariants as outputs
 use Rattle.st_rules.specs.declared.pages.DirtyPage.{DirtyPage}
 use Rattle.st_rules.specs.declared.client.CleanPage.{CleanPage}
 use Rattle.st_rules.specs.declared.client.KnownExtent.{KnownExtent}
+use Rattle.st_rules.specs.declared.client.LostPage.{LostPage}
 use Rattle.st_rules.specs.declared.client.Mapping.{Mapping}
 use Rattle.st_rules.specs.declared.client.Operation.{Operation}
 use Rattle.st_rules.specs.declared.client.Request.{Request}
@@ -20,7 +21,7 @@ use Rattle.st_rules.specs.ClientLease as lease
 use Rattle.st_rules.specs.ClientPages as pages
 use Rattle.st_rules.specs.ClientPages.{Store}
 use Rattle.st_rules.specs.ClientPasses as passes
-use Rattle.st_rules.specs.ClientState.{ClientSession, Turn, with_session, with_store, with_operations, say, note, answer_to, is_serving}
+use Rattle.st_rules.specs.ClientState.{ClientSession, Turn, with_session, with_store, with_operations, with_lost_rows, say, note, answer_to, is_serving}
 
 -- a note that neither changes the log nor ends a life
 abbrev pub Plain_note : Note → Type 0
@@ -80,6 +81,8 @@ pub data Change (now : Stamp) : Turn → Turn → Type 0 where
   Answers : (t : Turn) (os ops : List Operation) (answer : AppAnswer) → Change now t (record t { operations = os; out = t.out ++ map (answer_to answer) ops })
   -- when it greeted
   Greets : (t : Turn) (g : Option Stamp) → Change now t (with_greeted g t)
+  -- the lost pages of which nobody was told are others
+  Tells_lost : (t : Turn) (lost : List LostPage) → Change now t (with_lost_rows lost t)
   -- a session begins, whose lease is not over
   Begins : (t : Turn) (s : ClientSession) → t.here.session ≡ None → now.0 < (lease.end_of t.config s.lease).0 → s.requests.asked ≡ None → Change now t (with_session s t)
   -- a session goes on

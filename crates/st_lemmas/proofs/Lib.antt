@@ -6,5 +6,3 @@ pub mod Numbers
 pub mod Contents
 pub mod Marks
 pub mod Steps
-pub mod Drift
-pub mod Rates

@@ -2,7 +2,7 @@
 use Rattle.std.proofs.Common.{◌≡◌, ℕ, not, List, [], ◌∷◌, ◌++◌, ◌==◌, Option, Some, None, ap, ◌∙◌}
 use Rattle.std.specs.Prelude.{find, filter}
 use Rattle.st_assoc.specs.Assoc.{upd}
-use Rattle.st_lemmas.specs.Lists.{put}
+use Rattle.st_rules.specs.Keys.{put}
 use Rattle.st_lemmas.proofs.Lookups.{find_with, find_without, if_ap}
 use Rattle.st_lemmas.proofs.Puts.{find_put_at}
 
