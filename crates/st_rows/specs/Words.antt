@@ -54,7 +54,8 @@ abbrev pub from : ℕ → ℕ → ℕ → ℕ → ℕ → Body → ServerInput
 from n l e number moment body = Control (record { header = record { from = n; to = 32769; life = l; epoch = e; number = number; stamp = moment }; body = body })
 
 abbrev pub to : ℕ → ℕ → ℕ → ℕ → ℕ → Body → Output
-to n l e number moment body = outputs.Send (record { header = record { from = 32769; to = n; life = l; epoch = e; number = number; stamp = moment }; body = body })
+to n l e number moment body =
+    outputs.Send (record { header = record { from = 32769; to = n; life = l; epoch = e; number = number; stamp = moment }; body = body })
 
 -- a message of one node to another
 abbrev pub posted : ℕ → ℕ → Body → ServerInput

@@ -36,6 +36,6 @@ pub fn requests_have_cases()
 #[tactic(auto, unfolding(crate::specs::Tables::tables_open))]
 pub fn sessions_change()
     ensures kept { rules.store (sessions (living 1 3 2 None ∷ living 2 3 2 None ∷ [])) (c 2) 3 Ack ≡ sessions (living 1 3 2 None ∷ living 2 3 3 (Some Ack) ∷ []) }
-    ensures reasserted { rules.reasserted (sessions (past 1 3 ∷ living 2 3 2 None ∷ [])) (c 1) (life 4) ≡ sessions (living 2 3 2 None ∷ living 1 4 1 (Some Reasserted) ∷ []) }
+    ensures reasserted { rules.reasserted (sessions (past 1 3 ∷ living 2 3 2 None ∷ [])) (c 1) (life 4) ≡ sessions (living 1 4 1 (Some Reasserted) ∷ living 2 3 2 None ∷ []) }
     ensures ended { rules.end (sessions (living 1 3 2 None ∷ [])) (c 1) ≡ sessions (past 1 3 ∷ []) }
 {}

@@ -21,7 +21,8 @@ use Rattle.st_rules.specs.Keys.{same_client, same_server}
 use Rattle.st_rules.specs.ClientLocks.{is_lock_on}
 use Rattle.st_rules.specs.ClientState.{ClientSession, Association}
 use Rattle.st_rules.specs.Client.{association_with}
-use Rattle.st_rules.specs.World.{World, ClientSite, ServerNode, site_of, node_of}
+use Rattle.st_rules.specs.Server.{ServerNode}
+use Rattle.st_rules.specs.World.{World, ClientSite, site_of, node_of}
 use Rattle.st_rules.specs.Events.{Scene, world_step, present_life}
 use Rattle.st_rules.specs.Run.{Run, run}
 

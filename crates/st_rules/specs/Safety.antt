@@ -44,7 +44,7 @@ use Rattle.st_rules.specs.declared.sessions.Session.{Session}
 use Rattle.st_rules.specs.declared.world.SentMessage.{SentMessage}
 use Rattle.st_rules.specs.declared.world.IssuedCommand.{IssuedCommand}
 use Rattle.st_rules.specs.declared.world.LeaseLife.{LeaseLife}
-use Rattle.st_rules.specs.Keys.{same_client, same_server, same_file, same_page}
+use Rattle.st_rules.specs.Keys.{same_client, same_server, same_file, same_page, server_node}
 use Rattle.st_rules.specs.ClientLocks.{is_lock_on}
 use Rattle.st_rules.specs.ClientPages.{Store, is_dirty_of}
 use Rattle.st_rules.specs.ClientState.{ClientState, ClientSession, Association, ClientTurn, server_of}
@@ -55,8 +55,9 @@ use Rattle.st_rules.specs.Authority as authority
 use Rattle.st_rules.specs.Grace as grace
 use Rattle.st_rules.specs.Locks as locks
 use Rattle.st_rules.specs.Server as server
+use Rattle.st_rules.specs.Server.{ServerNode}
 use Rattle.st_rules.specs.Sessions as sessions
-use Rattle.st_rules.specs.World.{World, ClientSite, ServerNode, site_of, node_of, same_node, all_clients, all_servers, clock_of, message_of, receiver_of, issued_of, server_of_disk, numbered, with_numbered, present_end, lease_end_of, fresh_world}
+use Rattle.st_rules.specs.World.{World, ClientSite, site_of, node_of, same_node, all_clients, all_servers, clock_of, message_of, receiver_of, issued_of, server_of_disk, numbered, with_numbered, present_end, lease_end_of, fresh_world}
 use Rattle.st_rules.specs.Events.{Scene, world_step, present_life, present_lives, is_same_instance, is_hard_fate, last_write}
 use Rattle.st_rules.specs.Run.{run}
 use Rattle.st_rules.specs.History.{Traced, History, TimerStart, LeaseDate, EntryGrant, association_of, locks_at, is_timer_of, is_exclusive_on, is_exclusive_row, rows_at, traced, traced_after}
@@ -626,8 +627,6 @@ TheftsComeLate past x = list_all (is_late x.before) x.seen ≡ true
 
 -- Leases are dated from a request: a lease's date is the client's own reading when it sent a request of this life, and the
 -- server sent that request's reply before any timer that runs for this client now.
-abbrev pub server_number : ServerId → ℕ
-server_number s = 32768 + s.0
 
 -- a request: what a client sends but a seen demand
 abbrev pub is_request : Body → Bool
@@ -636,7 +635,7 @@ is_request body = true
 
 -- from a client to a server
 abbrev pub is_between : ClientId → ServerId → Header → Bool
-is_between c s h = (h.from == c.0) && (h.to == server_number s)
+is_between c s h = (h.from == c.0) && (h.to == server_node s)
 
 -- of a life, and with this stamp
 abbrev pub is_stamped : Life → Stamp → Header → Bool
@@ -847,7 +846,7 @@ is_old_for (Some s) h body = is_other_epoch s h && not (is_newer_epoch s h body)
 
 -- an old message at an association
 abbrev pub is_old_at : Header → Body → Association → Bool
-is_old_at h body a = not (h.from == server_number a.server) || (not (h.life == a.life.0) || is_old_for a.session h body)
+is_old_at h body a = not (h.from == server_node a.server) || (not (h.life == a.life.0) || is_old_for a.session h body)
 
 -- a message that is old at every association
 abbrev pub is_old : ClientState → Message → Bool
