@@ -31,7 +31,7 @@ const KINDS: [Kind; 25] = [
     Kind::Done,
 ];
 
-/// The version byte.
+/// Returns the version byte.
 pub(crate) fn version_of(kind: Kind) -> u8
     ensures { result ≡ rules.version_of kind }
 {
@@ -41,7 +41,7 @@ pub(crate) fn version_of(kind: Kind) -> u8
     }
 }
 
-/// The kind byte.
+/// Returns the kind byte.
 pub(crate) fn number_of(kind: Kind) -> u8
     ensures { result ≡ rules.number_of kind }
 {
@@ -74,7 +74,7 @@ pub(crate) fn number_of(kind: Kind) -> u8
     }
 }
 
-/// The kind with these two bytes.
+/// Returns the kind that has these two bytes.
 #[tactic(auto, unfolding(crate::specs::KindBytes::kind_of))]
 pub(crate) fn kind_of(version: u8, number: u8) -> Option<Kind>
     ensures { result ≡ rules.kind_of version number }
