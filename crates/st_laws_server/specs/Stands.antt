@@ -5,18 +5,23 @@ use Rattle.st_base.specs.declared.ids.ClientId.{ClientId}
 use Rattle.st_base.specs.declared.ids.Life.{Life}
 use Rattle.st_base.specs.declared.ids.NodeId.TheVariants as nodes
 use Rattle.st_base.specs.declared.ids.ServerId.{ServerId}
+use Rattle.st_base.specs.declared.ids.Stamp.{Stamp}
 use Rattle.st_base.specs.Mode.{number_of, conflicts}
 use Rattle.st_messages.specs.declared.event.Event.{Event}
 use Rattle.st_messages.specs.declared.event.Event.TheVariants as events
 use Rattle.st_rules.specs.declared.locks.LockRow.{LockRow}
 use Rattle.st_rules.specs.declared.locks.Waiter.{Waiter}
+use Rattle.st_rules.specs.declared.sessions.Session.{Session}
+use Rattle.st_rules.specs.declared.sessions.SessionState.{SessionState}
+use Rattle.st_rules.specs.declared.sessions.SessionState.TheVariants.{Live, Ended}
 use Rattle.st_rules.specs.declared.world.SentMessage.{SentMessage}
 use Rattle.st_rules.specs.Locks.{Locks, row_of}
-use Rattle.st_rules.specs.Server.{ServerNode}
+use Rattle.st_rules.specs.Grace as grace
+use Rattle.st_rules.specs.Server.{ServerState, ServerNode}
 use Rattle.st_rules.specs.World.{World, ClientSite, site_of, ended_of, message_of, receiver_of, server}
 use Rattle.st_rules.specs.Events.{Scene}
 use Rattle.st_rules.specs.History.{Traced}
-use Rattle.st_rules.specs.Safety.{is_late}
+use Rattle.st_rules.specs.Safety.{is_late, is_conflict}
 use Rattle.st_assoc.specs.Assoc as net
 use Rattle.st_assoc.specs.Assoc.{Config, Reached}
 use Rattle.st_views.specs.Halves.{Ghost}
@@ -65,3 +70,18 @@ pub record After_advance (k : Config) (s : ℕ) (ended : ℕ → ℕ → ℕ) (v
   pub stands : Stands k s ended v node ghosts
   pub timed : Timed k s v ghosts
   pub nets : (c : ℕ) → (ghosts c).net ≡ (G c).net
+
+-- a client has one row on a file
+abbrev pub Single : Locks → Type 0
+Single l = (r : LockRow) → Has r l.rows → row_of l r.client r.ino ≡ Some r
+
+-- a kept reply is no conflict
+abbrev pub Calm_state : SessionState → Type 0
+Calm_state (Live last None) = Unit {0}
+Calm_state (Live last (Some b)) = is_conflict b ≡ false
+Calm_state Ended = Unit {0}
+
+-- What no conflict rests on at a server: in grace each client has one row on a file, and no kept reply is a conflict.
+pub record Calm (n : ServerState) (now : Stamp) : Type 0 where
+  pub single : grace.is_on n.grace now ≡ true → Single n.locks
+  pub kept : (s : Session) → Has s n.sessions.rows → Calm_state s.state
