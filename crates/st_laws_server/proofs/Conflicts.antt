@@ -1,11 +1,8 @@
 -- No conflict is sent: at a step of a server, from what stands of all its clients.
-use Rattle.std.proofs.Common.{◌≡◌, ◌≢◌, ℕ, ◌+◌, ◌<◌, ◌≤◌, ◌⊎◌, Bool, true, false, ◌&&◌, not, List, [], ◌∷◌, ◌==◌, refl, sym, ap, ◌∙◌, subst, inl, inr, arith}
-use Rattle.std.specs.Prelude.{find, filter, map, cond, Option, Some, None, is_some, option_map, Result as Res, Ok, Err}
-use Rattle.std.specs.List.{list_all, list_any}
+use Rattle.std.proofs.Common.{◌≡◌, ℕ, ◌+◌, ◌<◌, ◌≤◌, Bool, true, false, not, List, [], ◌∷◌, ◌==◌, refl, sym, ap, ◌∙◌, subst, inl, inr, arith}
+use Rattle.std.specs.Prelude.{find, filter, map, cond, Option, Some, None, option_map, Result as Res, Err}
 use Rattle.std.proofs.lemmas.Bool.{eqb-true, eq-eqb, ltb-true}
-use Rattle.std.proofs.lemmas.List.Folds.{list_all-append}
 use Rattle.st_base.specs.declared.ids.ClientId.{ClientId}
-use Rattle.st_base.specs.declared.ids.ServerId.{ServerId}
 use Rattle.st_base.specs.declared.ids.GrantNo.{GrantNo}
 use Rattle.st_base.specs.declared.ids.Stamp.{Stamp}
 use Rattle.st_base.specs.declared.ids.NodeId.TheVariants as nodes
@@ -13,20 +10,14 @@ use Rattle.st_base.specs.declared.mode.Mode.{Mode}
 use Rattle.st_base.specs.declared.mode.Mode.TheVariants as modes
 use Rattle.st_base.specs.Mode.{number_of, conflicts}
 use Rattle.st_messages.specs.declared.message.Message.{Message}
-use Rattle.st_messages.specs.declared.message.Body.{Body}
 use Rattle.st_messages.specs.declared.message.Body.TheVariants as bd
-use Rattle.st_messages.specs.declared.output.Note.TheVariants as notes
-use Rattle.st_messages.specs.declared.output.Output.{Output}
-use Rattle.st_messages.specs.declared.output.Output.TheVariants as outputs
 use Rattle.st_rules.specs.declared.authority.AcceptRefusal.{AcceptRefusal}
 use Rattle.st_rules.specs.declared.authority.AcceptRefusal.TheVariants as refusals
-use Rattle.st_rules.specs.declared.authority.Suspect.{Suspect}
 use Rattle.st_rules.specs.declared.input.ServerInput.{ServerInput}
 use Rattle.st_rules.specs.declared.input.ServerInput.TheVariants.{Tick, Control}
 use Rattle.st_rules.specs.declared.locks.LockRow.{LockRow}
 use Rattle.st_rules.specs.declared.sessions.Session.{Session}
 use Rattle.st_rules.specs.Keys.{client, least}
-use Rattle.st_rules.specs.Locks as locks
 use Rattle.st_rules.specs.Locks.{Locks, is_row_by, is_row_of, row_of, stands_against, client_of_row, ino_of_row, holder_against, conflict_or, first_conflict, install, install_at}
 use Rattle.st_rules.specs.Sessions as sessions
 use Rattle.st_rules.specs.Sessions.{session_of}
@@ -44,11 +35,11 @@ use Rattle.st_assoc.proofs.World.{invariant, no_conflict}
 use Rattle.st_views.specs.Messages.{lock_in_row, lock_in, shown, Shows, epoch_shown, Wishes, Heard}
 use Rattle.st_views.specs.Halves.{Ghost, life_view, live_view, row_view, row_or}
 use Rattle.st_lemmas.specs.Lists.{Has}
-use Rattle.st_lemmas.proofs.Tables.{and_true, and_both, found_at, has_filter, has_map, none_has, not_true}
+use Rattle.st_lemmas.proofs.Tables.{and_true, and_both, has_filter, has_map, none_has, not_true}
 use Rattle.st_lemmas.proofs.Keys.{least_some}
-use Rattle.st_laws_server.specs.View.{at, Serves_life, Row_ok, Not_ended, Sound}
-use Rattle.st_laws_server.specs.Pair.{client_in, pair}
-use Rattle.st_laws_server.specs.Stands.{Compat, pairs, Stands, Single}
+use Rattle.st_laws_server.specs.View.{at, Row_ok, Not_ended, Sound}
+use Rattle.st_laws_server.specs.Pair.{client_in}
+use Rattle.st_laws_server.specs.Stands.{pairs, Stands, Single}
 use Rattle.st_laws_server.specs.Edits.{In_grace}
 use Rattle.st_laws_server.proofs.Delivery.{sound_of, pair_runs}
 use Rattle.st_laws_server.proofs.Late.{timer_over}
@@ -241,7 +232,7 @@ module _ (k : Config) (s : ℕ) (ended : ℕ → ℕ → ℕ) (w : World) (node 
       let lock = ap (λ o. (lock_in_row o).mode) wish.alone in
       let some = st.compat.rows a.other.client a.row.0 a.other there in
       let most = no_conflict k (pairs s ended w node G) ok st.reached m.header.from a.other.client.0 a.row.0 m.header.life m.header.stamp (λ i. lock_in rows i)
-            (λ e. not_both (a.other.client.0 == m.header.from) (eq-eqb a.other.client.0 m.header.from (sym e)) (not_true _ y.0)) runs (on_before t rows g) (in_net t rows g) (let v = wish.some in omega arith) (omega arith) in
+      (λ e. not_both (a.other.client.0 == m.header.from) (eq-eqb a.other.client.0 m.header.from (sym e)) (not_true _ y.0)) runs (on_before t rows g) (in_net t rows g) (let v = wish.some in omega arith) (omega arith) in
       let sum = sum_of a.other.mode a.row.2 y.1 in
       absurd (omega arith)
 

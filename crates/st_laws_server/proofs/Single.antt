@@ -1,18 +1,19 @@
 -- In grace a client has one row on a file, and no reply is a conflict: what a whole step keeps.
-use Rattle.std.proofs.Common.{◌≡◌, ℕ, ◌⊎◌, Bool, true, false, ◌&&◌, List, [], ◌∷◌, ◌++◌, ◌==◌, refl, sym, ap, ◌∙◌, subst, inl, inr}
-use Rattle.std.specs.Prelude.{not, cond, find, filter, map, Option, Some, None, option_map, Err}
+use Rattle.std.proofs.Common.{◌≡◌, ℕ, ◌≤◌, ◌⊎◌, Bool, true, false, ◌&&◌, List, [], ◌∷◌, ◌++◌, ◌==◌, refl, sym, ap, ◌∙◌, subst, inl, inr}
+use Rattle.std.specs.Prelude.{not, cond, find, filter, map, Some, None, option_map, Err}
 use Rattle.std.specs.Option.{option_or}
 use Rattle.std.proofs.lemmas.Bool.{eq-eqb, eqb-true}
 use Rattle.std.proofs.lemmas.List.Folds.{find-append}
 use Rattle.st_base.specs.declared.ids.ClientId.{ClientId}
 use Rattle.st_base.specs.declared.ids.GrantNo.{GrantNo}
 use Rattle.st_base.specs.declared.ids.Life.{Life}
+use Rattle.st_base.specs.declared.ids.ServerId.{ServerId}
 use Rattle.st_base.specs.declared.ids.Stamp.{Stamp}
+use Rattle.st_base.specs.declared.config.Config as base
 use Rattle.st_base.specs.declared.mode.Mode.{Mode}
 use Rattle.st_base.specs.declared.mode.Mode.TheVariants as modes
 use Rattle.st_messages.specs.declared.message.Message.{Message}
 use Rattle.st_messages.specs.declared.message.Body.{Body}
-use Rattle.st_messages.specs.declared.message.Body.TheVariants as bd
 use Rattle.st_messages.specs.declared.output.Output.{Output}
 use Rattle.st_messages.specs.declared.output.Output.TheVariants as outputs
 use Rattle.st_rules.specs.declared.authority.AcceptRefusal.{AcceptRefusal}
@@ -28,16 +29,17 @@ use Rattle.st_rules.specs.Locks.{Locks, is_row_of, is_row_by, row_of, queue, wai
 use Rattle.st_rules.specs.Sessions as sessions
 use Rattle.st_rules.specs.Sessions.{Sessions}
 use Rattle.st_rules.specs.Grace as grace
-use Rattle.st_rules.specs.Server.{ServerState, Turn, turn, sender, life_in, reply, tell, steal_from, suspect_client, keep_and_reply, refused_reassertion, server_step}
+use Rattle.st_rules.specs.Server.{ServerState, Turn, sender, life_in, reply, tell, steal_from, suspect_client, keep_and_reply, refused_reassertion, server_step, crash, start, begin_epoch, fresh_server}
 use Rattle.st_rules.specs.Safety.{is_conflict}
 use Rattle.st_views.specs.Messages.{is_row_on}
 use Rattle.st_lemmas.specs.Lists.{Has}
-use Rattle.st_lemmas.proofs.Tables.{and_true, and_both, and_right, cond_true, cond_false, cond_either, find_kept, find_map, found_at, has_append, has_filter, has_map, none_has}
+use Rattle.st_lemmas.proofs.Tables.{and_true, and_both, and_right, cond_true, cond_false, cond_either, find_kept, find_map, found_at, has_append, has_filter, has_map}
 use Rattle.st_lemmas.proofs.Puts.{has_put}
 use Rattle.st_laws_server.specs.Stands.{Single, Calm_state, Calm}
-use Rattle.st_laws_server.specs.Edits.{Wish_input, is_kept, Acquired, At_once, In_turn, In_grace, Edit, Takes_timers, Steals, Suspects, Begins, Drops_waits, Keeps, Reasserts, Sees, Acquires, Releases, Drops_file, Grants, Demands, Names_change, Extents_change, Cuts, Replies, Repeats, Refuses, Tells_grant, Tells_demand}
+use Rattle.st_laws_server.specs.Edits.{Wish_input, Acquired, At_once, In_turn, In_grace, Edit, Takes_timers, Steals, Suspects, Begins, Drops_waits, Keeps, Reasserts, Sees, Acquires, Releases, Drops_file, Grants, Demands, Names_change, Extents_change, Cuts, Replies, Repeats, Refuses, Tells_grant, Tells_demand}
 use Rattle.st_laws_server.proofs.Walk.{kept_calm, walk}
 use Rattle.st_laws_server.proofs.Locking.{queue_rows}
+use Rattle.st_laws_server.proofs.Epochs.{later_off}
 
 -- One row on a file.
 own_row : (r : LockRow) → is_row_of r.client r.ino r ≡ true
@@ -251,3 +253,23 @@ calm_edit n now i q t u (Tells_demand _ c life ino g mode) o = record { same = o
 -- a whole step
 pub calm_step : (n : ServerState) (now : Stamp) (i : ServerInput) → Reassertions n now i → Wish_input i → Calm n now → Calm_turn n now (server_step n now i)
 calm_step n now i q w o = walk n now i (Calm_turn n now) (calm_edit n now i q) w (record { same = refl; single = o.single; kept = o.kept; calm = tt })
+
+-- time that passes, a crash and a start leave it so, and a fresh server begins so
+pub calm_later : (n : ServerState) (now later : Stamp) → now.0 ≤ later.0 → Calm n now → Calm n later
+calm_later n now later up c = record { single = λ g. c.single (on (grace.is_on n.grace now) refl g); kept = c.kept }
+  where
+    on : (b : Bool) → grace.is_on n.grace now ≡ b → grace.is_on n.grace later ≡ true → grace.is_on n.grace now ≡ true
+    on true f g = f
+    on false f g = absurd (clash (grace.is_on n.grace later) g (later_off now later n.grace up f))
+
+pub calm_crash : (n : ServerState) (now : Stamp) → Calm (crash n) now
+unfolding crash
+calm_crash n now = record { single = λ g r h. elim h [ ]; kept = λ s h. elim h [ ] }
+
+pub calm_start : (n : ServerState) (now at : Stamp) → Calm (start n now) at
+unfolding start begin_epoch
+calm_start n now at = record { single = λ g r h. elim h [ ]; kept = λ s h. elim h [ ] }
+
+pub calm_fresh : (id : ServerId) (kb : base.Config) (servers disks blocks : ℕ) (at : Stamp) → Calm (fresh_server id kb servers disks blocks) at
+unfolding fresh_server
+calm_fresh id kb servers disks blocks at = record { single = λ g r h. elim h [ ]; kept = λ s h. elim h [ ] }
