@@ -323,8 +323,8 @@ WORDS = {
 }
 
 
-def write_file(name, body):
-    """Writes functions behind the names that they use."""
+def write_file(name, body, tool="world_rows.py"):
+    """Writes functions after the names that they use, in a file that says which tool wrote it."""
     code = re.sub(r"///.*|pub fn \w+", "", body)
 
     def used(word):
@@ -340,13 +340,13 @@ def write_file(name, body):
         there = [w for w in words if used(w)]
         if there:
             head += f"ghost use Rattle.{path}.{{{', '.join(there)}}};\n"
-    (ROWS_CRATE / "src" / f"{name}.rt").write_text(head + body)
+    (ROWS_CRATE / "src" / f"{name}.rt").write_text(f"// Written by tools/{tool}.\n" + head + body)
 
 
 def write_answer(name, text):
     folder = ROWS_CRATE / "proofs" / "world_safety" / name
     folder.mkdir(parents=True, exist_ok=True)
-    (folder / "Answers.antt").write_text(text)
+    (folder / "Answers.antt").write_text("-- Written by tools/world_rows.py.\n" + text)
 
 
 if __name__ == "__main__":

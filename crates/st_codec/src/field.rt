@@ -167,7 +167,7 @@ pub(crate) fn read_whole_page(alloc: Global, bytes: &[u8]) -> Result<(PageBytes,
     ensures { reading.Gives (λ x. (x.0, x.1.now)) result (reading.whole_page_at bytes.now) }
 {
     let (text, rest) = read_text(4096, bytes)?;
-    let page = PageBytes::from_vec(Vec::from_slice(alloc, text)?)?;
+    let page = PageBytes::from_slice(alloc, text)?;
     Ok((page, rest))
 }
 

@@ -11,7 +11,7 @@ use Rattle.st_rules.specs.declared.disks.CommandRefusal.TheVariants as rules
 use Rattle.st_disk.specs.declared.refusal.DiskRefusal.{DiskRefusal}
 use Rattle.st_disk.specs.declared.refusal.DiskRefusal.TheVariants as refusals
 use Rattle.st_rules.specs.declared.disks.DiskCommand.{DiskCommand}
-use Rattle.st_rules.specs.Disks.{Disks, command_at}
+use Rattle.st_rules.specs.Disks.{Disks, block, command_at, effected, sampled, with_block, with_command}
 
 -- the block that a command is on
 abbrev pub place : Command → BlockAt
@@ -24,7 +24,7 @@ pub record HasBlock (d : Disks) (at : BlockAt) : Type 0 where
   pub disk : at.disk.0 ≤ d.disks
   pub block : at.block < d.blocks
 
--- as many disks, of as many blocks
+-- the number of disks and of blocks of each is the same
 pub record SameSize (old new : Disks) : Type 0 where
   pub disks : new.disks ≡ old.disks
   pub blocks : new.blocks ≡ old.blocks
@@ -47,7 +47,7 @@ Answers old new (Ok u) rule = rule ≡ Ok new
 Answers old new (Err refusals.Memory) rule = new ≡ old
 Answers old new (Err f) rule = (told rule ≡ Err f) × (new ≡ old)
 
--- what a call leaves, or its refusal
+-- the disks that a call leaves, or its refusal
 abbrev pub ended : Result Unit DiskRefusal → Disks → Result Disks DiskRefusal
 ended (Ok u) d = Ok d
 ended (Err f) d = Err f
@@ -56,7 +56,15 @@ ended (Err f) d = Err f
 abbrev pub shown : Block → Tag × List ℕ
 shown b = (b.tag, b.bytes)
 
--- where the command of a number is
+-- the index of the command with number n, if there is one
 abbrev pub IsIndex : List DiskCommand → ℕ → Option ℕ → Type 0
 IsIndex cs n None = command_at cs n ≡ None
 IsIndex cs n (Some i) = (n ≡ i + 1) × (i < length cs)
+
+-- the disks after the read c at this index took its sample of the block at b
+abbrev pub sampled_at : ℕ → BlockAt → DiskCommand → Disks → Disks
+sampled_at index b c d = with_command (index + 1) (sampled (block d b) c) d
+
+-- the disks after the write c at this index wrote its block
+abbrev pub written_at : ℕ → Block → DiskCommand → Disks → Disks
+written_at index b c d = with_block b (with_command (index + 1) (effected c) d)

@@ -10,7 +10,7 @@ use Rattle.st_rules.specs.declared.extents.AllocateRefusal.TheVariants.{NoSpace}
 use Rattle.st_extents.specs.declared.refusal.ExtentRefusal.{ExtentRefusal}
 use Rattle.st_extents.specs.declared.refusal.ExtentRefusal.TheVariants as refusals
 use Rattle.st_base.specs.declared.disk.BlockAt.{BlockAt}
-use Rattle.st_rules.specs.Extents.{Extents, lies_at, is_extent_of, pages_from}
+use Rattle.st_rules.specs.Extents.{Extents, free_blocks, is_extent_of, lies_at, pages_from, place_on}
 
 -- the counts of a world, at one server
 pub record Shape : Type 0 where
@@ -19,11 +19,15 @@ pub record Shape : Type 0 where
   pub disks : ℕ
   pub blocks : ℕ
 
--- the extents of a server with this shape
-abbrev pub extents : Shape → List Extent → ℕ → Extents
-extents l rows births = record { server = l.server; servers = l.servers; disks = l.disks; blocks = l.blocks; rows = rows; births = births }
+-- the extents of a server with this shape, these mapped pages and this many births
+abbrev pub with_shape : Shape → List Extent → ℕ → Extents
+with_shape l rows births = record { server = l.server; servers = l.servers; disks = l.disks; blocks = l.blocks; rows = rows; births = births }
 
--- the counts are within the limits: 1 to 4 servers, a disk for each server and 8 disks at most, 1 to 4,096 blocks
+-- the extents after a page got the first free block, under the next birth
+abbrev pub placed_first : Shape → List Extent → ℕ → FileId → PageNo → Extents
+placed_first l rows births f p = place_on (with_shape l rows births) f p (free_blocks (with_shape l rows births))
+
+-- the counts are within the limits: 1 to 4 servers, at least a disk for each server and at most 8 disks, 1 to 4,096 blocks
 pub record IsWithinLimits (server servers disks blocks : ℕ) : Type 0 where
   pub some_server : 1 ≤ server
   pub known_server : server ≤ servers

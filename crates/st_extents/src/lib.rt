@@ -3,8 +3,8 @@
 
 mod extents;
 mod layout;
+mod mapping;
 mod refusal;
-mod rows;
 
 pub use extents::Extents;
 pub use refusal::ExtentRefusal;

@@ -1,4 +1,4 @@
--- What calls of names answer and leave.
+-- What calls on names return and leave.
 use Rattle.std.specs.Prelude.{ℕ, ◌≡◌, ◌⊎◌, Bool, Result, Ok, Err}
 use Rattle.st_base.specs.declared.names.NameRefusal.{NameRefusal}
 use Rattle.st_base.specs.declared.names.NameRefusal.TheVariants as told

@@ -14,8 +14,8 @@ use Rattle.st_rules.specs.declared.extents.Extent.{Extent}
 use Rattle.st_rules.specs.declared.world.SentMessage.{SentMessage}
 use Rattle.st_rules.specs.Keys.{same_server}
 use Rattle.st_rules.specs.ClientState.{Association}
-use Rattle.st_rules.specs.World.{World, ClientSite, server_of_disk, sender_of}
 use Rattle.st_rules.specs.Server.{ServerNode}
+use Rattle.st_rules.specs.World.{World, ClientSite, server_of_disk, sender_of}
 use Rattle.st_rules.specs.ServerInvariants.{IsServer}
 use Rattle.st_rules.specs.ClientInvariants.{IsClient}
 

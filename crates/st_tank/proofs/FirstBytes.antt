@@ -24,9 +24,9 @@ use Rattle.st_schedule.specs.Reading.{line_event, head_at}
 use Rattle.st_schedule.specs.Reader as head
 use Rattle.st_schedule.specs.Reader.{Told, started, checked, head_of_words, first_line, counted, with_line, nodes_of, later_line, short_line, read_line, MOST_EVENTS, SpellsLine}
 use Rattle.st_schedule.proofs.Words.{room-split}
-use Rattle.st_schedule.proofs.Inverse.{chosen}
-use Rattle.st_schedule.proofs.Found.{end_is_spelled}
-use Rattle.st_schedule.proofs.Whole.{line_is_spelled}
+use Rattle.st_schedule.proofs.ValuesWereWritten.{chosen}
+use Rattle.st_schedule.proofs.EventsWereWritten.{end_is_spelled}
+use Rattle.st_schedule.proofs.LinesAsSpelled.{line_is_spelled}
 use Rattle.st_world.specs.World.{fresh_world}
 use Rattle.st_tank.specs.Schedule.{onto, lines_of, Stopped, Schedule, stop, before, with_told, schedule_of}
 use Rattle.st_tank.specs.Replay.{behind_text, refused, not_built, line_refusal, report_from, is_path_head, with_head, from_head, report_of}
