@@ -14,7 +14,7 @@ use Rattle.st_rules.specs.Events.{Scene, client_says, client_says_all, client_no
 use Rattle.st_laws_client.specs.World.{logged, sent, Told}
 use Rattle.st_laws_client.proofs.Steps.{nothing_more}
 
-told_one : (c : ClientId) (before : ClientState) (o : Output) (sc : Scene) → Told c (o ∷ []) sc.world (client_says sc c before o).world
+pub told_one : (c : ClientId) (before : ClientState) (o : Output) (sc : Scene) → Told c (o ∷ []) sc.world (client_says sc c before o).world
 unfolding client_says ev.sends ev.submits ev.answers_with client_notes ev.accepts ev.patches ev.loses
 told_one c before (outputs.Send m) sc = record { clients = refl; servers = refl; clocks = refl; messages = refl; log = refl }
 told_one c before (outputs.Answer op a) sc = record { clients = refl; servers = refl; clocks = refl; messages = sym (nothing_more sc.world.net.messages); log = refl }
@@ -30,7 +30,7 @@ told_one c before (outputs.Note n) sc = note n
     note (notes.Patched f p at bytes) = record { clients = refl; servers = refl; clocks = refl; messages = sym (nothing_more sc.world.net.messages); log = refl }
     note n = record { clients = refl; servers = refl; clocks = refl; messages = sym (nothing_more sc.world.net.messages); log = refl }
 
-lives_same : (c : ClientId) (v w : World) → w.clients ≡ v.clients → ◌≡◌ {A = ServerId → Life} (present_life w c) (present_life v c)
+pub lives_same : (c : ClientId) (v w : World) → w.clients ≡ v.clients → ◌≡◌ {A = ServerId → Life} (present_life w c) (present_life v c)
 lives_same c v w e = λ j s. ev.life_of_site s (numbered (e j) c.0)
 
 sent_both : (os ps : List Output) → sent (os ++ ps) ≡ sent os ++ sent ps

@@ -9,3 +9,4 @@ pub mod Ends
 pub mod Everywhere
 pub mod Losing
 pub mod Step
+pub mod Seen

@@ -8,6 +8,11 @@ use Rattle.st_base.specs.declared.ids.Stamp.{Stamp}
 use Rattle.st_messages.specs.declared.ask.Ask.{Ask}
 use Rattle.st_rules.specs.declared.log.LogEntry.{LogEntry}
 use Rattle.st_rules.specs.declared.client.ClientInput.{ClientInput}
+use Rattle.st_rules.specs.declared.observation.Observation.{Observation}
+use Rattle.st_messages.specs.declared.output.Output.{Output}
+use Rattle.st_rules.specs.Safety as safety
+use Rattle.st_rules.specs.World.{World}
+use Rattle.st_rules.specs.Events.{client_says_all, quiet, present_life}
 use Rattle.st_rules.specs.Client as cl
 use Rattle.st_rules.specs.ClientState.{Association, ClientState, ClientTurn, Turn, client_turn}
 use Rattle.st_rules.specs.Keys.{same_server}
@@ -83,6 +88,18 @@ Steps_keep_copies =
     (asked_as : ℕ → Option Ask) (c : ClientId) (lives : ServerId → Life) (es : List LogEntry) (s : ClientState) (now : Stamp) (input : ClientInput) →
     Client_stands asked_as c es s → Numbered asked_as input → All_owed c lives es input (cl.losses (client_turn s []) now).state.associations → Lives_are lives (cl.client_step s now input).state.associations →
     Step_keeps asked_as c lives es (cl.client_step s now input)
+
+-- What is observed of a client's outputs: each answered read has the bytes of the log at it, and each sync that is answered hard
+-- finds all of its file hard.
+pub record Seen_right (past : List safety.Step) (x : safety.Step) (es : List LogEntry) (lines : List Observation) : Type 0 where
+  pub reads : safety.AtEach (safety.IsLast past x) x.after.world es lines
+  pub syncs : safety.AtEach (safety.IsHardAt past x) x.after.world es lines
+
+-- In the world: where each output of a client is right by the log at it, so are the lines of its step.
+abbrev pub Steps_answer_right : Type 0
+Steps_answer_right =
+    (past : List safety.Step) (x : safety.Step) (c : ClientId) (before : ClientState) (os : List Output) (v : World) → ◌≡◌ {A = ServerId → Life} (present_life x.after.world c) (present_life v c) →
+    Right (safety.ask_of past x c) c (present_life v c) v.log os → Seen_right past x v.log (client_says_all c before os (quiet v)).seen
 
 -- The pass over the operations keeps the copies: pages have the bytes of the log, and every read is answered by it.
 abbrev pub Operations_keep_copies : Type 0
