@@ -24,7 +24,7 @@ use Rattle.st_views.specs.Halves.{client_of}
 use Rattle.st_assoc.specs.Assoc.{Moves}
 use Rattle.st_laws_client.specs.Shown.{Beside, Said, Kept}
 use Rattle.st_laws_client.specs.Law.{Place, Life_ends, Client_result, Client_step, Comes}
-use Rattle.st_laws_client.specs.World.{sent}
+use Rattle.st_laws_client.specs.World.{sent, lost_life, lost_lives, stepped, site_left, World_left, Own_associations_move, Other_associations_stay}
 use Rattle.st_laws_client.proofs.Steps.{step_moves}
 use Rattle.st_laws_client.proofs.World.{told_all}
 use Rattle.st_lemmas.proofs.Numbers.{numbered_other}
@@ -32,14 +32,6 @@ use Rattle.st_messages.specs.declared.output.Note.{Note}
 use Rattle.st_messages.specs.declared.output.Note.TheVariants as notes
 use Rattle.st_rules.specs.declared.world.LeaseLife.{LeaseLife}
 use Rattle.st_laws_client.proofs.Steps.{nothing_more}
-
--- an association of a client in the world, with the network of the two
-pub record Sim (k : Config) (c : ClientId) (own : ServerId) (site : ClientSite) (a : Association) (N : List Msg) : Type 0 where
-  pub id_ : site.node.state.id.0 ≡ c.0
-  pub terms : site.node.state.config.lease ≡ k.lease
-  pub place : Place own site.node.state.associations a
-  pub born : 1 ≤ a.life.0
-  pub kept : Kept a.life.0 a.store a.session N
 
 -- what flush steps leave
 record Flushed (w v : World) : Type 0 where
@@ -65,18 +57,6 @@ flushes_leave c s (x ∷ ss) w =
     in_phase : (o : Option Stamp) (p : Option Phase) → Flushed w (ev.flushed_in w c x o p)
     in_phase o (Some phases.Flush) = under o
     in_phase o p = record { clients = refl; servers = refl; clocks = refl; config = refl; net = refl; ended = refl }
-
--- the lives that outputs say to be lost
-abbrev pub lost_life : ClientId → ClientState → Note → List LeaseLife
-lost_life c before (notes.Lost s life) = ev.life_over c s life (cl.lease_end_with before s) ∷ []
-lost_life c before n = []
-
-abbrev pub lost_lives : ClientId → ClientState → List Output → List LeaseLife
-lost_lives c before [] = []
-lost_lives c before (outputs.Send m ∷ os) = lost_lives c before os
-lost_lives c before (outputs.Submit n a w ∷ os) = lost_lives c before os
-lost_lives c before (outputs.Answer o a ∷ os) = lost_lives c before os
-lost_lives c before (outputs.Note n ∷ os) = lost_life c before n ++ lost_lives c before os
 
 ended_one : (c : ClientId) (before : ClientState) (o : Output) (sc : Scene) → ((ev.client_says sc c before o).world.config ≡ sc.world.config) × ((ev.client_says sc c before o).world.ended ≡ sc.world.ended ++ lost_lives c before (o ∷ []))
 unfolding ev.client_says ev.sends ev.submits ev.answers_with ev.client_notes ev.accepts ev.patches ev.loses
@@ -136,77 +116,42 @@ step_id s now input =
     let T : ClientTurn = cl.losses (st.client_turn s []) now in
     each_id (cp.passes now (cl.is_tick input)) (cl.take_input T now input) ∙ input_id T now input ∙ each_id (cl.lose now) (st.client_turn s [])
 
-module _ (k : Config) (sv : Beside) (w : World) (c : ClientId) (site : ClientSite) (input : ClientInput) where
-  abbrev Now : Stamp
-  Now = clock_of w (nodes.Client c)
+pub world_is : (w : World) (c : ClientId) (site : ClientSite) (input : ClientInput) → World_left w c site input
+unfolding ev.client_took
+world_is w c site input =
+    let t : ClientTurn = stepped w c site input in
+    let v : World = ev.with_site c (site_left w c site input) w in
+    let sc : Scene = ev.client_says_all c site.node.state t.out (ev.scene v []) in
+    let d = told_all c site.node.state t.out (ev.scene v []) in
+    let g = ended_all c site.node.state t.out (ev.scene v []) in
+    let f = flushes_leave c t.state (all_servers sc.world) sc.world in
+    record {
+      clients = f.clients ∙ d.clients;
+      servers = f.servers ∙ d.servers;
+      clocks = f.clocks ∙ d.clocks;
+      config = f.config ∙ g.0;
+      messages = ap (λ (n : world.Net). n.messages) f.net ∙ d.messages;
+      ended = f.ended ∙ g.1;
+    }
 
-  abbrev Stepped : ClientTurn
-  Stepped = cl.client_step site.node.state Now input
+pub own_moves : Own_associations_move
+own_moves k sv w c site input own a N m comes =
+    let now : Stamp = clock_of w (nodes.Client c) in
+    let t : ClientTurn = stepped w c site input in
+    let x : Client_step k sv now.0 N own a t N = step_moves k sv now N own site.node.state input a N m.terms m.place m.born m.kept (subst (λ i. Comes own i input N) (sym m.id_) comes) (λ x i. i) in
+    let r : Client_result k sv (record { s = sv.s; ended = x.ended }) now.0 N own a t N = x.result in
+    let id_ : t.state.id.0 ≡ c.0 = ap (λ (i : ClientId). i.0) (step_id site.node.state now input) ∙ m.id_ in
+    record {
+      ended = x.ended;
+      ends = x.ends;
+      last = r.last;
+      net = r.net;
+      moves = r.moves;
+      sim = record { id_ = id_; terms = r.ready.terms; place = r.place; born = r.ready.born; kept = r.ready.kept };
+      said = subst (λ i. Said i own t.out r.net) id_ (subst (λ x. Said t.state.id.0 x t.out r.net) r.place.here r.ready.said);
+    }
 
-  -- the client as the step leaves it
-  abbrev Left : ClientSite
-  Left = ev.at_node (cl.node_turn site.node Stepped).node site
-
-  abbrev After : World
-  After = (ev.client_took w c site (Ok (cl.node_turn site.node Stepped))).world
-
-  -- what the step leaves of the world
-  pub record After_is : Type 0 where
-    pub clients : After.clients ≡ with_numbered c.0 Left w.clients
-    pub servers : After.servers ≡ w.servers
-    pub clocks : After.clocks ≡ w.clocks
-    pub config : After.config ≡ w.config
-    pub messages : After.net.messages ≡ w.net.messages ++ sent Stepped.out
-    pub ended : After.ended ≡ w.ended ++ lost_lives c site.node.state Stepped.out
-
-  pub after_is : After_is
-  unfolding ev.client_took
-  after_is =
-      let v : World = ev.with_site c Left w in
-      let sc : Scene = ev.client_says_all c site.node.state Stepped.out (ev.scene v []) in
-      let d = told_all c site.node.state Stepped.out (ev.scene v []) in
-      let g = ended_all c site.node.state Stepped.out (ev.scene v []) in
-      let f = flushes_leave c Stepped.state (all_servers sc.world) sc.world in
-      record {
-        clients = f.clients ∙ d.clients;
-        servers = f.servers ∙ d.servers;
-        clocks = f.clocks ∙ d.clocks;
-        config = f.config ∙ g.0;
-        messages = ap (λ (n : world.Net). n.messages) f.net ∙ d.messages;
-        ended = f.ended ∙ g.1;
-      }
-
-  -- for this client and a server: moves, and what stood stands
-  pub record Client_own (own : ServerId) (a : Association) (N : List Msg) : Type 0 where
-    pub ended : ℕ → ℕ
-    pub last : Association
-    pub ends : Life_ends k Now.0 a last.life.0 sv.ended ended
-    pub net : List Msg
-    pub moves : Moves k (record { c = client_of sv.ended Now.0 a; s = sv.s; net = N }) (record { c = client_of ended Now.0 last; s = sv.s; net = net })
-    pub sim : Sim k c own Left last net
-    pub said : Said c.0 own Stepped.out net
-
-  pub client_own : (own : ServerId) (a : Association) (N : List Msg) → Sim k c own site a N → Comes own c.0 input N → Client_own own a N
-  client_own own a N m comes =
-      let x : Client_step k sv Now.0 N own a Stepped N = step_moves k sv Now N own site.node.state input a N m.terms m.place m.born m.kept (subst (λ i. Comes own i input N) (sym m.id_) comes) (λ x i. i) in
-      let r : Client_result k sv (record { s = sv.s; ended = x.ended }) Now.0 N own a Stepped N = x.result in
-      record {
-        ended = x.ended;
-        ends = x.ends;
-        last = r.last;
-        net = r.net;
-        moves = r.moves;
-        sim =
-            record {
-              id_ = ap (λ (i : ClientId). i.0) (step_id site.node.state Now input) ∙ m.id_;
-              terms = r.ready.terms;
-              place = r.place;
-              born = r.ready.born;
-              kept = r.ready.kept;
-            };
-        said = subst (λ i. Said i own Stepped.out r.net) (ap (λ (i : ClientId). i.0) (step_id site.node.state Now input) ∙ m.id_) (subst (λ x. Said Stepped.state.id.0 x Stepped.out r.net) r.place.here r.ready.said);
-      }
-
-  -- for another client: nothing
-  pub client_other : (d : ClientId) → 1 ≤ c.0 → d.0 ≢ c.0 → site_of After d ≡ site_of w d
-  client_other d p n = ap (λ xs. numbered xs d.0) after_is.clients ∙ numbered_other w.clients c.0 d.0 _ p n
+pub others_stay : Other_associations_stay
+others_stay w c site input =
+    let q = world_is w c site input in
+    record { world = q; others = λ d p n. ap (λ xs. numbered xs d.0) q.clients ∙ numbered_other w.clients c.0 d.0 _ p n }

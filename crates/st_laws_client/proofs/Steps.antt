@@ -20,12 +20,12 @@ use Rattle.st_rules.specs.Keys.{server_node}
 use Rattle.st_rules.specs.ClientReplies as cr
 use Rattle.st_rules.specs.ClientPasses as cp
 use Rattle.st_rules.specs.Client as cl
-use Rattle.st_assoc.specs.Assoc.{Config, Msg, msg, Assoc, In}
+use Rattle.st_assoc.specs.Assoc.{Config, no_row, Msg, msg, Assoc, In}
 use Rattle.st_assoc.specs.Assoc as net
 use Rattle.st_views.specs.Messages.{Fine, shown, Shows}
 use Rattle.st_assoc.specs.Assoc.{Moves, Stays, Goes_on}
 use Rattle.st_laws_client.specs.Shown.{Beside, Said, Kept, Ready, Losses, Leaves, Frame, Result, Goes}
-use Rattle.st_laws_client.specs.Law.{Heard_of, Life_ends, Apart, Place, Client_result, Client_step, Comes, Steps_are_moves}
+use Rattle.st_laws_client.specs.Law.{Heard_of, Life_ends, Apart, Place, Client_result, Client_step, Comes, Steps_are_moves, Lost_leases_are_over}
 use Rattle.st_views.proofs.Moves.{lives_up, moves_on, shows_more}
 use Rattle.st_laws_client.proofs.Goes.{losses_both, said_both, goes_same, goes_then, if_goes}
 use Rattle.st_laws_client.proofs.Effects.{hear_goes}
@@ -272,3 +272,14 @@ step_moves k sv now hs own s input a N le p pos kept c g =
 
 pub law : Steps_are_moves
 law k sv now hs own s input a N le p pos kept c g = step_moves k sv now hs own s input a N le p pos kept c g
+
+-- a life is lost only where its lease is over; of the machine's settings and server nothing is needed
+any_config : Config
+any_config = record { lease = 0; num = 0; den = 0; wait = 0; grain = 0 }
+
+any_server : net.Server
+any_server =
+    record { clock = 0; drift = 0; up = false; epoch = 0; grace = false; gstart = 0; gbase = 0; glife = 0; session = 0; live = false; row = λ i. no_row; timed = false; start = 0; base = 0; top = 0 }
+
+pub lost_law : Lost_leases_are_over
+lost_law P now s input f h = step_losses any_config (record { s = any_server; ended = λ l. 0 }) now [] (record { 0 = 0 }) P s input f h

@@ -1,10 +1,11 @@
 -- The law of a client's step: for each server, a list of moves of the association.
-use Rattle.std.specs.Prelude.{◌≡◌, ◌<◌, ◌≤◌, ◌⊎◌, ℕ, List, [], ◌∷◌, ◌++◌}
+use Rattle.std.specs.Prelude.{◌≡◌, Some, ◌+◌, ◌<◌, ◌≤◌, ◌⊎◌, ℕ, List, [], ◌∷◌, ◌++◌}
 use Rattle.st_base.specs.declared.ids.ServerId.{ServerId}
+use Rattle.st_base.specs.declared.ids.Life.{Life}
 use Rattle.st_base.specs.declared.ids.Stamp.{Stamp}
 use Rattle.st_rules.specs.declared.client.ClientInput.{ClientInput}
 use Rattle.st_rules.specs.declared.client.ClientInput.TheVariants as inputs
-use Rattle.st_rules.specs.ClientState.{ClientTurn, ClientState, Association, enter}
+use Rattle.st_rules.specs.ClientState.{ClientTurn, ClientSession, ClientState, Association, enter}
 use Rattle.st_rules.specs.Keys.{server_node}
 use Rattle.st_messages.specs.declared.event.Event.{Event}
 use Rattle.st_rules.specs.History.{Traced}
@@ -13,7 +14,8 @@ use Rattle.st_rules.specs.Client as cl
 use Rattle.st_assoc.specs.Assoc.{Config, Msg, In, Moves, upd, end_now}
 use Rattle.st_views.specs.Messages.{Fine, shown, Shows}
 use Rattle.st_views.specs.Halves.{client_of}
-use Rattle.st_laws_client.specs.Shown.{Beside, Lasts, Kept, Ready}
+use Rattle.st_lemmas.specs.Lists.{Has}
+use Rattle.st_laws_client.specs.Shown.{Beside, Lasts, Kept, Losses, Ready}
 
 -- associations with other servers
 abbrev pub Apart : ServerId → List Association → Type 0
@@ -65,6 +67,12 @@ Steps_are_moves =
     (k : Config) (b : Beside) (now : Stamp) (hs : List Msg) (own : ServerId) (s : ClientState) (input : ClientInput) (a : Association) (N : List Msg) → s.config.lease ≡ k.lease → Place own s.associations a → 1 ≤ a.life.0 → Kept a.life.0 a.store a.session N →
     Comes own s.id.0 input hs → ((m : Msg) → In m hs → In m N) → Client_step k b now.0 hs own a (cl.client_step s now input) N
 
--- hard stays hard over every run
+-- A life is lost only where its lease is over: what holds of every such life holds of each that the outputs say to be lost.
+abbrev pub Lost_leases_are_over : Type 1
+Lost_leases_are_over =
+    (P : ServerId → Life → Type 0) (now : Stamp) (s : ClientState) (input : ClientInput) → Heard_of input →
+    ((x : Association) → Has x s.associations → (ss : ClientSession) → x.session ≡ Some ss → ss.lease.date.0 + s.config.lease ≤ now.0 → P x.server x.life) → Losses P (cl.client_step s now input).out
+
+-- an entry that is hard stays hard, over every run
 abbrev pub Hard_stays_hard : Type 0
 Hard_stays_hard = (es : List Event) (t : Traced) → Throughout HardStaysHard [] (steps es t)
