@@ -1,5 +1,5 @@
 -- A step of a client in the world: moves of its association with each server, and nothing for other clients.
-use Rattle.std.proofs.Common.{◌≡◌, ◌≢◌, ℕ, ◌≤◌, Bool, true, false, List, [], ◌∷◌, ◌++◌, ◌==◌, Option, Some, None, Ok, refl, sym, ap, ◌∙◌, subst, if◌then◌else◌, append_assoc}
+use Rattle.std.proofs.Common.{◌≡◌, Bool, true, false, List, [], ◌∷◌, ◌++◌, ◌==◌, Option, Some, None, refl, sym, ap, ◌∙◌, subst, if◌then◌else◌, append_assoc}
 use Rattle.st_base.specs.declared.ids.ClientId.{ClientId}
 use Rattle.st_base.specs.declared.ids.ServerId.{ServerId}
 use Rattle.st_base.specs.declared.ids.Stamp.{Stamp}
@@ -19,18 +19,14 @@ use Rattle.st_rules.specs.World as world
 use Rattle.st_rules.specs.World.{World, ClientSite, site_of, numbered, with_numbered, clock_of, all_servers}
 use Rattle.st_rules.specs.Events as ev
 use Rattle.st_rules.specs.Events.{Scene}
-use Rattle.st_assoc.specs.Assoc.{Config, Msg}
-use Rattle.st_views.specs.Halves.{client_of}
-use Rattle.st_assoc.specs.Assoc.{Moves}
-use Rattle.st_laws_client.specs.Shown.{Beside, Said, Kept}
-use Rattle.st_laws_client.specs.Law.{Place, Life_ends, Client_result, Client_step, Comes}
-use Rattle.st_laws_client.specs.World.{sent, lost_life, lost_lives, stepped, site_left, World_left, Own_associations_move, Other_associations_stay}
+use Rattle.st_laws_client.specs.Shown.{Said}
+use Rattle.st_laws_client.specs.Law.{Client_result, Client_step, Comes}
+use Rattle.st_laws_client.specs.World.{lost_life, lost_lives, stepped, site_left, World_left, Own_associations_move, Other_associations_stay}
 use Rattle.st_laws_client.proofs.Steps.{step_moves}
 use Rattle.st_laws_client.proofs.World.{told_all}
 use Rattle.st_lemmas.proofs.Numbers.{numbered_other}
 use Rattle.st_messages.specs.declared.output.Note.{Note}
 use Rattle.st_messages.specs.declared.output.Note.TheVariants as notes
-use Rattle.st_rules.specs.declared.world.LeaseLife.{LeaseLife}
 use Rattle.st_laws_client.proofs.Steps.{nothing_more}
 
 -- what flush steps leave

@@ -25,7 +25,7 @@ use Rattle.st_assoc.specs.Assoc as net
 use Rattle.st_views.specs.Messages.{Fine, shown, Shows}
 use Rattle.st_assoc.specs.Assoc.{Moves, Stays, Goes_on}
 use Rattle.st_laws_client.specs.Shown.{Beside, Said, Kept, Ready, Losses, Leaves, Frame, Result, Goes}
-use Rattle.st_laws_client.specs.Law.{Heard_of, Life_ends, Apart, Place, Client_result, Client_step, Comes, Steps_are_moves, Lost_leases_are_over}
+use Rattle.st_laws_client.specs.Law.{Heard_of, Life_ends, Apart, Place, Client_result, Client_step, Comes, Steps_are_moves, Is_over, Lost_leases_are_over}
 use Rattle.st_views.proofs.Moves.{lives_up, moves_on, shows_more}
 use Rattle.st_laws_client.proofs.Goes.{losses_both, said_both, goes_same, goes_then, if_goes}
 use Rattle.st_laws_client.proofs.Effects.{hear_goes}
@@ -282,4 +282,6 @@ any_server =
     record { clock = 0; drift = 0; up = false; epoch = 0; grace = false; gstart = 0; gbase = 0; glife = 0; session = 0; live = false; row = λ i. no_row; timed = false; start = 0; base = 0; top = 0 }
 
 pub lost_law : Lost_leases_are_over
-lost_law P now s input f h = step_losses any_config (record { s = any_server; ended = λ l. 0 }) now [] (record { 0 = 0 }) P s input f h
+lost_law now s input f =
+    step_losses any_config (record { s = any_server; ended = λ l. 0 }) now [] (record { 0 = 0 }) (Is_over now s) s input f
+    (λ x h ss e o. record { association = x; session = ss; listed = h; there = refl; alive = refl; held = e; over = o })

@@ -67,11 +67,19 @@ Steps_are_moves =
     (k : Config) (b : Beside) (now : Stamp) (hs : List Msg) (own : ServerId) (s : ClientState) (input : ClientInput) (a : Association) (N : List Msg) → s.config.lease ≡ k.lease → Place own s.associations a → 1 ≤ a.life.0 → Kept a.life.0 a.store a.session N →
     Comes own s.id.0 input hs → ((m : Msg) → In m hs → In m N) → Client_step k b now.0 hs own a (cl.client_step s now input) N
 
--- A life is lost only where its lease is over: what holds of every such life holds of each that the outputs say to be lost.
-abbrev pub Lost_leases_are_over : Type 1
-Lost_leases_are_over =
-    (P : ServerId → Life → Type 0) (now : Stamp) (s : ClientState) (input : ClientInput) → Heard_of input →
-    ((x : Association) → Has x s.associations → (ss : ClientSession) → x.session ≡ Some ss → ss.lease.date.0 + s.config.lease ≤ now.0 → P x.server x.life) → Losses P (cl.client_step s now input).out
+-- The client has an association with this server, in this life, whose lease is over.
+pub record Is_over (now : Stamp) (s : ClientState) (v : ServerId) (life : Life) : Type 0 where
+  pub association : Association
+  pub session : ClientSession
+  pub listed : Has association s.associations
+  pub there : association.server ≡ v
+  pub alive : association.life ≡ life
+  pub held : association.session ≡ Some session
+  pub over : session.lease.date.0 + s.config.lease ≤ now.0
+
+-- A step loses only lives whose leases are over.
+abbrev pub Lost_leases_are_over : Type 0
+Lost_leases_are_over = (now : Stamp) (s : ClientState) (input : ClientInput) → Heard_of input → Losses (Is_over now s) (cl.client_step s now input).out
 
 -- an entry that is hard stays hard, over every run
 abbrev pub Hard_stays_hard : Type 0
