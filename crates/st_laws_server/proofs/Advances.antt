@@ -30,7 +30,7 @@ use Rattle.st_laws_server.specs.Pair.{client_view, client_at_site, client_in, pa
 use Rattle.st_laws_server.proofs.Clocks.{Rated, accepted, clock_after}
 use Rattle.st_laws_server.proofs.Delivery.{sound_of}
 use Rattle.st_laws_server.proofs.Epochs as epochs
-use Rattle.st_laws_server.proofs.Runs.{pairs, Stands}
+use Rattle.st_laws_server.specs.Stands.{pairs, Stands, After_advance}
 
 -- a clock after an advance, by its place from 1
 clock_on : (steps : List ℕ) (clocks : List Stamp) (p : ℕ) → 1 ≤ p → p ≤ length clocks → length steps ≡ length clocks →
@@ -143,7 +143,7 @@ module _ (k : Config) (s : ℕ) (ended : ℕ → ℕ → ℕ) (w : World) (node 
     square = record { tall = b.timed.tall; wide = b.timed.wide }
 
     limit : (c : ℕ) → (G c).drift ≤ k.den * k.grain
-    limit c = (invariant k (pairs k s ended w node G) b.ok b.stands.reached c).timing_.limit
+    limit c = (invariant k (pairs s ended w node G) b.ok b.stands.reached c).timing_.limit
 
     -- what the accepted advance says of the server and a client
     rated : (c : ℕ) (site : ClientSite) → site_of w (client c) ≡ Some site → Rated w steps (length w.clocks) (pred (length w.clients + s)) (pred c)
@@ -195,11 +195,11 @@ module _ (k : Config) (s : ℕ) (ended : ℕ → ℕ → ℕ) (w : World) (node 
     up = let e = server_later in omega arith
 
     -- then grace may end, for all at once
-    grace_as_before : grace.is_on node.state.grace Now ≡ grace.is_on node.state.grace Later → Reached k (pairs k s ended V node later_ghost)
+    grace_as_before : grace.is_on node.state.grace Now ≡ grace.is_on node.state.grace Later → Reached k (pairs s ended V node later_ghost)
     unfolding mid
     grace_as_before e = subst (Reached k) (λ j. record { at = λ c. record { c = client_in V c s (ended c); s = record (half_of (client c) Later node.running node.state (later_ghost c)) { grace = e j }; net = (G c).net } }) moved
 
-    grace_ends : node.running ≡ true → grace.is_on node.state.grace Now ≡ true → grace.is_on node.state.grace Later ≡ false → Reached k (pairs k s ended V node later_ghost)
+    grace_ends : node.running ≡ true → grace.is_on node.state.grace Now ≡ true → grace.is_on node.state.grace Later ≡ false → Reached k (pairs s ended V node later_ghost)
     unfolding mid
     grace_ends runs f g =
         Then moved
@@ -220,10 +220,10 @@ module _ (k : Config) (s : ℕ) (ended : ℕ → ℕ → ℕ) (w : World) (node 
     never_on c true e st t = cc
     never_on c false e st t = epochs.stopped_off k.wait node.state (G c) t st
 
-    reached : Reached k (pairs k s ended V node later_ghost)
+    reached : Reached k (pairs s ended V node later_ghost)
     reached = by (grace.is_on node.state.grace Now) (grace.is_on node.state.grace Later) node.running refl refl refl
       where
-        by : (a c r : Bool) → grace.is_on node.state.grace Now ≡ a → grace.is_on node.state.grace Later ≡ c → node.running ≡ r → Reached k (pairs k s ended V node later_ghost)
+        by : (a c r : Bool) → grace.is_on node.state.grace Now ≡ a → grace.is_on node.state.grace Later ≡ c → node.running ≡ r → Reached k (pairs s ended V node later_ghost)
         by true true r f g h = grace_as_before (f ∙ sym g)
         by false false r f g h = grace_as_before (f ∙ sym g)
         by false true r f g h = let z = epochs.later_off Now Later node.state.grace up f in cc
@@ -261,17 +261,11 @@ module _ (k : Config) (s : ℕ) (ended : ℕ → ℕ → ℕ) (w : World) (node 
     }
 
 -- an advance that the world takes
-pub record Advanced (k : Config) (s : ℕ) (ended : ℕ → ℕ → ℕ) (v : World) (node : ServerNode) (G : ℕ → Ghost) : Type 0 where
-  pub ghosts : ℕ → Ghost
-  pub stands : Stands k s ended v node ghosts
-  pub timed : Timed k s v ghosts
-  pub nets : (c : ℕ) → (ghosts c).net ≡ (G c).net
-
 pub advances_stand : (k : Config) (s : ℕ) (ended : ℕ → ℕ → ℕ) (w : World) (node : ServerNode) (G : ℕ → Ghost) (steps : List ℕ) (sc : Scene) → Config_ok k → 1 ≤ s → length steps ≡ length w.clocks → world_step w (events.Advance steps) ≡ Ok sc →
-    Timed k s w G → Stands k s ended w node G → Advanced k s ended sc.world node G
+    Timed k s w G → Stands k s ended w node G → After_advance k s ended sc.world node G
 advances_stand k s ended w node G steps sc ok pos full e timed st =
     let h = step_happens w (events.Advance steps) sc e in
     let new = log_ended_all w.commands (lives_reached (counted w) steps) w.log in
     let b : Before k s ended w node G steps new = record { ok = ok; pos = pos; full = full; accepted = advance_ok w steps h.0; timed = timed; stands = st } in
-    subst (λ v. Advanced k s ended v node G) (sym (ap (λ (sc : Scene). sc.world) h.1 ∙ advance_is w steps))
+    subst (λ v. After_advance k s ended v node G) (sym (ap (λ (sc : Scene). sc.world) h.1 ∙ advance_is w steps))
     (record { ghosts = later_ghost k s ended w node G steps new; stands = later_stands k s ended w node G steps new b; timed = later_timed k s ended w node G steps new b; nets = λ c. refl })

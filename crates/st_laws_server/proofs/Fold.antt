@@ -18,8 +18,7 @@ use Rattle.st_laws_server.specs.View.{Stopped, Stands_at}
 use Rattle.st_laws_server.specs.Pair.{client_in, pair}
 use Rattle.st_laws_server.proofs.Delivery.{taken, sound_of}
 use Rattle.st_laws_server.proofs.Epochs as epochs
-use Rattle.st_laws_server.proofs.Compat.{Compat}
-use Rattle.st_laws_server.proofs.Runs.{Stands}
+use Rattle.st_laws_server.specs.Stands.{Compat, Stands}
 
 -- no rows fit
 no_rows_fit : (n : ServerState) → Compat (crash n).locks
