@@ -23,4 +23,6 @@ pub mod Events
 pub mod Run
 pub mod History
 pub mod Report
+pub mod Lines
+pub mod Dating
 pub mod Safety
