@@ -303,13 +303,13 @@ USES = [
     ("st_base.specs.Page.{filled}", "filled "),
     ("st_base.specs.declared.mode.Mode.TheVariants as modes", "modes."),
     ("st_base.specs.declared.names.NameAsk.TheVariants as names", "names."),
-    ("st_codec.specs.declared.answer.AppAnswer.TheVariants as answers", "answers."),
-    ("st_codec.specs.declared.ask.Ask.TheVariants as asks", "asks."),
-    ("st_codec.specs.declared.message.Body.TheVariants as bodies", "bodies."),
-    ("st_codec.specs.declared.message.NameOp.TheVariants as ops", "ops."),
-    ("st_codec.specs.declared.message.NameReply.TheVariants as replies", "replies."),
-    ("st_codec.specs.declared.message.Why.TheVariants as why", "why."),
-    ("st_codec.specs.declared.output.Note.TheVariants as notes", "notes."),
+    ("st_messages.specs.declared.answer.AppAnswer.TheVariants as answers", "answers."),
+    ("st_messages.specs.declared.ask.Ask.TheVariants as asks", "asks."),
+    ("st_messages.specs.declared.message.Body.TheVariants as bodies", "bodies."),
+    ("st_messages.specs.declared.message.NameOp.TheVariants as ops", "ops."),
+    ("st_messages.specs.declared.message.NameReply.TheVariants as replies", "replies."),
+    ("st_messages.specs.declared.message.Why.TheVariants as why", "why."),
+    ("st_messages.specs.declared.output.Note.TheVariants as notes", "notes."),
     ("st_rules.specs.FlatLog.{overlay}", "overlay "),
 ]
 WORDS = {
@@ -336,7 +336,7 @@ def write_file(name, rows):
         if there:
             head += f"ghost use Rattle.{path}.{{{', '.join(there)}}};\n"
     target = pathlib.Path("crates/st_rows/src") / f"{name}.rt"
-    target.write_text(head + body)
+    target.write_text("// Written by tools/client_rows.py.\n" + head + body)
 
 
 def main():

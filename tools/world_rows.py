@@ -338,13 +338,13 @@ USES = [
     ("st_base.specs.Page.{filled}", "filled "),
     ("st_base.specs.declared.mode.Mode.TheVariants as modes", "modes."),
     ("st_base.specs.declared.names.NameAsk.TheVariants as names", "names."),
-    ("st_codec.specs.declared.answer.AppAnswer.TheVariants as answers", "answers."),
-    ("st_codec.specs.declared.ask.Ask.TheVariants as asks", "asks."),
-    ("st_codec.specs.declared.event.Event.TheVariants as events", "events."),
-    ("st_codec.specs.declared.message.Body.TheVariants as bodies", "bodies."),
-    ("st_codec.specs.declared.message.NameOp.TheVariants as ops", "ops."),
-    ("st_codec.specs.declared.message.NameReply.TheVariants as replies", "replies."),
-    ("st_codec.specs.declared.message.Why.TheVariants as why", "why."),
+    ("st_messages.specs.declared.answer.AppAnswer.TheVariants as answers", "answers."),
+    ("st_messages.specs.declared.ask.Ask.TheVariants as asks", "asks."),
+    ("st_messages.specs.declared.event.Event.TheVariants as events", "events."),
+    ("st_messages.specs.declared.message.Body.TheVariants as bodies", "bodies."),
+    ("st_messages.specs.declared.message.NameOp.TheVariants as ops", "ops."),
+    ("st_messages.specs.declared.message.NameReply.TheVariants as replies", "replies."),
+    ("st_messages.specs.declared.message.Why.TheVariants as why", "why."),
     ("st_rules.specs.FlatLog.{overlay}", "overlay "),
     ("st_rules.specs.Run.{run}", "run "),
     ("st_rules.specs.Safety.{IsSafeRun}", "IsSafeRun "),
@@ -361,8 +361,8 @@ WORDS = {
 }
 
 
-def write_file(name, body):
-    """Writes functions behind the names that they use."""
+def write_file(name, body, tool="world_rows.py"):
+    """Writes functions after the names that they use, in a file that says which tool wrote it."""
     code = re.sub(r"///.*|pub fn \w+", "", body)
 
     def used(word):
@@ -378,13 +378,13 @@ def write_file(name, body):
         there = [w for w in words if used(w)]
         if there:
             head += f"ghost use Rattle.{path}.{{{', '.join(there)}}};\n"
-    (ROWS_CRATE / "src" / f"{name}.rt").write_text(head + body)
+    (ROWS_CRATE / "src" / f"{name}.rt").write_text(f"// Written by tools/{tool}.\n" + head + body)
 
 
 def write_answer(name, text):
     folder = ROWS_CRATE / "proofs" / "world_safety" / name
     folder.mkdir(parents=True, exist_ok=True)
-    (folder / "Answers.antt").write_text(text)
+    (folder / "Answers.antt").write_text("-- Written by tools/world_rows.py.\n" + text)
 
 
 if __name__ == "__main__":

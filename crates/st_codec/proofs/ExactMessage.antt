@@ -5,19 +5,20 @@ use Rattle.std.proofs.lemmas.Bool.{and_parts, and_from, or_cases, eqb-true, ne_e
 use Rattle.std.proofs.lemmas.List.{append-nil, nil_from_length}
 use Rattle.st_codec.specs.declared.fault.Fault.{Fault}
 use Rattle.st_codec.specs.declared.fault.Fault.TheVariants as faults
-use Rattle.st_codec.specs.declared.kind.Kind.{Kind}
-use Rattle.st_codec.specs.declared.kind.Kind.TheVariants as kinds
-use Rattle.st_codec.specs.declared.kind.Need.{Need}
-use Rattle.st_codec.specs.declared.kind.Need.TheVariants.{Zero, Positive, Any}
-use Rattle.st_codec.specs.declared.kind.Party.{Party}
-use Rattle.st_codec.specs.declared.kind.Party.TheVariants.{Client, Server, Node, Surroundings}
-use Rattle.st_codec.specs.declared.message.Message.{Message}
+use Rattle.st_messages.specs.declared.kind.Kind.{Kind}
+use Rattle.st_messages.specs.declared.kind.Kind.TheVariants as kinds
+use Rattle.st_messages.specs.declared.kind.Need.{Need}
+use Rattle.st_messages.specs.declared.kind.Need.TheVariants.{Zero, Positive, Any}
+use Rattle.st_messages.specs.declared.kind.Party.{Party}
+use Rattle.st_messages.specs.declared.kind.Party.TheVariants.{Client, Server, Node, Surroundings}
+use Rattle.st_messages.specs.declared.message.Message.{Message}
 use Rattle.st_codec.specs.declared.refusal.CodecRefusal.TheVariants as refusals
-use Rattle.st_codec.specs.Fits.{is_word16, is_header, is_body, fits}
+use Rattle.st_messages.specs.Fits.{is_word16, is_header, is_body, fits}
 use Rattle.st_codec.specs.Grammar.{Spells}
-use Rattle.st_codec.specs.Kinds.{between, is_word64, includes, allows, version_of, number_of, all_kinds, is_kind, kind_of, sender, receiver, life_of, epoch_of, request_of, stamp_of}
+use Rattle.st_messages.specs.Kinds.{between, is_word64, includes, allows, kind_of_body, sender, receiver, life_of, epoch_of, request_of, stamp_of}
+use Rattle.st_codec.specs.KindBytes.{version_of, number_of, all_kinds, is_kind, kind_of}
 use Rattle.st_codec.specs.Reading.{◌>>=◌, seq, found, byte_at, word16_at, word64_at, version_at, kind_at, party_at, needed_at, nodes_at, ages_at, marks_at, header_at, body_at, message_at, told, decoded}
-use Rattle.st_codec.specs.Spelling.{word16, word64, nodes, ages, marks, header, kind, body, kind_of_body, spelling}
+use Rattle.st_codec.specs.Spelling.{word16, word64, nodes, ages, marks, header, kind, body, spelling}
 use Rattle.st_codec.proofs.Exact.{IsBytes, Takes-then, Exact, Sound, bind_ok, guard_ok, ok_is, failed, pair_exact, triple_exact, checked_exact, renamed, byte_exact}
 use Rattle.st_codec.proofs.ExactFields.{word16_exact, word64_exact, at_most}
 use Rattle.st_codec.proofs.ExactBody.{cells, found_ok, body_sound, body_again}

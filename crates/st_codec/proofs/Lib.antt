@@ -6,7 +6,6 @@ pub mod ExactMessage
 pub mod ExactNames
 pub mod Framed
 pub mod Loop
-pub mod Ranges
 pub mod Rows
 pub mod Sized
 pub mod Streams

@@ -13,23 +13,24 @@ use Rattle.st_base.specs.declared.names.NameAsk.TheVariants as name_asks
 use Rattle.st_base.specs.declared.names.NameRow.{NameRow}
 use Rattle.st_base.specs.declared.rows.ExtentRow.{ExtentRow}
 use Rattle.st_base.specs.declared.rows.LostRow.{LostRow}
-use Rattle.st_codec.specs.declared.answer.AppAnswer.{AppAnswer}
-use Rattle.st_codec.specs.declared.answer.AppAnswer.TheVariants as answers
-use Rattle.st_codec.specs.declared.ask.Ask.{Ask}
-use Rattle.st_codec.specs.declared.ask.Ask.TheVariants as asks
-use Rattle.st_codec.specs.declared.message.Body.{Body}
-use Rattle.st_codec.specs.declared.message.Body.TheVariants as bodies
-use Rattle.st_codec.specs.declared.message.DiskResult.{DiskResult}
-use Rattle.st_codec.specs.declared.message.DiskResult.TheVariants as results
-use Rattle.st_codec.specs.declared.kind.Kind.{Kind}
-use Rattle.st_codec.specs.declared.message.Header.{Header}
-use Rattle.st_codec.specs.declared.message.Message.{Message}
-use Rattle.st_codec.specs.declared.message.NameOp.{NameOp}
-use Rattle.st_codec.specs.declared.message.NameOp.TheVariants as ops
-use Rattle.st_codec.specs.declared.message.NameReply.{NameReply}
-use Rattle.st_codec.specs.declared.message.NameReply.TheVariants as replies
-use Rattle.st_codec.specs.Sizes.{name_size, name_rows_size, op_size, name_ask_size, reply_size, ask_size, answer_size, command_size, result_size, body_size, size_of}
-use Rattle.st_codec.specs.Spelling.{word16, word32, word64, name, file, block, tag, lock_row, extent_row, lost_row, name_row, rows, name_op, name_ask, name_reply, ask, answer, command, disk_result, body, kind_of_body, kind, nodes, ages, marks, header, spelling}
+use Rattle.st_messages.specs.declared.answer.AppAnswer.{AppAnswer}
+use Rattle.st_messages.specs.declared.answer.AppAnswer.TheVariants as answers
+use Rattle.st_messages.specs.declared.ask.Ask.{Ask}
+use Rattle.st_messages.specs.declared.ask.Ask.TheVariants as asks
+use Rattle.st_messages.specs.declared.message.Body.{Body}
+use Rattle.st_messages.specs.declared.message.Body.TheVariants as bodies
+use Rattle.st_messages.specs.declared.message.DiskResult.{DiskResult}
+use Rattle.st_messages.specs.declared.message.DiskResult.TheVariants as results
+use Rattle.st_messages.specs.declared.kind.Kind.{Kind}
+use Rattle.st_messages.specs.declared.message.Header.{Header}
+use Rattle.st_messages.specs.declared.message.Message.{Message}
+use Rattle.st_messages.specs.declared.message.NameOp.{NameOp}
+use Rattle.st_messages.specs.declared.message.NameOp.TheVariants as ops
+use Rattle.st_messages.specs.declared.message.NameReply.{NameReply}
+use Rattle.st_messages.specs.declared.message.NameReply.TheVariants as replies
+use Rattle.st_messages.specs.Sizes.{name_size, name_rows_size, op_size, name_ask_size, reply_size, ask_size, answer_size, command_size, result_size, body_size, size_of}
+use Rattle.st_codec.specs.Spelling.{word16, word32, word64, name, file, block, tag, lock_row, extent_row, lost_row, name_row, rows, name_op, name_ask, name_reply, ask, answer, command, disk_result, body, kind, nodes, ages, marks, header, spelling}
+use Rattle.st_messages.specs.Kinds.{kind_of_body}
 
 -- rows of one length
 rows_length : {R : Type 0} (row : R → List ℕ) (k : ℕ) → ((r : R) → length (row r) ≡ k) → (rs : List R) → length (flat_map row rs) ≡ k * length rs

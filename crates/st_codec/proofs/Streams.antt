@@ -8,7 +8,7 @@ use Rattle.std.proofs.lemmas.List.{take_at, drop_at, take-append-drop, length-ap
 use Rattle.std.proofs.lemmas.List.Concat.{flat_map-cons}
 use Rattle.st_codec.specs.declared.frames.Front.{Front}
 use Rattle.st_codec.specs.declared.frames.Front.TheVariants.{Partial, TooLong, Whole}
-use Rattle.st_codec.specs.declared.message.Message.{Message}
+use Rattle.st_messages.specs.declared.message.Message.{Message}
 use Rattle.st_codec.specs.declared.refusal.CodecRefusal.{CodecRefusal}
 use Rattle.st_codec.specs.declared.refusal.CodecRefusal.TheVariants as refusals
 use Rattle.st_codec.specs.declared.fault.Fault.{Fault}

@@ -1,7 +1,5 @@
-pub mod Kinds
+pub mod KindBytes
 pub mod Spelling
-pub mod Fits
-pub mod Sizes
 pub mod Grammar
 pub mod Reading
 pub mod Frames

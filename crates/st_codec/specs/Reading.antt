@@ -15,34 +15,35 @@ use Rattle.st_base.specs.declared.names.NameAsk.TheVariants as name_asks
 use Rattle.st_base.specs.declared.names.NameRow.{NameRow}
 use Rattle.st_base.specs.declared.rows.ExtentRow.{ExtentRow}
 use Rattle.st_base.specs.declared.rows.LostRow.{LostRow}
-use Rattle.st_codec.specs.declared.answer.AppAnswer.{AppAnswer}
-use Rattle.st_codec.specs.declared.answer.AppAnswer.TheVariants as answers
-use Rattle.st_codec.specs.declared.ask.Ask.{Ask}
-use Rattle.st_codec.specs.declared.ask.Ask.TheVariants as asks
+use Rattle.st_messages.specs.declared.answer.AppAnswer.{AppAnswer}
+use Rattle.st_messages.specs.declared.answer.AppAnswer.TheVariants as answers
+use Rattle.st_messages.specs.declared.ask.Ask.{Ask}
+use Rattle.st_messages.specs.declared.ask.Ask.TheVariants as asks
 use Rattle.st_codec.specs.declared.fault.Fault.{Fault}
 use Rattle.st_codec.specs.declared.fault.Fault.TheVariants as faults
 use Rattle.st_codec.specs.declared.fault.ReadError.{ReadError}
 use Rattle.st_codec.specs.declared.fault.ReadError.TheVariants as errors
-use Rattle.st_codec.specs.declared.kind.Kind.{Kind}
-use Rattle.st_codec.specs.declared.kind.Kind.TheVariants as kinds
-use Rattle.st_codec.specs.declared.kind.Need.{Need}
-use Rattle.st_codec.specs.declared.kind.Party.{Party}
-use Rattle.st_codec.specs.declared.message.Body.{Body}
-use Rattle.st_codec.specs.declared.message.Body.TheVariants as bodies
-use Rattle.st_codec.specs.declared.message.DiskResult.{DiskResult}
-use Rattle.st_codec.specs.declared.message.DiskResult.TheVariants as results
-use Rattle.st_codec.specs.declared.message.Header.{Header}
-use Rattle.st_codec.specs.declared.message.Message.{Message}
-use Rattle.st_codec.specs.declared.message.NameOp.{NameOp}
-use Rattle.st_codec.specs.declared.message.NameOp.TheVariants as ops
-use Rattle.st_codec.specs.declared.message.NameReply.{NameReply}
-use Rattle.st_codec.specs.declared.message.NameReply.TheVariants as replies
-use Rattle.st_codec.specs.declared.message.Why.{Why}
-use Rattle.st_codec.specs.declared.message.Why.TheVariants as whys
+use Rattle.st_messages.specs.declared.kind.Kind.{Kind}
+use Rattle.st_messages.specs.declared.kind.Kind.TheVariants as kinds
+use Rattle.st_messages.specs.declared.kind.Need.{Need}
+use Rattle.st_messages.specs.declared.kind.Party.{Party}
+use Rattle.st_messages.specs.declared.message.Body.{Body}
+use Rattle.st_messages.specs.declared.message.Body.TheVariants as bodies
+use Rattle.st_messages.specs.declared.message.DiskResult.{DiskResult}
+use Rattle.st_messages.specs.declared.message.DiskResult.TheVariants as results
+use Rattle.st_messages.specs.declared.message.Header.{Header}
+use Rattle.st_messages.specs.declared.message.Message.{Message}
+use Rattle.st_messages.specs.declared.message.NameOp.{NameOp}
+use Rattle.st_messages.specs.declared.message.NameOp.TheVariants as ops
+use Rattle.st_messages.specs.declared.message.NameReply.{NameReply}
+use Rattle.st_messages.specs.declared.message.NameReply.TheVariants as replies
+use Rattle.st_messages.specs.declared.message.Why.{Why}
+use Rattle.st_messages.specs.declared.message.Why.TheVariants as whys
 use Rattle.st_codec.specs.declared.refusal.CodecRefusal.{CodecRefusal}
 use Rattle.st_codec.specs.declared.refusal.CodecRefusal.TheVariants as refusals
-use Rattle.st_codec.specs.Kinds.{between, includes, allows, kind_of, sender, receiver, life_of, epoch_of, request_of, stamp_of}
-use Rattle.st_codec.specs.Fits.{is_count, after_lock, after_extent, after_lost, after_name}
+use Rattle.st_messages.specs.Kinds.{between, includes, allows, sender, receiver, life_of, epoch_of, request_of, stamp_of}
+use Rattle.st_codec.specs.KindBytes.{kind_of}
+use Rattle.st_messages.specs.Fits.{is_count, after_lock, after_extent, after_lost, after_name}
 
 -- a value and the bytes after it, or the first fault
 abbrev pub Read : Type 0 → Type 0
@@ -95,7 +96,7 @@ abbrev pub byte_at : Reader ℕ
 byte_at [] = Err faults.Short
 byte_at (b ∷ rest) = Ok (b, rest)
 
--- so many bytes
+-- this number of bytes
 abbrev pub text_at : ℕ → Reader (List ℕ)
 text_at n bytes = if nat_lt (length bytes) n then Err faults.Short else Ok (take n bytes, drop n bytes)
 
@@ -178,7 +179,7 @@ entry_at bytes = made is_directory (byte_in 1 2) bytes
 unfoldable pub name_row_at : ℕ → Reader NameRow
 name_row_at least bytes = made (λ t. record { ino = t.0; directory = t.1.0; name = t.1.1 }) (seq (word32_in least 4294967295) (λ i. seq entry_at (λ k. name_at 1 64))) bytes
 
--- so many rows
+-- this number of rows
 unfoldable pub rows_at : {R : Type 0} → (ℕ → Reader R) → (R → ℕ) → ℕ → ℕ → Reader (List R)
 rows_at row after zero least bytes = Ok ([], bytes)
 rows_at row after (suc n) least bytes = do

@@ -15,25 +15,25 @@ use Rattle.st_base.specs.declared.names.NameRow.{NameRow}
 use Rattle.st_base.specs.declared.rows.ExtentRow.{ExtentRow}
 use Rattle.st_base.specs.declared.rows.LostRow.{LostRow}
 use Rattle.st_base.specs.Mode as modes
-use Rattle.st_codec.specs.declared.answer.AppAnswer.{AppAnswer}
-use Rattle.st_codec.specs.declared.answer.AppAnswer.TheVariants as answers
-use Rattle.st_codec.specs.declared.ask.Ask.{Ask}
-use Rattle.st_codec.specs.declared.ask.Ask.TheVariants as asks
-use Rattle.st_codec.specs.declared.kind.Kind.{Kind}
-use Rattle.st_codec.specs.declared.kind.Kind.TheVariants as kinds
-use Rattle.st_codec.specs.declared.message.Body.{Body}
-use Rattle.st_codec.specs.declared.message.Body.TheVariants as bodies
-use Rattle.st_codec.specs.declared.message.DiskResult.{DiskResult}
-use Rattle.st_codec.specs.declared.message.DiskResult.TheVariants as results
-use Rattle.st_codec.specs.declared.message.Header.{Header}
-use Rattle.st_codec.specs.declared.message.Message.{Message}
-use Rattle.st_codec.specs.declared.message.NameOp.{NameOp}
-use Rattle.st_codec.specs.declared.message.NameOp.TheVariants as ops
-use Rattle.st_codec.specs.declared.message.NameReply.{NameReply}
-use Rattle.st_codec.specs.declared.message.NameReply.TheVariants as replies
-use Rattle.st_codec.specs.declared.message.Why.{Why}
-use Rattle.st_codec.specs.declared.message.Why.TheVariants as whys
-use Rattle.st_codec.specs.Kinds.{version_of, number_of}
+use Rattle.st_messages.specs.declared.answer.AppAnswer.{AppAnswer}
+use Rattle.st_messages.specs.declared.answer.AppAnswer.TheVariants as answers
+use Rattle.st_messages.specs.declared.ask.Ask.{Ask}
+use Rattle.st_messages.specs.declared.ask.Ask.TheVariants as asks
+use Rattle.st_messages.specs.declared.kind.Kind.{Kind}
+use Rattle.st_messages.specs.declared.message.Body.{Body}
+use Rattle.st_messages.specs.declared.message.Body.TheVariants as bodies
+use Rattle.st_messages.specs.declared.message.DiskResult.{DiskResult}
+use Rattle.st_messages.specs.declared.message.DiskResult.TheVariants as results
+use Rattle.st_messages.specs.declared.message.Header.{Header}
+use Rattle.st_messages.specs.declared.message.Message.{Message}
+use Rattle.st_messages.specs.declared.message.NameOp.{NameOp}
+use Rattle.st_messages.specs.declared.message.NameOp.TheVariants as ops
+use Rattle.st_messages.specs.declared.message.NameReply.{NameReply}
+use Rattle.st_messages.specs.declared.message.NameReply.TheVariants as replies
+use Rattle.st_messages.specs.declared.message.Why.{Why}
+use Rattle.st_messages.specs.declared.message.Why.TheVariants as whys
+use Rattle.st_codec.specs.KindBytes.{version_of, number_of}
+use Rattle.st_messages.specs.Kinds.{kind_of_body}
 
 abbrev pub byte : ℕ → List ℕ
 byte n = n ∷ []
@@ -190,37 +190,6 @@ body (bodies.App op a) = word32 op ++ ask a
 body (bodies.AppDone op a) = word32 op ++ answer a
 body (bodies.Submit number at what) = word64 number ++ block at ++ command what
 body (bodies.Done number result) = word64 number ++ disk_result result
-
--- the kind of a body: an ask of version 2 is a kind of its own
-abbrev pub kind_of_ask : Ask → Kind
-kind_of_ask (asks.Patch f page at bytes) = kinds.Patch
-kind_of_ask a = kinds.App
-
-abbrev pub kind_of_body : Body → Kind
-kind_of_body bodies.Hello = kinds.Hello
-kind_of_body bodies.KeepAlive = kinds.KeepAlive
-kind_of_body (bodies.Acquire ino m) = kinds.Acquire
-kind_of_body (bodies.Released ino g to) = kinds.Released
-kind_of_body (bodies.Map ino g page) = kinds.Map
-kind_of_body (bodies.Allocate ino g page count) = kinds.Allocate
-kind_of_body (bodies.Cut ino g from) = kinds.Cut
-kind_of_body (bodies.Name op) = kinds.Name
-kind_of_body (bodies.Reassert rs) = kinds.Reassert
-kind_of_body (bodies.DemandSeen ino g) = kinds.DemandSeen
-kind_of_body bodies.Welcome = kinds.Welcome
-kind_of_body bodies.Ack = kinds.Ack
-kind_of_body (bodies.Nack why a b) = kinds.Nack
-kind_of_body (bodies.Granted ino g m) = kinds.Granted
-kind_of_body (bodies.Queued ino m) = kinds.Queued
-kind_of_body (bodies.Demand ino g to) = kinds.Demand
-kind_of_body (bodies.Extents ino rs) = kinds.Extents
-kind_of_body (bodies.Named reply) = kinds.Named
-kind_of_body bodies.Reasserted = kinds.Reasserted
-kind_of_body bodies.Tick = kinds.Tick
-kind_of_body (bodies.App op a) = kind_of_ask a
-kind_of_body (bodies.AppDone op a) = kinds.AppDone
-kind_of_body (bodies.Submit number at what) = kinds.Submit
-kind_of_body (bodies.Done number result) = kinds.Done
 
 unfoldable pub kind : Kind → List ℕ
 kind k = version_of k ∷ number_of k ∷ []

@@ -1,10 +1,10 @@
 -- What a whole stream of frames says, and that a reader that is fed it in pieces says the same.
 use Rattle.std.specs.Prelude.{◌≡◌, ℕ, true, List, [], ◌∷◌, ◌++◌, length, get_or, ◌-◌, ◌^◌, ◌<◌, ◌≤◌, min, Some, None, IfSome, Ok, Err}
 use Rattle.std.specs.List.{flat_map, AllByRecursion}
-use Rattle.st_codec.specs.declared.message.Message.{Message}
+use Rattle.st_messages.specs.declared.message.Message.{Message}
 use Rattle.st_codec.specs.declared.refusal.CodecRefusal.{CodecRefusal}
 use Rattle.st_codec.specs.declared.refusal.CodecRefusal.TheVariants as refusals
-use Rattle.st_codec.specs.Fits.{fits}
+use Rattle.st_messages.specs.Fits.{fits}
 use Rattle.st_codec.specs.Frames.{Frames, Answer, frame, fresh, fed, next}
 use Rattle.st_codec.specs.Reading.{decoded}
 use Rattle.st_codec.specs.Spelling.{word32, spelling}

@@ -9,12 +9,12 @@ use crate::field::{
     out_of_range, read_any_block, read_byte, read_grant, read_ino, read_mode, read_page,
     read_word16, read_word32, read_word64,
 };
-use crate::kind::{Kind, Need, Party};
-use crate::message::{Body, Header, Message, Why};
-use crate::range::is_count;
+use crate::kind_bytes::kind_of;
 use crate::refusal::CodecRefusal;
 use crate::row::{read_extents, read_locks};
 use st_base::PageNo;
+use st_messages::range::is_count;
+use st_messages::{Body, Header, Kind, Message, Need, Party, Why};
 use std::alloc::Global;
 
 fn why_numbered(number: u8) -> Option<Why>
@@ -290,7 +290,7 @@ fn read_kind(bytes: &[u8]) -> Result<(Kind, &[u8]), ReadError>
 {
     let (version, rest) = read_version(bytes)?;
     let (number, rest) = read_byte(rest)?;
-    match Kind::of(version, number) {
+    match kind_of(version, number) {
         Some(kind) => Ok((kind, rest)),
         None => Err(ReadError::Fault(Fault::Kind)),
     }
@@ -376,8 +376,8 @@ pub(crate) fn read_message(alloc: Global, bytes: &[u8]) -> Result<Message, ReadE
     Ok(Message { header, body })
 }
 
-/// The message that the bytes spell, as `docs/PROTOCOL.md`, "Wire", gives it table by table. Otherwise the first fault
-/// from the left. Memory is taken for the message's own lists alone.
+/// Returns the message that the bytes spell (`docs/PROTOCOL.md`, "Wire"), or the first fault from the left. It allocates
+/// only for the lists of the message.
 #[tactic(auto, unfolding(crate::specs::Reading::decoded))]
 pub fn decode(alloc: Global, bytes: &[u8]) -> Result<Message, CodecRefusal>
     // What is decoded is spelled so, each byte of it, and fits.

@@ -1,19 +1,17 @@
 ghost use Rattle.std.specs.Prelude.{◌≡◌};
 ghost use Rattle.st_codec.specs.Reading as reading;
-ghost use Rattle.st_codec.specs.declared.answer.AppAnswer.TheVariants as answers;
-ghost use Rattle.st_codec.specs.declared.ask.Ask.TheVariants as asks;
+ghost use Rattle.st_messages.specs.declared.answer.AppAnswer.TheVariants as answers;
+ghost use Rattle.st_messages.specs.declared.ask.Ask.TheVariants as asks;
 
-use crate::answer::AppAnswer;
-use crate::ask::Ask;
 use crate::decoding_names::read_name_ask;
 use crate::fault::{Fault, ReadError};
 use crate::field::{
     read_byte, read_file, read_ino, read_page, read_patch_bytes, read_tag, read_whole_page,
     read_word16_in, read_word64,
 };
-use crate::message::DiskResult;
 use crate::row::{read_lost, read_names};
 use st_base::{BlockAt, Command, FileId, PageBytes, PageNo, ServerId, Tag};
+use st_messages::{AppAnswer, Ask, DiskResult};
 use std::alloc::Global;
 
 #[tactic(auto, unfolding(crate::specs::Reading::file_page_at))]
@@ -84,7 +82,7 @@ fn read_ask_numbered(
     }
 }
 
-/// An ask of version 1.
+/// A request of version 1.
 #[tactic(auto, unfolding(crate::specs::Reading::ask_at))]
 pub(crate) fn read_ask(alloc: Global, bytes: &[u8]) -> Result<(Ask, &[u8]), ReadError>
     ensures { reading.Gives (λ x. (x.0, x.1.now)) result (reading.ask_at bytes.now) }
@@ -119,7 +117,7 @@ fn read_patch_numbered(
     }
 }
 
-/// The ask of version 2.
+/// The request of version 2.
 #[tactic(auto, unfolding(crate::specs::Reading::patch_at))]
 pub(crate) fn read_patch(alloc: Global, bytes: &[u8]) -> Result<(Ask, &[u8]), ReadError>
     ensures { reading.Gives (λ x. (x.0, x.1.now)) result (reading.patch_at bytes.now) }
@@ -274,7 +272,7 @@ fn read_command_numbered(
     }
 }
 
-/// A command on this block.
+/// Returns whether the command is on this block.
 #[tactic(auto, unfolding(crate::specs::Reading::command_at))]
 pub(crate) fn read_command(
     alloc: Global,

@@ -3,9 +3,9 @@ ghost use Rattle.st_codec.specs.Reading as reading;
 
 use crate::fault::{Fault, ReadError};
 use crate::field::{read_byte, read_byte_in, read_grant, read_ino, read_name, read_word32};
-use crate::message::{NameOp, NameReply};
 use crate::row::read_names;
 use st_base::{Name, NameAsk};
+use st_messages::{NameOp, NameReply};
 use std::alloc::Global;
 
 /// A directory and a name in it.

@@ -1,35 +1,31 @@
 ghost use Rattle.std.specs.Prelude.{◌≡◌, ◌++◌, true, IfOk, OnOk};
-ghost use Rattle.st_codec.specs.Fits as fits;
+ghost use Rattle.st_messages.specs.Fits as fits;
 ghost use Rattle.st_codec.specs.Spelling as spells;
 
-use crate::answer::AppAnswer;
-use crate::ask::Ask;
 use crate::encoding_local::{put_answer, put_ask, put_command, put_disk_result};
 use crate::encoding_names::{put_name_op, put_name_reply};
-use crate::kind::Kind;
-use crate::message::{Body, DiskResult, Header, Message, Why};
+use crate::kind_bytes::{number_of, version_of};
 use crate::row::{put_extents, put_locks};
 use crate::spell::{put_block, put_byte, put_grant, put_mode, put_word16, put_word32, put_word64};
 use st_base::{BlockAt, Command, ExtentRows, GrantNo, Mode, PageNo};
+use st_messages::{AppAnswer, Ask, Body, DiskResult, Header, Kind, Message, Why};
 use std::alloc::{AllocError, Global};
 
-impl Why {
-    /// The number of the cause on the wire.
-    pub(crate) fn number(self) -> u8
-        ensures { result ≡ spells.why_number self }
-    {
-        match self {
-            Why::Suspect => 1,
-            Why::NoSession => 2,
-            Why::OtherEpoch => 3,
-            Why::Grace => 4,
-            Why::GraceOver => 5,
-            Why::Conflict => 6,
-            Why::NotHolder => 7,
-            Why::NoFile => 8,
-            Why::NoSpace => 9,
-            Why::TooManyLocks => 10,
-        }
+/// Returns the number of the reason on the wire.
+fn why_number(why: Why) -> u8
+    ensures { result ≡ spells.why_number why }
+{
+    match why {
+        Why::Suspect => 1,
+        Why::NoSession => 2,
+        Why::OtherEpoch => 3,
+        Why::Grace => 4,
+        Why::GraceOver => 5,
+        Why::Conflict => 6,
+        Why::NotHolder => 7,
+        Why::NoFile => 8,
+        Why::NoSpace => 9,
+        Why::TooManyLocks => 10,
     }
 }
 
@@ -86,7 +82,7 @@ fn put_run(
 fn put_nack(out: &mut Vec<u8>, why: Why, a: u64, b: u64) -> Result<(), AllocError>
     ensures { OnOk result (out.new.items ≡ out.old.items ++ (spells.byte (spells.why_number why) ++ spells.word64 a ++ spells.word64 b)) }
 {
-    put_byte(out, why.number())?;
+    put_byte(out, why_number(why))?;
     put_word64(out, a)?;
     put_word64(out, b)?;
     Ok(())
@@ -136,7 +132,7 @@ fn put_done(out: &mut Vec<u8>, number: u64, ending: &DiskResult) -> Result<(), A
     Ok(())
 }
 
-#[tactic(auto, unfolding(crate::specs::Spelling::body, crate::specs::Fits::is_body))]
+#[tactic(auto, unfolding(crate::specs::Spelling::body, st_messages::specs::Fits::is_body))]
 fn put_body(out: &mut Vec<u8>, body: &Body) -> Result<(), AllocError>
     requires { fits.is_body body.now ≡ true }
     ensures { OnOk result (out.new.items ≡ out.old.items ++ spells.body body.now) }
@@ -215,13 +211,13 @@ fn put_header(out: &mut Vec<u8>, header: &Header) -> Result<(), AllocError>
 fn put_kind(out: &mut Vec<u8>, kind: Kind) -> Result<(), AllocError>
     ensures { OnOk result (out.new.items ≡ out.old.items ++ spells.kind kind) }
 {
-    put_byte(out, kind.version())?;
-    put_byte(out, kind.number())?;
+    put_byte(out, version_of(kind))?;
+    put_byte(out, number_of(kind))?;
     Ok(())
 }
 
-/// The one spelling of a message, as `docs/PROTOCOL.md`, "Wire", gives it table by table.
-#[tactic(auto, unfolding(crate::specs::Spelling::spelling, crate::specs::Fits::fits))]
+/// Returns the bytes of a message, as `docs/PROTOCOL.md`, "Wire", gives them table by table.
+#[tactic(auto, unfolding(crate::specs::Spelling::spelling, st_messages::specs::Fits::fits))]
 pub fn encode(alloc: Global, message: &Message) -> Result<Vec<u8>, AllocError>
     requires { fits.fits message.now ≡ true }
     ensures { IfOk result (λ bytes. bytes.items ≡ spells.spelling message.now) }

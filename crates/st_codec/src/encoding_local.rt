@@ -1,15 +1,12 @@
 ghost use Rattle.std.specs.Prelude.{◌≡◌, ◌++◌, ◌≤◌, true, length, OnOk};
-ghost use Rattle.st_codec.specs.Fits as fits;
+ghost use Rattle.st_messages.specs.Fits as fits;
 ghost use Rattle.st_codec.specs.Spelling as spells;
 
-use crate::answer::AppAnswer;
-use crate::ask::Ask;
 use crate::encoding_names::put_name_ask;
-use crate::message::DiskResult;
-use crate::patch::PatchBytes;
 use crate::row::{put_lost, put_names};
 use crate::spell::{put_byte, put_file, put_tag, put_word16, put_word32, put_word64};
 use st_base::{Command, FileId, PageBytes, PageNo, Tag};
+use st_messages::{AppAnswer, Ask, DiskResult, PatchBytes};
 use std::alloc::AllocError;
 
 fn put_ask_place(out: &mut Vec<u8>, ask: u8, file: FileId, page: PageNo) -> Result<(), AllocError>
@@ -30,7 +27,7 @@ fn put_write(
     ensures { OnOk result (out.new.items ≡ out.old.items ++ (spells.byte 1 ++ spells.file file ++ spells.word32 page.0 ++ bytes.now)) }
 {
     put_ask_place(out, 1, file, page)?;
-    out.extend_from_slice(bytes.as_slice())?;
+    bytes.put(out)?;
     Ok(())
 }
 
@@ -58,7 +55,7 @@ fn put_patch_bytes(out: &mut Vec<u8>, bytes: &PatchBytes) -> Result<(), AllocErr
     Ok(())
 }
 
-#[tactic(auto, unfolding(crate::specs::Spelling::ask, crate::specs::Fits::is_ask))]
+#[tactic(auto, unfolding(crate::specs::Spelling::ask, st_messages::specs::Fits::is_ask))]
 pub(crate) fn put_ask(out: &mut Vec<u8>, ask: &Ask) -> Result<(), AllocError>
     requires { fits.is_ask ask.now ≡ true }
     ensures { OnOk result (out.new.items ≡ out.old.items ++ spells.ask ask.now) }
@@ -91,7 +88,7 @@ fn put_two(out: &mut Vec<u8>, tag: u8, a: u64, b: u64) -> Result<(), AllocError>
     Ok(())
 }
 
-#[tactic(auto, unfolding(crate::specs::Spelling::answer, crate::specs::Fits::is_answer))]
+#[tactic(auto, unfolding(crate::specs::Spelling::answer, st_messages::specs::Fits::is_answer))]
 pub(crate) fn put_answer(out: &mut Vec<u8>, answer: &AppAnswer) -> Result<(), AllocError>
     requires { fits.is_answer answer.now ≡ true }
     ensures { OnOk result (out.new.items ≡ out.old.items ++ spells.answer answer.now) }
@@ -100,7 +97,7 @@ pub(crate) fn put_answer(out: &mut Vec<u8>, answer: &AppAnswer) -> Result<(), Al
         AppAnswer::Written => put_byte(out, 0),
         AppAnswer::Read(bytes) => {
             put_byte(out, 1)?;
-            out.extend_from_slice(bytes.as_slice())?;
+            bytes.put(out)?;
             Ok(())
         }
         AppAnswer::Hard => put_byte(out, 2),
@@ -146,7 +143,7 @@ fn put_tagged(out: &mut Vec<u8>, kind: u8, tag: Tag, bytes: &PageBytes) -> Resul
 {
     put_byte(out, kind)?;
     put_tag(out, tag)?;
-    out.extend_from_slice(bytes.as_slice())?;
+    bytes.put(out)?;
     Ok(())
 }
 

@@ -1,11 +1,11 @@
 ghost use Rattle.std.specs.Prelude.{◌≡◌, ◌++◌, ◌≤◌, true, length, OnOk};
-ghost use Rattle.st_codec.specs.Fits as fits;
+ghost use Rattle.st_messages.specs.Fits as fits;
 ghost use Rattle.st_codec.specs.Spelling as spells;
 
-use crate::message::{NameOp, NameReply};
 use crate::row::put_names;
 use crate::spell::{put_byte, put_grant, put_name, put_word32};
 use st_base::{GrantNo, Name, NameAsk};
+use st_messages::{NameOp, NameReply};
 use std::alloc::AllocError;
 
 fn put_entry(out: &mut Vec<u8>, op: u8, dir: u32, name: &Name) -> Result<(), AllocError>
@@ -53,7 +53,7 @@ fn put_rename(
     Ok(())
 }
 
-#[tactic(auto, unfolding(crate::specs::Spelling::name_op, crate::specs::Fits::is_name_op))]
+#[tactic(auto, unfolding(crate::specs::Spelling::name_op, st_messages::specs::Fits::is_name_op))]
 pub(crate) fn put_name_op(out: &mut Vec<u8>, op: &NameOp) -> Result<(), AllocError>
     requires { fits.is_name_op op.now ≡ true }
     ensures { OnOk result (out.new.items ≡ out.old.items ++ spells.name_op op.now) }
@@ -73,7 +73,7 @@ pub(crate) fn put_name_op(out: &mut Vec<u8>, op: &NameOp) -> Result<(), AllocErr
     }
 }
 
-#[tactic(auto, unfolding(crate::specs::Spelling::name_ask, crate::specs::Fits::is_name_ask))]
+#[tactic(auto, unfolding(crate::specs::Spelling::name_ask, st_messages::specs::Fits::is_name_ask))]
 pub(crate) fn put_name_ask(out: &mut Vec<u8>, ask: &NameAsk) -> Result<(), AllocError>
     requires { fits.is_name_ask ask.now ≡ true }
     ensures { OnOk result (out.new.items ≡ out.old.items ++ spells.name_ask ask.now) }
@@ -93,7 +93,7 @@ pub(crate) fn put_name_ask(out: &mut Vec<u8>, ask: &NameAsk) -> Result<(), Alloc
     }
 }
 
-#[tactic(auto, unfolding(crate::specs::Spelling::name_reply, crate::specs::Fits::is_name_reply))]
+#[tactic(auto, unfolding(crate::specs::Spelling::name_reply, st_messages::specs::Fits::is_name_reply))]
 pub(crate) fn put_name_reply(out: &mut Vec<u8>, reply: &NameReply) -> Result<(), AllocError>
     requires { fits.is_name_reply reply.now ≡ true }
     ensures { OnOk result (out.new.items ≡ out.old.items ++ spells.name_reply reply.now) }

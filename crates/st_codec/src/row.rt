@@ -1,5 +1,5 @@
-ghost use Rattle.std.specs.Prelude.{◌≡◌, ◌++◌, ◌∷◌, ◌≤◌, ℕ, Bool, true, List, OnOk, Result, length, All};
-ghost use Rattle.st_codec.specs.Fits as fits;
+ghost use Rattle.std.specs.Prelude.{◌≡◌, ◌++◌, ◌∷◌, ◌≤◌, ℕ, true, List, OnOk, Result, length, All};
+ghost use Rattle.st_messages.specs.Fits as fits;
 ghost use Rattle.st_codec.specs.Reading as reading;
 ghost use Rattle.st_codec.specs.Spelling as spells;
 ghost use Rattle.st_codec.specs.declared.fault.Fault.{Fault};
@@ -9,48 +9,32 @@ use crate::field::{
     read_block, read_byte_in, read_grant, read_mode, read_name, read_page, read_word16_in,
     read_word32_in, read_word64,
 };
-use crate::range::{has_length, is_block, is_grant, is_held, is_word, within};
 use crate::spell::{
     put_block, put_byte, put_grant, put_mode, put_name, put_word16, put_word32, put_word64,
 };
 use st_base::{
     ExtentRow, ExtentRows, GrantNo, LockRows, LostRow, LostRows, Mode, NameRow, NameRows, Rows,
 };
+use st_messages::row::Row;
 use std::alloc::{AllocError, Global};
 
-/// A row of a message.
-pub(crate) trait Row {
+/// The bytes of a row of a message.
+pub(crate) trait RowBytes: Row {
     ghost spell: { Self → List ℕ };
 
-    /// The row fits where it is to be at least this.
-    ghost is_row: { ℕ → Self → Bool };
-
-    /// The least that may follow it.
-    ghost next: { Self → ℕ };
-
     fn put(&self, out: &mut Vec<u8>) -> Result<(), AllocError>
-        requires { (least : ℕ) × (is_row least self.now ≡ true) }
+        requires { (least : ℕ) × (Self.is_row least self.now ≡ true) }
         ensures { OnOk result (out.new.items ≡ out.old.items ++ spell self.now) };
 
-    fn fits(&self, least: u64) -> bool
-        ensures { result ≡ is_row least self.now };
-
-    fn next(&self) -> u64
-        ensures { result ≡ next self.now };
-
-    /// A row in front of the bytes, which is to be at least this, and the bytes after it.
+    /// Reads a row, whose key is at least this number, and returns it with the bytes behind it.
     ghost row_at: { ℕ → List ℕ → Result (Self × List ℕ) Fault };
 
     fn read(alloc: Global, least: u64, bytes: &[u8]) -> Result<(Self, &[u8]), ReadError>
         ensures { reading.Gives (λ x. (x.0, x.1.now)) result (row_at least bytes.now) };
 }
 
-impl Row for (u32, GrantNo, Mode) {
+impl RowBytes for (u32, GrantNo, Mode) {
     ghost spell = { spells.lock_row };
-
-    ghost is_row = { fits.is_lock_row };
-
-    ghost next = { fits.after_lock };
 
     ghost row_at = { reading.lock_row_at };
 
@@ -62,14 +46,6 @@ impl Row for (u32, GrantNo, Mode) {
         Ok(())
     }
 
-    fn fits(&self, least: u64) -> bool {
-        within(least, 4_294_967_295, u64::from(self.0)) && is_grant(self.1) && is_held(self.2)
-    }
-
-    fn next(&self) -> u64 {
-        u64::from(self.0) + 1
-    }
-
     #[tactic(auto, unfolding(crate::specs::Reading::lock_row_at))]
     fn read(_alloc: Global, least: u64, bytes: &[u8]) -> Result<(Self, &[u8]), ReadError> {
         let (ino, rest) = read_word32_in(least, 4_294_967_295, bytes)?;
@@ -79,12 +55,8 @@ impl Row for (u32, GrantNo, Mode) {
     }
 }
 
-impl Row for ExtentRow {
+impl RowBytes for ExtentRow {
     ghost spell = { spells.extent_row };
-
-    ghost is_row = { fits.is_extent_row };
-
-    ghost next = { fits.after_extent };
 
     ghost row_at = { reading.extent_row_at };
 
@@ -96,14 +68,6 @@ impl Row for ExtentRow {
         Ok(())
     }
 
-    fn fits(&self, least: u64) -> bool {
-        within(least, 1_048_575, u64::from(self.page.0)) && is_block(self.at) && is_word(self.birth)
-    }
-
-    fn next(&self) -> u64 {
-        u64::from(self.page.0) + 1
-    }
-
     #[tactic(auto, unfolding(crate::specs::Reading::extent_row_at))]
     fn read(_alloc: Global, least: u64, bytes: &[u8]) -> Result<(Self, &[u8]), ReadError> {
         let (page, rest) = read_page(least, bytes)?;
@@ -113,12 +77,8 @@ impl Row for ExtentRow {
     }
 }
 
-impl Row for LostRow {
+impl RowBytes for LostRow {
     ghost spell = { spells.lost_row };
-
-    ghost is_row = { fits.is_lost_row };
-
-    ghost next = { fits.after_lost };
 
     ghost row_at = { reading.lost_row_at };
 
@@ -129,14 +89,6 @@ impl Row for LostRow {
         Ok(())
     }
 
-    fn fits(&self, least: u64) -> bool {
-        within(least, 1_048_575, u64::from(self.page.0)) && is_word(self.command)
-    }
-
-    fn next(&self) -> u64 {
-        u64::from(self.page.0) + 1
-    }
-
     #[tactic(auto, unfolding(crate::specs::Reading::lost_row_at))]
     fn read(_alloc: Global, least: u64, bytes: &[u8]) -> Result<(Self, &[u8]), ReadError> {
         let (page, rest) = read_page(least, bytes)?;
@@ -145,12 +97,8 @@ impl Row for LostRow {
     }
 }
 
-impl Row for NameRow {
+impl RowBytes for NameRow {
     ghost spell = { spells.name_row };
-
-    ghost is_row = { fits.is_name_row };
-
-    ghost next = { fits.after_name };
 
     ghost row_at = { reading.name_row_at };
 
@@ -160,14 +108,6 @@ impl Row for NameRow {
         put_byte(out, entry_number(self.directory))?;
         put_name(out, &self.name)?;
         Ok(())
-    }
-
-    fn fits(&self, least: u64) -> bool {
-        within(least, 4_294_967_295, u64::from(self.ino)) && has_length(1, 64, self.name.as_slice())
-    }
-
-    fn next(&self) -> u64 {
-        1
     }
 
     #[tactic(auto, unfolding(crate::specs::Reading::name_row_at))]
@@ -190,7 +130,7 @@ fn entry_number(directory: bool) -> u8
     if directory { 2 } else { 1 }
 }
 
-pub(crate) fn put_rows<T: Row>(out: &mut Vec<u8>, rows: &Rows<T>) -> Result<(), AllocError>
+pub(crate) fn put_rows<T: RowBytes>(out: &mut Vec<u8>, rows: &Rows<T>) -> Result<(), AllocError>
     requires count { length rows.now ≤ 1024 }
     requires each { All (λ r. (least : ℕ) × (T.is_row least r ≡ true)) rows.now }
     ensures { OnOk result (out.new.items ≡ out.old.items ++ spells.rows T.spell rows.now) }
@@ -202,20 +142,7 @@ pub(crate) fn put_rows<T: Row>(out: &mut Vec<u8>, rows: &Rows<T>) -> Result<(), 
     Ok(())
 }
 
-pub(crate) fn rows_fit<T: Row>(least: u64, rows: &Rows<T>) -> bool
-    ensures { result ≡ fits.are_rows T.is_row T.next least rows.now }
-{
-    let mut least = least;
-    for row in rows.as_slice() {
-        if !row.fits(least) {
-            return false;
-        }
-        least = row.next();
-    }
-    true
-}
-
-#[tactic(auto, unfolding(crate::specs::Fits::are_locks))]
+#[tactic(auto, unfolding(st_messages::specs::Fits::are_locks))]
 pub(crate) fn put_locks(out: &mut Vec<u8>, rows: &LockRows) -> Result<(), AllocError>
     requires { fits.are_locks rows.now ≡ true }
     ensures { OnOk result (out.new.items ≡ out.old.items ++ spells.rows spells.lock_row rows.now) }
@@ -223,7 +150,7 @@ pub(crate) fn put_locks(out: &mut Vec<u8>, rows: &LockRows) -> Result<(), AllocE
     put_rows(out, rows)
 }
 
-#[tactic(auto, unfolding(crate::specs::Fits::are_extents))]
+#[tactic(auto, unfolding(st_messages::specs::Fits::are_extents))]
 pub(crate) fn put_extents(out: &mut Vec<u8>, rows: &ExtentRows) -> Result<(), AllocError>
     requires { fits.are_extents rows.now ≡ true }
     ensures { OnOk result (out.new.items ≡ out.old.items ++ spells.rows spells.extent_row rows.now) }
@@ -231,7 +158,7 @@ pub(crate) fn put_extents(out: &mut Vec<u8>, rows: &ExtentRows) -> Result<(), Al
     put_rows(out, rows)
 }
 
-#[tactic(auto, unfolding(crate::specs::Fits::are_lost))]
+#[tactic(auto, unfolding(st_messages::specs::Fits::are_lost))]
 pub(crate) fn put_lost(out: &mut Vec<u8>, rows: &LostRows) -> Result<(), AllocError>
     requires { fits.are_lost rows.now ≡ true }
     ensures { OnOk result (out.new.items ≡ out.old.items ++ spells.rows spells.lost_row rows.now) }
@@ -239,7 +166,7 @@ pub(crate) fn put_lost(out: &mut Vec<u8>, rows: &LostRows) -> Result<(), AllocEr
     put_rows(out, rows)
 }
 
-#[tactic(auto, unfolding(crate::specs::Fits::are_names))]
+#[tactic(auto, unfolding(st_messages::specs::Fits::are_names))]
 pub(crate) fn put_names(out: &mut Vec<u8>, rows: &NameRows) -> Result<(), AllocError>
     requires { fits.are_names rows.now ≡ true }
     ensures { OnOk result (out.new.items ≡ out.old.items ++ spells.rows spells.name_row rows.now) }
@@ -247,35 +174,7 @@ pub(crate) fn put_names(out: &mut Vec<u8>, rows: &NameRows) -> Result<(), AllocE
     put_rows(out, rows)
 }
 
-#[tactic(auto, unfolding(crate::specs::Fits::are_locks))]
-pub(crate) fn locks_fit(rows: &LockRows) -> bool
-    ensures { result ≡ fits.are_locks rows.now }
-{
-    rows.len() <= 1024 && rows_fit(1, rows)
-}
-
-#[tactic(auto, unfolding(crate::specs::Fits::are_extents))]
-pub(crate) fn extents_fit(rows: &ExtentRows) -> bool
-    ensures { result ≡ fits.are_extents rows.now }
-{
-    rows.len() <= 64 && rows_fit(0, rows)
-}
-
-#[tactic(auto, unfolding(crate::specs::Fits::are_lost))]
-pub(crate) fn lost_fit(rows: &LostRows) -> bool
-    ensures { result ≡ fits.are_lost rows.now }
-{
-    1 <= rows.len() && rows.len() <= 1024 && rows_fit(0, rows)
-}
-
-#[tactic(auto, unfolding(crate::specs::Fits::are_names))]
-pub(crate) fn names_fit(rows: &NameRows) -> bool
-    ensures { result ≡ fits.are_names rows.now }
-{
-    rows.len() <= 256 && rows_fit(1, rows)
-}
-
-/// Whether an entry is a directory.
+/// Reads whether an entry is a directory.
 #[tactic(auto, unfolding(crate::specs::Reading::entry_at))]
 fn read_entry(bytes: &[u8]) -> Result<(bool, &[u8]), ReadError>
     ensures { reading.Gives (λ x. (x.0, x.1.now)) result (reading.entry_at bytes.now) }
@@ -284,7 +183,7 @@ fn read_entry(bytes: &[u8]) -> Result<(bool, &[u8]), ReadError>
     Ok((2 <= number, rest))
 }
 
-fn read_rows<T: Row + Drop>(
+fn read_rows<T: RowBytes + Drop>(
     alloc: Global,
     count: u16,
     least: u64,

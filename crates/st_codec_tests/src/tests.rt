@@ -1,5 +1,6 @@
 use crate::wire_table::{FAULTS, MESSAGES};
-use st_codec::{CodecRefusal, FrameReader, Message, decode, encode};
+use st_codec::{CodecRefusal, FrameReader, decode, encode};
+use st_messages::Message;
 use std::alloc::{AllocError, Global};
 use std::io;
 use std::test::*;

@@ -3,12 +3,12 @@ use Rattle.std.specs.Prelude.{ℕ, ◌==◌, Bool, true, false, List, [], ◌∷
 use Rattle.std.specs.List.{list_any}
 use Rattle.st_base.specs.Page.{filled}
 use Rattle.st_base.specs.declared.mode.Mode.TheVariants as modes
-use Rattle.st_codec.specs.declared.answer.AppAnswer.TheVariants as answers
-use Rattle.st_codec.specs.declared.ask.Ask.TheVariants as asks
-use Rattle.st_codec.specs.declared.event.Event.{Event}
-use Rattle.st_codec.specs.declared.event.Event.TheVariants as events
-use Rattle.st_codec.specs.declared.message.Body.TheVariants as bodies
-use Rattle.st_codec.specs.declared.message.Why.TheVariants as why
+use Rattle.st_messages.specs.declared.answer.AppAnswer.TheVariants as answers
+use Rattle.st_messages.specs.declared.ask.Ask.TheVariants as asks
+use Rattle.st_messages.specs.declared.event.Event.{Event}
+use Rattle.st_messages.specs.declared.event.Event.TheVariants as events
+use Rattle.st_messages.specs.declared.message.Body.TheVariants as bodies
+use Rattle.st_messages.specs.declared.message.Why.TheVariants as why
 use Rattle.st_rules.specs.declared.client.HeldLock.{HeldLock}
 use Rattle.st_rules.specs.declared.locks.LockRow.{LockRow}
 use Rattle.st_rules.specs.declared.log.Cause.TheVariants as causes
@@ -23,7 +23,8 @@ use Rattle.st_rules.specs.Grace.{Grace}
 use Rattle.st_rules.specs.ClientState.{ClientState, ClientSession, Association}
 use Rattle.st_rules.specs.FlatLog.{accept, cut as cut_log}
 use Rattle.st_rules.specs.Client.{emptied}
-use Rattle.st_rules.specs.World.{World, ClientSite, ServerNode}
+use Rattle.st_rules.specs.Server.{ServerNode}
+use Rattle.st_rules.specs.World.{World, ClientSite}
 use Rattle.st_rules.specs.History.{Traced, History, TimerStart, LeaseDate, led_to, trace, traced, with_grant}
 use Rattle.st_rules.specs.Safety.{
   Step,
@@ -261,17 +262,17 @@ abbrev pub by_event : Event → Step → Step
 by_event e x = record x { event = e }
 
 -- the server is in its second epoch, under this grace
-abbrev pub in_second : Grace → ServerNode → ServerNode
+abbrev pub in_second : Option Grace → ServerNode → ServerNode
 in_second grace node = record node { state = record node.state { stable = record node.state.stable { epoch = epoch 2 }; grace = grace } }
 
 -- a grace that was over at once, and none
-abbrev pub short_grace : Grace
-short_grace = record { wait = 1; start = Some (stamp 0) }
+abbrev pub short_grace : Option Grace
+short_grace = Some (record { start = stamp 0; wait = 1 })
 
-abbrev pub never_grace : Grace
-never_grace = record { wait = 1010; start = None }
+abbrev pub never_grace : Option Grace
+never_grace = None
 
-abbrev pub second_epoch : Grace → World → World
+abbrev pub second_epoch : Option Grace → World → World
 second_epoch grace w = record w { servers = map (in_second grace) w.servers }
 
 -- a step of the first client

@@ -1,13 +1,13 @@
 -- Scripts: a client is given inputs at moments, and what it says is compared.
 use Rattle.std.specs.Prelude.{ℕ, List, [], ◌∷◌, ◌++◌, ⊤}
-use Rattle.st_codec.specs.declared.output.Output.{Output}
+use Rattle.st_messages.specs.declared.output.Output.{Output}
 use Rattle.st_rules.specs.declared.client.ClientInput.{ClientInput}
 use Rattle.st_rules.specs.ClientState.{ClientState, ClientTurn}
 use Rattle.st_rules.specs.Client.{client_step, fresh_client, crash, start, client_open}
 use Rattle.st_rows.specs.Script.{settings}
 use Rattle.st_rows.specs.Words.{c, stamp}
 
--- the first client of a world with so many servers
+-- the first client of a world with this number of servers
 unfoldable pub client_of : ℕ → ClientState
 client_of servers = fresh_client (c 1) settings servers
 

@@ -5,11 +5,11 @@ use Rattle.st_base.specs.declared.ids.ServerId.{ServerId}
 use Rattle.st_base.specs.declared.disk.Command.TheVariants as commands
 use Rattle.st_base.specs.declared.disk.Tag.{Tag}
 use Rattle.st_base.specs.declared.rows.LostRow.{LostRow}
-use Rattle.st_codec.specs.declared.answer.AppAnswer.{AppAnswer}
-use Rattle.st_codec.specs.declared.message.Body.{Body}
-use Rattle.st_codec.specs.declared.output.Note.{Note}
-use Rattle.st_codec.specs.declared.output.Output.{Output}
-use Rattle.st_codec.specs.declared.output.Output.TheVariants as outputs
+use Rattle.st_messages.specs.declared.answer.AppAnswer.{AppAnswer}
+use Rattle.st_messages.specs.declared.message.Body.{Body}
+use Rattle.st_messages.specs.declared.output.Note.{Note}
+use Rattle.st_messages.specs.declared.output.Output.{Output}
+use Rattle.st_messages.specs.declared.output.Output.TheVariants as outputs
 use Rattle.st_rules.specs.declared.client.ClientInput.{ClientInput}
 use Rattle.st_rules.specs.declared.client.ClientInput.TheVariants.{Control}
 use Rattle.st_rows.specs.Words.{page, at}
@@ -30,7 +30,8 @@ lost_row p command = record { page = page p; command = command }
 
 -- a message between two nodes; behind them stand life, epoch, number and stamp
 abbrev pub between : ℕ → ℕ → ℕ → ℕ → ℕ → ℕ → Body → ClientInput
-between s n l e number moment body = Control (record { header = record { from = s; to = n; life = l; epoch = e; number = number; stamp = moment }; body = body })
+between s n l e number moment body =
+    Control (record { header = record { from = s; to = n; life = l; epoch = e; number = number; stamp = moment }; body = body })
 
 -- a message of a server to the first client
 abbrev pub told : ℕ → ℕ → ℕ → ℕ → ℕ → Body → ClientInput
@@ -38,7 +39,8 @@ told s l e number moment body = between (32768 + s) 1 l e number moment body
 
 -- what the first client says to a server
 abbrev pub says : ℕ → ℕ → ℕ → ℕ → ℕ → Body → Output
-says s l e number moment body = outputs.Send (record { header = record { from = 1; to = 32768 + s; life = l; epoch = e; number = number; stamp = moment }; body = body })
+says s l e number moment body =
+    outputs.Send (record { header = record { from = 1; to = 32768 + s; life = l; epoch = e; number = number; stamp = moment }; body = body })
 
 -- a read of a block, and a write of one: command, disk, block, and the tag's server, inode, page and birth
 abbrev pub reads : ℕ → ℕ → ℕ → Output

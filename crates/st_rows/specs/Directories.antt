@@ -13,9 +13,13 @@ named entries next = record { entries = entries; next = next }
 
 -- the root has the fresh files and the directory 10; that has a directory and two files
 unfoldable pub deep : Names
-deep = named (fresh_names.entries ++ (entry_in 1 (codes "d") 10 true ∷ entry_in 10 (codes "e") 11 true ∷ entry_in 10 (codes "ee") 12 false ∷ entry_in 10 (codes "Z") 13 false ∷ [])) 14
+deep =
+    named
+    (fresh_names.entries
+    ++ (entry_in 1 (codes "d") 10 true ∷ entry_in 10 (codes "e") 11 true ∷ entry_in 10 (codes "ee") 12 false ∷ entry_in 10 (codes "Z") 13 false ∷ []))
+    14
 
--- so many files in the root
+-- this number of files in the root
 abbrev pub crowd : ℕ → NameEntry
 crowd ino = entry_in 1 (100 ∷ ino ∷ []) ino false
 

@@ -1,7 +1,7 @@
 -- Scripts: a server is given inputs at moments, and what it says is compared.
 use Rattle.std.specs.Prelude.{ℕ, List, [], ◌∷◌, ◌++◌, ⊤}
 use Rattle.st_base.specs.declared.config.Config.{Config}
-use Rattle.st_codec.specs.declared.output.Output.{Output}
+use Rattle.st_messages.specs.declared.output.Output.{Output}
 use Rattle.st_rules.specs.declared.input.ServerInput.{ServerInput}
 use Rattle.st_rules.specs.Server.{ServerState, Turn, server_step, fresh_server, crash, start}
 use Rattle.st_rules.specs.Rules.{rules_open}
@@ -14,7 +14,7 @@ settings = record { lease = 1000; renew = 500; quiesce = 700; flush = 850; deman
 abbrev pub grainy_settings : Config
 grainy_settings = record settings { grain = 5 }
 
--- the only server of a world with one disk of so many blocks
+-- the only server of a world with one disk of this number of blocks
 unfoldable pub server_with : ℕ → ServerState
 server_with blocks = fresh_server (record { 0 = 1 }) settings 1 1 blocks
 

@@ -10,10 +10,10 @@ use Rattle.st_base.specs.declared.ids.Stamp.{Stamp}
 use Rattle.st_base.specs.declared.disk.BlockAt.{BlockAt}
 use Rattle.st_base.specs.declared.names.NameRow.{NameRow}
 use Rattle.st_base.specs.declared.rows.ExtentRow.{ExtentRow}
-use Rattle.st_codec.specs.declared.message.Body.{Body}
-use Rattle.st_codec.specs.declared.output.Note.{Note}
-use Rattle.st_codec.specs.declared.output.Output.{Output}
-use Rattle.st_codec.specs.declared.output.Output.TheVariants as outputs
+use Rattle.st_messages.specs.declared.message.Body.{Body}
+use Rattle.st_messages.specs.declared.output.Note.{Note}
+use Rattle.st_messages.specs.declared.output.Output.{Output}
+use Rattle.st_messages.specs.declared.output.Output.TheVariants as outputs
 use Rattle.st_rules.specs.declared.input.ServerInput.{ServerInput}
 use Rattle.st_rules.specs.declared.input.ServerInput.TheVariants.{Control}
 
@@ -54,7 +54,8 @@ abbrev pub from : ℕ → ℕ → ℕ → ℕ → ℕ → Body → ServerInput
 from n l e number moment body = Control (record { header = record { from = n; to = 32769; life = l; epoch = e; number = number; stamp = moment }; body = body })
 
 abbrev pub to : ℕ → ℕ → ℕ → ℕ → ℕ → Body → Output
-to n l e number moment body = outputs.Send (record { header = record { from = 32769; to = n; life = l; epoch = e; number = number; stamp = moment }; body = body })
+to n l e number moment body =
+    outputs.Send (record { header = record { from = 32769; to = n; life = l; epoch = e; number = number; stamp = moment }; body = body })
 
 -- a message of one node to another
 abbrev pub posted : ℕ → ℕ → Body → ServerInput

@@ -4,17 +4,17 @@ use Rattle.st_base.specs.declared.config.Config.{Config}
 use Rattle.st_base.specs.declared.disk.Command.TheVariants as commands
 use Rattle.st_base.specs.declared.ids.NodeId.{NodeId}
 use Rattle.st_base.specs.declared.ids.NodeId.TheVariants as nodes
-use Rattle.st_codec.specs.declared.answer.AppAnswer.{AppAnswer}
-use Rattle.st_codec.specs.declared.ask.Ask.{Ask}
-use Rattle.st_codec.specs.declared.event.Event.{Event}
-use Rattle.st_codec.specs.declared.event.Event.TheVariants as events
-use Rattle.st_codec.specs.declared.message.Body.{Body}
+use Rattle.st_messages.specs.declared.answer.AppAnswer.{AppAnswer}
+use Rattle.st_messages.specs.declared.ask.Ask.{Ask}
+use Rattle.st_messages.specs.declared.event.Event.{Event}
+use Rattle.st_messages.specs.declared.event.Event.TheVariants as events
+use Rattle.st_messages.specs.declared.message.Body.{Body}
 use Rattle.st_rules.specs.declared.log.Cause.TheVariants as causes
 use Rattle.st_rules.specs.declared.observation.Observation.{Observation}
 use Rattle.st_rules.specs.declared.observation.Observation.TheVariants as seen
 use Rattle.st_rules.specs.declared.observation.Summary.{Summary}
 use Rattle.st_rules.specs.declared.observation.WorldRefusal.{WorldRefusal}
-use Rattle.st_codec.specs.Sizes.{size_of}
+use Rattle.st_messages.specs.Sizes.{size_of}
 use Rattle.st_rules.specs.Rules.{rules_open}
 use Rattle.st_rules.specs.World.{World, fresh_world}
 use Rattle.st_rules.specs.Events.{summary}
@@ -38,7 +38,8 @@ ask n a = events.App (c n) a
 
 -- a message is sent: its number, from, to, life, epoch, number and stamp
 abbrev pub sent : ℕ → ℕ → ℕ → ℕ → ℕ → ℕ → ℕ → Body → Observation
-sent k s r l e number moment body = seen.Sent k (record { header = record { from = s; to = r; life = l; epoch = e; number = number; stamp = moment }; body = body })
+sent k s r l e number moment body =
+    seen.Sent k (record { header = record { from = s; to = r; life = l; epoch = e; number = number; stamp = moment }; body = body })
 
 -- a read of a block is submitted, and a write of one: number, client, its own number, disk, block, and the tag's server, inode,
 -- page and birth
@@ -102,7 +103,8 @@ told r = record { seen = r.seen; counts = summary r.world; refused = r.refused }
 
 -- events, messages, commands, writes, reads, hard and gone writes, and thefts
 abbrev pub counts : ℕ → ℕ → ℕ → ℕ → ℕ → ℕ → ℕ → ℕ → Summary
-counts events sent commands writes reads hard gone stolen = record { events = events; sent = sent; commands = commands; writes = writes; reads = reads; hard = hard; gone = gone; stolen = stolen }
+counts events sent commands writes reads hard gone stolen =
+    record { events = events; sent = sent; commands = commands; writes = writes; reads = reads; hard = hard; gone = gone; stolen = stolen }
 
 abbrev pub tells : List (List Observation) → Summary → Option WorldRefusal → Told
 tells seen counts refused = record { seen = seen; counts = counts; refused = refused }

@@ -2,11 +2,11 @@ ghost use Rattle.std.specs.Prelude.{◌≡◌, ◌∷◌, [], None, Some, codes}
 ghost use Rattle.st_base.specs.Page.{filled};
 ghost use Rattle.st_base.specs.declared.mode.Mode.TheVariants as modes;
 ghost use Rattle.st_base.specs.declared.names.NameAsk.TheVariants as names;
-ghost use Rattle.st_codec.specs.declared.answer.AppAnswer.TheVariants as answers;
-ghost use Rattle.st_codec.specs.declared.ask.Ask.TheVariants as asks;
-ghost use Rattle.st_codec.specs.declared.message.Body.TheVariants as bodies;
-ghost use Rattle.st_codec.specs.declared.message.NameOp.TheVariants as ops;
-ghost use Rattle.st_codec.specs.declared.output.Note.TheVariants as notes;
+ghost use Rattle.st_messages.specs.declared.answer.AppAnswer.TheVariants as answers;
+ghost use Rattle.st_messages.specs.declared.ask.Ask.TheVariants as asks;
+ghost use Rattle.st_messages.specs.declared.message.Body.TheVariants as bodies;
+ghost use Rattle.st_messages.specs.declared.message.NameOp.TheVariants as ops;
+ghost use Rattle.st_messages.specs.declared.output.Note.TheVariants as notes;
 ghost use Rattle.st_rules.specs.declared.client.ClientInput.TheVariants.{App, Done, Tick};
 ghost use Rattle.st_rows.specs.ClientScript.{Given, Restarted, client_of, said};
 ghost use Rattle.st_rows.specs.ClientWords.{answer, between, lost_row, noted, on, says, server, told, writes};

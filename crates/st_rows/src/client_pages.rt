@@ -1,10 +1,10 @@
 ghost use Rattle.std.specs.Prelude.{◌≡◌, ◌∷◌, [], None, Some};
 ghost use Rattle.st_base.specs.Page.{filled};
 ghost use Rattle.st_base.specs.declared.mode.Mode.TheVariants as modes;
-ghost use Rattle.st_codec.specs.declared.answer.AppAnswer.TheVariants as answers;
-ghost use Rattle.st_codec.specs.declared.ask.Ask.TheVariants as asks;
-ghost use Rattle.st_codec.specs.declared.message.Body.TheVariants as bodies;
-ghost use Rattle.st_codec.specs.declared.output.Note.TheVariants as notes;
+ghost use Rattle.st_messages.specs.declared.answer.AppAnswer.TheVariants as answers;
+ghost use Rattle.st_messages.specs.declared.ask.Ask.TheVariants as asks;
+ghost use Rattle.st_messages.specs.declared.message.Body.TheVariants as bodies;
+ghost use Rattle.st_messages.specs.declared.output.Note.TheVariants as notes;
 ghost use Rattle.st_rules.specs.FlatLog.{overlay};
 ghost use Rattle.st_rules.specs.declared.client.ClientInput.TheVariants.{App, Done, Tick};
 ghost use Rattle.st_rows.specs.ClientScript.{Given, client_of, said};

@@ -71,8 +71,8 @@ pub fn lost_pages_are_told_by_rising_page()
 /// A lock is installed, demanded and reduced by grant numbers alone.
 #[tactic(auto, unfolding(crate::specs::ClientTables::client_tables_open))]
 pub fn a_lock_goes_by_grant_numbers()
-    ensures same { locks.install one_lock 2 (g 4294967297) modes.S ≡ one_lock }
-    ensures later { locks.mode_of (locks.install one_lock 2 (g 4294967298) modes.S) 2 ≡ modes.S }
+    ensures same { locks.install_grant one_lock 2 (g 4294967297) modes.S ≡ one_lock }
+    ensures later { locks.mode_of (locks.install_grant one_lock 2 (g 4294967298) modes.S) 2 ≡ modes.S }
     ensures stale { (locks.demand one_lock 2 (g 4294967296) modes.None).asked ≡ becomes.Stale }
     ensures unheld { (locks.demand one_lock 3 (g 1) modes.None).asked ≡ becomes.NotHeld }
     ensures reduced { (locks.reduce (locks.demand one_lock 2 (g 4294967298) modes.S).locks 2).given ≡ Some (g 4294967298, modes.S) }
@@ -84,11 +84,11 @@ pub fn a_lock_goes_by_grant_numbers()
 #[tactic(auto, unfolding(crate::specs::ClientTables::client_tables_open))]
 pub fn a_command_ends_once()
     ensures unknown { (pages.end_command [] 1 true 1).ended ≡ ends.Unknown }
-    ensures hard { (pages.end_command (pages.submit [] 1 2 (page 0) (kinds.Write 4)) 1 true 4).ended ≡ ends.Hard }
-    ensures dirty_again { (pages.end_command (pages.submit [] 1 2 (page 0) (kinds.Write 4)) 1 true 5).ended ≡ ends.Redirty }
-    ensures failed { (pages.end_command (pages.submit [] 1 2 (page 0) (kinds.Write 4)) 1 false 4).ended ≡ ends.Failed }
-    ensures filled { (pages.end_command (pages.submit [] 1 2 (page 0) kinds.Read) 1 true 0).ended ≡ ends.Filled }
-    ensures gone { (pages.end_command (pages.submit [] 1 2 (page 0) kinds.Read) 1 true 0).commands ≡ [] }
-    ensures all { pages.submit_all [] ((2, page 0, 4) ∷ (2, page 1, 5) ∷ []) 7
-        ≡ pages.submit (pages.submit [] 7 2 (page 0) (kinds.Write 4)) 8 2 (page 1) (kinds.Write 5) }
+    ensures hard { (pages.end_command (pages.begin_command [] 1 2 (page 0) (kinds.Write 4)) 1 true 4).ended ≡ ends.Hard }
+    ensures dirty_again { (pages.end_command (pages.begin_command [] 1 2 (page 0) (kinds.Write 4)) 1 true 5).ended ≡ ends.Redirty }
+    ensures failed { (pages.end_command (pages.begin_command [] 1 2 (page 0) (kinds.Write 4)) 1 false 4).ended ≡ ends.Failed }
+    ensures filled { (pages.end_command (pages.begin_command [] 1 2 (page 0) kinds.Read) 1 true 0).ended ≡ ends.Filled }
+    ensures gone { (pages.end_command (pages.begin_command [] 1 2 (page 0) kinds.Read) 1 true 0).commands ≡ [] }
+    ensures all { pages.begin_writes [] ((2, page 0, 4) ∷ (2, page 1, 5) ∷ []) 7
+        ≡ pages.begin_command (pages.begin_command [] 7 2 (page 0) (kinds.Write 4)) 8 2 (page 1) (kinds.Write 5) }
 {}

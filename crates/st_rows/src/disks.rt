@@ -1,6 +1,6 @@
 ghost use Rattle.std.specs.Prelude.{◌≡◌, ◌∷◌, [], true, false, Ok, Err, Some, None};
 ghost use Rattle.st_base.specs.Page.{filled};
-ghost use Rattle.st_rules.specs.declared.disks.DiskRefusal.TheVariants.{NoCommand, NotEffected, Reported, Twice};
+ghost use Rattle.st_rules.specs.declared.disks.CommandRefusal.TheVariants.{NoCommand, NotEffected, Reported, Twice};
 ghost use Rattle.st_rules.specs.Disks as disks;
 ghost use Rattle.st_rows.specs.Disks.{block_of, after_effect, after_read, after_report, after_write, before};
 ghost use Rattle.st_rows.specs.Tables.{tag};

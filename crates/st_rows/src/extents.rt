@@ -1,5 +1,5 @@
 ghost use Rattle.std.specs.Prelude.{◌≡◌, ◌∷◌, [], Ok, Err, Some, None};
-ghost use Rattle.st_rules.specs.declared.extents.ExtentRefusal.TheVariants.{NoSpace};
+ghost use Rattle.st_rules.specs.declared.extents.AllocateRefusal.TheVariants.{NoSpace};
 ghost use Rattle.st_rules.specs.Extents as extents;
 ghost use Rattle.st_rows.specs.Tables.{mapped, second_file, second_server};
 ghost use Rattle.st_rows.specs.Words.{at, page};

@@ -1,6 +1,7 @@
 ghost use Rattle.std.specs.Prelude.{◌≡◌, ◌∷◌, [], true, false, Ok, Err, Some, None};
 ghost use Rattle.st_base.specs.declared.mode.Mode.TheVariants as modes;
-ghost use Rattle.st_rules.specs.declared.locks.LockRefusal.TheVariants.{TooManyLocks, Conflict};
+ghost use Rattle.st_rules.specs.declared.locks.AcquireRefusal.TheVariants.{TooManyLocks};
+ghost use Rattle.st_rules.specs.declared.locks.InstallRefusal.TheVariants.{Conflict};
 ghost use Rattle.st_rules.specs.declared.locks.Verdict.TheVariants.{Granted, Queued};
 ghost use Rattle.st_rules.specs.Keys as keys;
 ghost use Rattle.st_rules.specs.Locks as locks;

@@ -1,5 +1,5 @@
 ghost use Rattle.std.specs.Prelude.{◌≡◌, ◌∷◌, [], ◌++◌, true, false, Ok, Err, codes, is_ok};
-ghost use Rattle.st_base.specs.declared.names.NameRefusal.TheVariants.{BadName, Cycle, Exists, NoEntry, NotDir, NotEmpty, TooMany};
+ghost use Rattle.st_rules.specs.declared.names.EntryRefusal.TheVariants.{BadName, Cycle, Exists, NoEntry, NotDir, NotEmpty, TooMany};
 ghost use Rattle.st_rules.specs.Names as names;
 ghost use Rattle.st_rows.specs.Directories.{crowded, deep, entry_in, named};
 ghost use Rattle.st_rows.specs.Words.{entry};

@@ -1,10 +1,10 @@
 ghost use Rattle.std.specs.Prelude.{◌≡◌, ◌∷◌, [], true, false, codes};
 ghost use Rattle.st_base.specs.declared.mode.Mode.TheVariants as modes;
-ghost use Rattle.st_codec.specs.declared.message.Body.TheVariants as bodies;
-ghost use Rattle.st_codec.specs.declared.message.NameOp.TheVariants as ops;
-ghost use Rattle.st_codec.specs.declared.message.NameReply.TheVariants as replies;
-ghost use Rattle.st_codec.specs.declared.message.Why.TheVariants as why;
-ghost use Rattle.st_codec.specs.declared.output.Note.TheVariants as notes;
+ghost use Rattle.st_messages.specs.declared.message.Body.TheVariants as bodies;
+ghost use Rattle.st_messages.specs.declared.message.NameOp.TheVariants as ops;
+ghost use Rattle.st_messages.specs.declared.message.NameReply.TheVariants as replies;
+ghost use Rattle.st_messages.specs.declared.message.Why.TheVariants as why;
+ghost use Rattle.st_messages.specs.declared.output.Note.TheVariants as notes;
 ghost use Rattle.st_rules.specs.declared.input.ServerInput.TheVariants.{Tick};
 ghost use Rattle.st_rows.specs.Script.{Input, Restart, grainy_server, said, server_with};
 ghost use Rattle.st_rows.specs.Words.{c, entry, extent, file, from, g, life, noted, page, posted, stamp, to};

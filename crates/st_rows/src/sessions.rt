@@ -1,5 +1,5 @@
 ghost use Rattle.std.specs.Prelude.{◌≡◌, ◌∷◌, [], true, false, Some, None};
-ghost use Rattle.st_codec.specs.declared.message.Body.TheVariants.{Ack, Reasserted};
+ghost use Rattle.st_messages.specs.declared.message.Body.TheVariants.{Ack, Reasserted};
 ghost use Rattle.st_rules.specs.declared.sessions.Hello.TheVariants as hellos;
 ghost use Rattle.st_rules.specs.declared.sessions.Taken.TheVariants as takes;
 ghost use Rattle.st_rules.specs.Sessions as rules;
@@ -36,6 +36,6 @@ pub fn requests_have_cases()
 #[tactic(auto, unfolding(crate::specs::Tables::tables_open))]
 pub fn sessions_change()
     ensures kept { rules.store (sessions (living 1 3 2 None ∷ living 2 3 2 None ∷ [])) (c 2) 3 Ack ≡ sessions (living 1 3 2 None ∷ living 2 3 3 (Some Ack) ∷ []) }
-    ensures reasserted { rules.reasserted (sessions (past 1 3 ∷ living 2 3 2 None ∷ [])) (c 1) (life 4) ≡ sessions (living 2 3 2 None ∷ living 1 4 1 (Some Reasserted) ∷ []) }
+    ensures reasserted { rules.reasserted (sessions (past 1 3 ∷ living 2 3 2 None ∷ [])) (c 1) (life 4) ≡ sessions (living 1 4 1 (Some Reasserted) ∷ living 2 3 2 None ∷ []) }
     ensures ended { rules.end (sessions (living 1 3 2 None ∷ [])) (c 1) ≡ sessions (past 1 3 ∷ []) }
 {}

@@ -21,7 +21,7 @@ pub fn timers_run_for_the_wait()
 pub fn grace_lasts_for_the_wait()
     ensures on { grace.is_on (grace.begin_grace (stamp 5) settings) (stamp 1014) ≡ true }
     ensures off { grace.is_on (grace.begin_grace (stamp 5) settings) (stamp 1015) ≡ false }
-    ensures none { grace.is_on (grace.no_grace settings) (stamp 0) ≡ false }
+    ensures none { grace.is_on (grace.no_grace) (stamp 0) ≡ false }
 {}
 
 /// A client's own row stands in the way of a reassertion where it is of a lower life, and its least file is told.

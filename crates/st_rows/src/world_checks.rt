@@ -1,6 +1,6 @@
 ghost use Rattle.std.specs.Prelude.{◌≡◌, ◌∷◌, [], Some, None, true, false};
-ghost use Rattle.st_codec.specs.declared.ask.Ask.TheVariants as asks;
-ghost use Rattle.st_codec.specs.declared.event.Event.TheVariants as events;
+ghost use Rattle.st_messages.specs.declared.ask.Ask.TheVariants as asks;
+ghost use Rattle.st_messages.specs.declared.event.Event.TheVariants as events;
 ghost use Rattle.st_rules.specs.Admissible.{refusal};
 ghost use Rattle.st_rules.specs.declared.observation.WorldRefusal.TheVariants as refusals;
 ghost use Rattle.st_rows.specs.CheckWords.{after, filled_to, with_bytes, with_command};

@@ -1,5 +1,5 @@
 ghost use Rattle.std.specs.Prelude.{◌≡◌, ◌∷◌, [], Some};
-ghost use Rattle.st_codec.specs.declared.event.Event.TheVariants as events;
+ghost use Rattle.st_messages.specs.declared.event.Event.TheVariants as events;
 ghost use Rattle.st_rules.specs.Run.{run};
 ghost use Rattle.st_rules.specs.declared.observation.WorldRefusal.TheVariants as refusals;
 ghost use Rattle.st_rows.specs.WorldWords.{client_node, counts, grainy_world, server_node, tells, told, world_of};

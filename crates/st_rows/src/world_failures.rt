@@ -1,10 +1,10 @@
 ghost use Rattle.std.specs.Prelude.{◌≡◌, ◌∷◌, [], None, false, true};
 ghost use Rattle.st_base.specs.Page.{filled};
 ghost use Rattle.st_base.specs.declared.mode.Mode.TheVariants as modes;
-ghost use Rattle.st_codec.specs.declared.answer.AppAnswer.TheVariants as answers;
-ghost use Rattle.st_codec.specs.declared.ask.Ask.TheVariants as asks;
-ghost use Rattle.st_codec.specs.declared.event.Event.TheVariants as events;
-ghost use Rattle.st_codec.specs.declared.message.Body.TheVariants as bodies;
+ghost use Rattle.st_messages.specs.declared.answer.AppAnswer.TheVariants as answers;
+ghost use Rattle.st_messages.specs.declared.ask.Ask.TheVariants as asks;
+ghost use Rattle.st_messages.specs.declared.event.Event.TheVariants as events;
+ghost use Rattle.st_messages.specs.declared.message.Body.TheVariants as bodies;
 ghost use Rattle.st_rules.specs.Run.{run};
 ghost use Rattle.st_rules.specs.declared.observation.Observation.TheVariants as seen;
 ghost use Rattle.st_rows.specs.ClientWords.{lost_row, on};

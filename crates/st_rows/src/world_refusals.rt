@@ -1,7 +1,7 @@
 ghost use Rattle.std.specs.Prelude.{◌≡◌, ◌∷◌, [], Some, false};
-ghost use Rattle.st_codec.specs.declared.ask.Ask.TheVariants as asks;
-ghost use Rattle.st_codec.specs.declared.event.Event.TheVariants as events;
-ghost use Rattle.st_codec.specs.declared.message.Body.TheVariants as bodies;
+ghost use Rattle.st_messages.specs.declared.ask.Ask.TheVariants as asks;
+ghost use Rattle.st_messages.specs.declared.event.Event.TheVariants as events;
+ghost use Rattle.st_messages.specs.declared.message.Body.TheVariants as bodies;
 ghost use Rattle.st_rules.specs.Run.{run};
 ghost use Rattle.st_rules.specs.declared.observation.WorldRefusal.TheVariants as refusals;
 ghost use Rattle.st_rows.specs.ClientWords.{on};

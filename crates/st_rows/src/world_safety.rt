@@ -1,7 +1,7 @@
 ghost use Rattle.std.specs.Prelude.{◌∷◌, [], false, true};
 ghost use Rattle.st_base.specs.Page.{filled};
-ghost use Rattle.st_codec.specs.declared.ask.Ask.TheVariants as asks;
-ghost use Rattle.st_codec.specs.declared.event.Event.TheVariants as events;
+ghost use Rattle.st_messages.specs.declared.ask.Ask.TheVariants as asks;
+ghost use Rattle.st_messages.specs.declared.event.Event.TheVariants as events;
 ghost use Rattle.st_rules.specs.Safety.{IsSafeRun};
 ghost use Rattle.st_rows.specs.ClientWords.{on};
 ghost use Rattle.st_rows.specs.Words.{page};

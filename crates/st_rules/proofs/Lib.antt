@@ -1,5 +1,5 @@
 mod Waits
-mod Drift
+pub mod Drift
 mod Exact
-mod Rates
+pub mod Rates
 mod Runs

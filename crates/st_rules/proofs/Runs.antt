@@ -1,6 +1,6 @@
 -- A run goes on from where it led, a traced run is the run, and so are the steps.
 use Rattle.std.proofs.Common.{◌≡◌, List, [], ◌∷◌, ◌++◌, length, map, take, Option, Some, None, Result, Ok, Err, refl, ap}
-use Rattle.st_codec.specs.declared.event.Event.{Event}
+use Rattle.st_messages.specs.declared.event.Event.{Event}
 use Rattle.st_rules.specs.declared.observation.Observation.{Observation}
 use Rattle.st_rules.specs.declared.observation.WorldRefusal.{WorldRefusal}
 use Rattle.st_rules.specs.World.{World}

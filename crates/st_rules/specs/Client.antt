@@ -1,5 +1,5 @@
 -- The client machine: from its state, a moment and an input, the state that it leaves and its outputs in order.
-use Rattle.std.specs.Prelude.{ℕ, ◌+◌, Bool, true, false, ◌&&◌, not, ◌==◌, nat_le, if◌then◌else◌, List, [], ◌∷◌, ◌++◌, length, find, filter, map, Option, Some, None, is_some, option_map, ⊤}
+use Rattle.std.specs.Prelude.{ℕ, ◌+◌, Bool, true, false, ◌&&◌, not, ◌==◌, nat_le, if◌then◌else◌, List, [], ◌∷◌, ◌++◌, length, find, filter, map, Option, Some, None, is_some, option_map, Result, Ok, Err, ⊤}
 use Rattle.std.specs.List.{list_any}
 use Rattle.st_base.specs.declared.ids.ClientId.{ClientId}
 use Rattle.st_base.specs.declared.ids.ServerId.{ServerId}
@@ -8,12 +8,13 @@ use Rattle.st_base.specs.declared.ids.FileId.{FileId}
 use Rattle.st_base.specs.declared.ids.Stamp.{Stamp}
 use Rattle.st_base.specs.declared.config.Config.{Config}
 use Rattle.st_base.specs.declared.disk.Tag.{Tag}
-use Rattle.st_codec.specs.declared.ask.Ask.{Ask}
-use Rattle.st_codec.specs.declared.ask.Ask.TheVariants as asks
-use Rattle.st_codec.specs.declared.answer.AppAnswer.{AppAnswer}
-use Rattle.st_codec.specs.declared.answer.AppAnswer.TheVariants as answers
-use Rattle.st_codec.specs.declared.output.Output.TheVariants as outputs
-use Rattle.st_codec.specs.declared.output.Note.TheVariants as notes
+use Rattle.st_messages.specs.declared.ask.Ask.{Ask}
+use Rattle.st_messages.specs.declared.ask.Ask.TheVariants as asks
+use Rattle.st_messages.specs.declared.answer.AppAnswer.{AppAnswer}
+use Rattle.st_messages.specs.declared.answer.AppAnswer.TheVariants as answers
+use Rattle.st_messages.specs.declared.output.Output.{Output}
+use Rattle.st_messages.specs.declared.output.Output.TheVariants as outputs
+use Rattle.st_messages.specs.declared.output.Note.TheVariants as notes
 use Rattle.st_rules.specs.declared.lease.Phase.{Phase}
 use Rattle.st_rules.specs.declared.client.ClientInput.{ClientInput}
 use Rattle.st_rules.specs.declared.client.ClientInput.TheVariants.{Tick, App, Control, Done}
@@ -23,6 +24,8 @@ use Rattle.st_rules.specs.declared.client.IoKind.{IoKind}
 use Rattle.st_rules.specs.declared.client.IoKind.TheVariants.{Read, Write}
 use Rattle.st_rules.specs.declared.client.Operation.{Operation}
 use Rattle.st_rules.specs.declared.client.PageCommand.{PageCommand}
+use Rattle.st_rules.specs.declared.node.StepRefusal.{StepRefusal}
+use Rattle.st_rules.specs.declared.node.StepRefusal.TheVariants.{Crashed}
 use Rattle.st_rules.specs.Extents.{numbers}
 use Rattle.st_rules.specs.ClientLease as lease
 use Rattle.st_rules.specs.ClientPages as pages
@@ -129,7 +132,8 @@ is_configured c s = list_any (is_at s) c.associations
 
 -- an ask for which there is a place
 unfoldable pub app_known : ClientTurn → ℕ → Ask → ClientTurn
-app_known t op ask = if is_configured t.state (server_of ask) then at_each (only_at (server_of ask) (take_ask op ask)) t else answered_at_once t op answers.NoFile
+app_known t op ask =
+    if is_configured t.state (server_of ask) then at_each (only_at (server_of ask) (take_ask op ask)) t else answered_at_once t op answers.NoFile
 
 -- no more operations may be pending
 abbrev pub is_full : ClientState → Bool
@@ -187,12 +191,12 @@ failed_as t c Read = answer_each (waits_for_read t c) (answers.DiskFault c.numbe
 failed_as t c (Write version) = answer_each (waits_for_write t c) (answers.DiskFault c.number) (mark_failed t c version)
 
 -- by how the command ended
-unfoldable pub ended_as : Turn → PageCommand → Option (Tag × List ℕ) → Ended → Turn
-ended_as t c block Unknown = t
-ended_as t c block Filled = filled_by t c block
-ended_as t c block Hard = hardened t c
-ended_as t c block Redirty = t
-ended_as t c block Failed = failed_as t c c.kind
+unfoldable pub finish_as : Turn → PageCommand → Option (Tag × List ℕ) → Ended → Turn
+finish_as t c block Unknown = t
+finish_as t c block Filled = filled_by t c block
+finish_as t c block Hard = hardened t c
+finish_as t c block Redirty = t
+finish_as t c block Failed = failed_as t c c.kind
 
 -- it is outstanding no more
 abbrev pub with_commands : List PageCommand → Turn → Turn
@@ -200,11 +204,11 @@ with_commands cs t = with_store (record t.here.store { commands = cs }) t
 
 -- the command's end
 unfoldable pub ended_by : Turn → PageCommand → Option (Tag × List ℕ) → pages.CommandEnd → Turn
-ended_by t c block e = ended_as (with_commands e.commands t) c block e.ended
+ended_by t c block e = finish_as (with_commands e.commands t) c block e.ended
 
 -- done, with what was found, or failed
-unfoldable pub end_command : Turn → PageCommand → Bool → Option (Tag × List ℕ) → Turn
-end_command t c ok block = ended_by t c block (pages.end_command t.here.store.commands c.number ok (pages.version_of t.here.store.pages c.ino c.page))
+unfoldable pub finish_command : Turn → PageCommand → Bool → Option (Tag × List ℕ) → Turn
+finish_command t c ok block = ended_by t c block (pages.end_command t.here.store.commands c.number ok (pages.version_of t.here.store.pages c.ino c.page))
 
 -- a read finds a block, and a write finds none
 abbrev pub is_result_of : IoKind → Option (Tag × List ℕ) → Bool
@@ -213,11 +217,11 @@ is_result_of (Write version) block = not (is_some block)
 
 -- a result of the command's kind
 unfoldable pub done_by : Turn → PageCommand → Option (Tag × List ℕ) → Turn
-done_by t c block = if is_result_of c.kind block then end_command t c true block else t
+done_by t c block = if is_result_of c.kind block then finish_command t c true block else t
 
 -- failed, or done
 unfoldable pub finish_by : Turn → PageCommand → Option (Option (Tag × List ℕ)) → Turn
-finish_by t c None = end_command t c false None
+finish_by t c None = finish_command t c false None
 finish_by t c (Some block) = done_by t c block
 
 -- where the command is outstanding
@@ -283,6 +287,36 @@ started_association a = association_of (next_life a.life) a.server
 unfoldable pub start : ClientState → ClientState
 start c = record c { associations = map started_association c.associations; operations = []; next_command = 1 }
 
+-- A node: its machine, and whether it runs.
+pub record ClientNode : Type 0 where
+  pub state : ClientState
+  pub running : Bool
+
+-- Fresh: a client that was never started before, and that runs.
+abbrev pub fresh_node : ClientId → Config → ℕ → ClientNode
+fresh_node id k servers = record { state = fresh_client id k servers; running = true }
+
+-- Crash: it runs no more.
+abbrev pub crash_node : ClientNode → ClientNode
+crash_node n = record { state = crash n.state; running = false }
+
+-- Start: it runs, in its next life at every server.
+abbrev pub start_node : ClientNode → ClientNode
+start_node n = record { state = start n.state; running = true }
+
+-- a node's step: the node that it leaves, and the outputs in order
+pub record NodeTurn : Type 0 where
+  pub node : ClientNode
+  pub out : List Output
+
+-- what a step of its machine leaves of a node
+abbrev pub node_turn : ClientNode → ClientTurn → NodeTurn
+node_turn n t = record { node = record n { state = t.state }; out = t.out }
+
+-- Step: a node that does not run takes none.
+unfoldable pub node_step : ClientNode → Stamp → ClientInput → Result NodeTurn StepRefusal
+node_step n now input = if n.running then Ok (node_turn n (client_step n.state now input)) else Err Crashed
+
 -- What a client tells of itself, for each server.
 
 -- its association with a server
@@ -338,5 +372,5 @@ lives c = map life_of_association c.associations
 
 -- opens all of this file and of the parts
 unfoldable pub client_open : ⊤
-unfolding client_replies_open client_passes_open numbers tell_lost end_sync end_unsent end_operation end_each end_operations lose_session lose_over lose_by lose losses pend take_sync take_by take_ask app_known app filled_by hardened mark_failed failed_as ended_as ended_by end_command done_by finish_by finish_at finish done take_input work client_step fresh_client crash start
+unfolding client_replies_open client_passes_open numbers tell_lost end_sync end_unsent end_operation end_each end_operations lose_session lose_over lose_by lose losses pend take_sync take_by take_ask app_known app filled_by hardened mark_failed failed_as finish_as ended_by finish_command done_by finish_by finish_at finish done take_input work client_step fresh_client crash start node_step
 client_open = tt

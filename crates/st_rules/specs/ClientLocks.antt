@@ -10,7 +10,7 @@ use Rattle.st_rules.specs.declared.client.SeenGrant.{SeenGrant}
 use Rattle.st_rules.specs.declared.client.DemandedFile.{DemandedFile}
 use Rattle.st_rules.specs.declared.client.Asked.{Asked}
 use Rattle.st_rules.specs.declared.client.Asked.TheVariants.{Reduce, NotHeld, Stale}
-use Rattle.st_rules.specs.Keys.{rising, keys_open}
+use Rattle.st_rules.specs.Keys.{put, rising, keys_open}
 
 -- The lock cache: the held locks, the greatest grant seen of each file, and the demanded files.
 pub record LockCache : Type 0 where
@@ -109,15 +109,19 @@ all_locks c = filter_map (lock_row_at c) (rising (map ino_of_lock c.rows))
 
 -- a lock in place of the file's lock
 abbrev pub with_lock : HeldLock → List HeldLock → List HeldLock
-with_lock l rows = filter (λ r. not (is_lock_on l.ino r)) rows ++ l ∷ []
+with_lock l rows = put (is_lock_on l.ino) l rows
 
 -- the locks but for the file's
 abbrev pub without_lock : ℕ → List HeldLock → List HeldLock
 without_lock ino rows = filter (λ r. not (is_lock_on ino r)) rows
 
+-- a grant that was seen of a file
+abbrev pub seen_grant : ℕ → GrantNo → SeenGrant
+seen_grant ino g = record { ino = ino; g = g }
+
 -- the greatest grant seen of a file is this one
 abbrev pub with_seen : ℕ → GrantNo → List SeenGrant → List SeenGrant
-with_seen ino g seen = filter (λ s. not (is_seen_on ino s)) seen ++ record { ino = ino; g = g } ∷ []
+with_seen ino g seen = put (is_seen_on ino) (seen_grant ino g) seen
 
 -- the demands but for the file's
 abbrev pub without_demand : ℕ → List DemandedFile → List DemandedFile
@@ -145,8 +149,8 @@ unfoldable pub installed : LockCache → ℕ → GrantNo → Mode → LockCache
 installed c ino g mode = record { rows = with_lock (held_lock ino g mode) c.rows; seen = with_seen ino g c.seen; demanded = without_demand ino c.demanded }
 
 -- Installing
-unfoldable pub install : LockCache → ℕ → GrantNo → Mode → LockCache
-install c ino g mode = if is_above_seen c ino g then installed c ino g mode else c
+unfoldable pub install_grant : LockCache → ℕ → GrantNo → Mode → LockCache
+install_grant c ino g mode = if is_above_seen c ino g then installed c ino g mode else c
 
 -- there is a place for the file's lock: it has one already, or fewer than 1,024 files do
 abbrev pub has_place : LockCache → ℕ → Bool
@@ -215,18 +219,18 @@ pub record Reduced : Type 0 where
   pub given : Option (GrantNo × Mode)
 
 -- the lock goes, or is shared
-abbrev pub lowered_rows : List HeldLock → HeldLock → Mode → List HeldLock
-lowered_rows rows l modes.None = without_lock l.ino rows
-lowered_rows rows l to = with_lock (held_lock l.ino l.g modes.S) rows
+abbrev pub lowered_rows : List HeldLock → ℕ → HeldLock → Mode → List HeldLock
+lowered_rows rows ino l modes.None = without_lock ino rows
+lowered_rows rows ino l to = with_lock (held_lock ino l.g modes.S) rows
 
--- the lock is lowered
-unfoldable pub lower : LockCache → HeldLock → Mode → LockCache
-lower c l to = record c { rows = lowered_rows c.rows l to; demanded = without_demand l.ino c.demanded }
+-- the file's lock is lowered
+unfoldable pub lower : LockCache → ℕ → HeldLock → Mode → LockCache
+lower c ino l to = record c { rows = lowered_rows c.rows ino l to; demanded = without_demand ino c.demanded }
 
 -- the lock of a demanded file
 unfoldable pub reduce_lock : LockCache → DemandedFile → Option HeldLock → Reduced
 reduce_lock c d None = record { locks = c; given = None }
-reduce_lock c d (Some l) = record { locks = lower c l d.to; given = Some (l.g, d.to) }
+reduce_lock c d (Some l) = record { locks = lower c d.ino l d.to; given = Some (l.g, d.to) }
 
 -- demanded, or not
 unfoldable pub reduce_at : LockCache → Option DemandedFile → Reduced
@@ -247,5 +251,5 @@ forget_demands c = record c { demanded = [] }
 
 -- opens all of this file
 unfoldable pub client_locks_open : ⊤
-unfolding keys_open all_locks see installed install demand_lock demand_stale demand_unheld demand_held demand_at demand lower reduce_lock reduce_at reduce drop_lock forget_demands
+unfolding keys_open all_locks see installed install_grant demand_lock demand_stale demand_unheld demand_held demand_at demand lower reduce_lock reduce_at reduce drop_lock forget_demands
 client_locks_open = tt

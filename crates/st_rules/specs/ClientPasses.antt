@@ -14,19 +14,19 @@ use Rattle.st_base.specs.Mode.{covers}
 use Rattle.st_base.specs.Page.{filled}
 use Rattle.st_base.specs.declared.names.NameAsk.{NameAsk}
 use Rattle.st_base.specs.declared.names.NameAsk.TheVariants as names
-use Rattle.st_codec.specs.declared.ask.Ask.{Ask}
-use Rattle.st_codec.specs.declared.ask.Ask.TheVariants as asks
-use Rattle.st_codec.specs.declared.answer.AppAnswer.{AppAnswer}
-use Rattle.st_codec.specs.declared.answer.AppAnswer.TheVariants as answers
-use Rattle.st_codec.specs.declared.message.Body.{Body}
-use Rattle.st_codec.specs.declared.message.Body.TheVariants as bodies
-use Rattle.st_codec.specs.declared.message.NameOp.{NameOp}
-use Rattle.st_codec.specs.declared.message.NameOp.TheVariants as ops
-use Rattle.st_codec.specs.declared.output.Note.{Note}
-use Rattle.st_codec.specs.declared.output.Note.TheVariants as notes
-use Rattle.st_codec.specs.declared.output.Output.TheVariants as outputs
+use Rattle.st_messages.specs.declared.ask.Ask.{Ask}
+use Rattle.st_messages.specs.declared.ask.Ask.TheVariants as asks
+use Rattle.st_messages.specs.declared.answer.AppAnswer.{AppAnswer}
+use Rattle.st_messages.specs.declared.answer.AppAnswer.TheVariants as answers
+use Rattle.st_messages.specs.declared.message.Body.{Body}
+use Rattle.st_messages.specs.declared.message.Body.TheVariants as bodies
+use Rattle.st_messages.specs.declared.message.NameOp.{NameOp}
+use Rattle.st_messages.specs.declared.message.NameOp.TheVariants as ops
+use Rattle.st_messages.specs.declared.output.Note.{Note}
+use Rattle.st_messages.specs.declared.output.Note.TheVariants as notes
+use Rattle.st_messages.specs.declared.output.Output.TheVariants as outputs
 use Rattle.st_rules.specs.declared.pages.DirtyPage.{DirtyPage}
-use Rattle.st_rules.specs.declared.client.CacheRefusal.{CacheRefusal}
+use Rattle.st_rules.specs.declared.client.WriteRefusal.{WriteRefusal}
 use Rattle.st_rules.specs.declared.client.HeldLock.{HeldLock}
 use Rattle.st_rules.specs.declared.client.IoKind.{IoKind}
 use Rattle.st_rules.specs.declared.client.IoKind.TheVariants.{Read, Write}
@@ -53,19 +53,24 @@ file t ino = record { server = t.here.server; ino = ino }
 
 -- a command is outstanding
 abbrev pub with_command : ℕ → PageNo → IoKind → Turn → Turn
-with_command ino p kind t = record t { here = record t.here { store = record t.here.store { commands = pages.submit t.here.store.commands t.next_command ino p kind } }; next_command = t.next_command + 1 }
+with_command ino p kind t =
+    record t {
+      here = record t.here { store = record t.here.store { commands = pages.begin_command t.here.store.commands t.next_command ino p kind } };
+      next_command = t.next_command + 1;
+    }
 
 -- a command is submitted
-unfoldable pub submit : Turn → ℕ → PageNo → IoKind → Mapping → Command → Turn
-submit t ino p kind m what = say (with_command ino p kind t) (outputs.Submit t.next_command m.at what)
+unfoldable pub submit_command : Turn → ℕ → PageNo → IoKind → Mapping → Command → Turn
+submit_command t ino p kind m what = say (with_command ino p kind t) (outputs.Submit t.next_command m.at what)
 
 -- a read of a page
 unfoldable pub submit_read : Turn → ℕ → PageNo → Mapping → Turn
-submit_read t ino p m = submit t ino p Read m (commands.Read m.at)
+submit_read t ino p m = submit_command t ino p Read m (commands.Read m.at)
 
 -- a write of a dirty page
 unfoldable pub submit_write : Turn → DirtyPage → Mapping → Turn
-submit_write t d m = submit t d.ino d.page (Write d.version) m (commands.Write m.at (record { file = file t d.ino; page = d.page; birth = m.birth }) d.bytes)
+submit_write t d m =
+    submit_command t d.ino d.page (Write d.version) m (commands.Write m.at (record { file = file t d.ino; page = d.page; birth = m.birth }) d.bytes)
 
 -- Operations, in order; those that are not answered stay pending.
 
@@ -90,7 +95,7 @@ unfoldable pub change : Turn → Operation → FileId → PageNo → Note → Pa
 change t o f p n ps = answer o answers.Written (with_pages_changed ps f.ino p (note t n))
 
 -- or too many other pages are dirty
-unfoldable pub change_by : Turn → Operation → FileId → PageNo → Note → Result Pages CacheRefusal → Turn
+unfoldable pub change_by : Turn → Operation → FileId → PageNo → Note → Result Pages WriteRefusal → Turn
 change_by t o f p n (Ok ps) = change t o f p n ps
 change_by t o f p n (Err r) = answer o answers.DirtyFull t
 
@@ -567,5 +572,5 @@ passes now tick t = requests now tick (greeting now tick (writes now tick (reduc
 
 -- opens all of this file and of the state
 unfoldable pub client_passes_open : ⊤
-unfolding client_state_open submit submit_read submit_write sync quiesce change change_by change_page write fetch_mapped fetch_at fetch patch_bytes patch_at patch read_cached read_known read_uncached read_at read serve_open serve operate_under operate_by operate_on operate operate_each operations reduce_to reduce_given reduce_by reduce_idle reduce reduce_each reductions is_due write_out_at write_out write_due write_page write_each writes_by writes hello greet greeting_by greeting ask ask_again repeat keep_alive want_lock want_map want_block want_cut want_held want_under want_by want_on want_name want_at want asked_by asks_or first_asking ask_for ask_for_or ask_next ask_release ask_by reassert ask_new requests_at requests_under requests_by requests passes
+unfolding client_state_open submit_command submit_read submit_write sync quiesce change change_by change_page write fetch_mapped fetch_at fetch patch_bytes patch_at patch read_cached read_known read_uncached read_at read serve_open serve operate_under operate_by operate_on operate operate_each operations reduce_to reduce_given reduce_by reduce_idle reduce reduce_each reductions is_due write_out_at write_out write_due write_page write_each writes_by writes hello greet greeting_by greeting ask ask_again repeat keep_alive want_lock want_map want_block want_cut want_held want_under want_by want_on want_name want_at want asked_by asks_or first_asking ask_for ask_for_or ask_next ask_release ask_by reassert ask_new requests_at requests_under requests_by requests passes
 client_passes_open = tt

@@ -9,16 +9,16 @@ use Rattle.st_base.specs.declared.mode.Mode.{Mode}
 use Rattle.st_base.specs.declared.mode.Mode.TheVariants as modes
 use Rattle.st_base.specs.Mode.{covers}
 use Rattle.st_base.specs.declared.rows.ExtentRow.{ExtentRow}
-use Rattle.st_codec.specs.declared.answer.AppAnswer.{AppAnswer}
-use Rattle.st_codec.specs.declared.answer.AppAnswer.TheVariants as answers
-use Rattle.st_codec.specs.declared.message.Header.{Header}
-use Rattle.st_codec.specs.declared.message.Body.{Body}
-use Rattle.st_codec.specs.declared.message.Body.TheVariants as bodies
-use Rattle.st_codec.specs.declared.message.NameReply.{NameReply}
-use Rattle.st_codec.specs.declared.message.NameReply.TheVariants.{Ino, Listed, Refused}
-use Rattle.st_codec.specs.declared.message.Why.{Why}
-use Rattle.st_codec.specs.declared.message.Why.TheVariants as why
-use Rattle.st_codec.specs.declared.output.Note.TheVariants as notes
+use Rattle.st_messages.specs.declared.answer.AppAnswer.{AppAnswer}
+use Rattle.st_messages.specs.declared.answer.AppAnswer.TheVariants as answers
+use Rattle.st_messages.specs.declared.message.Header.{Header}
+use Rattle.st_messages.specs.declared.message.Body.{Body}
+use Rattle.st_messages.specs.declared.message.Body.TheVariants as bodies
+use Rattle.st_messages.specs.declared.message.NameReply.{NameReply}
+use Rattle.st_messages.specs.declared.message.NameReply.TheVariants.{Ino, Listed, Refused}
+use Rattle.st_messages.specs.declared.message.Why.{Why}
+use Rattle.st_messages.specs.declared.message.Why.TheVariants as why
+use Rattle.st_messages.specs.declared.output.Note.TheVariants as notes
 use Rattle.st_rules.specs.declared.client.Request.{Request}
 use Rattle.st_rules.specs.declared.client.LockWait.{LockWait}
 use Rattle.st_rules.specs.declared.client.HeldLock.{HeldLock}
@@ -32,12 +32,22 @@ use Rattle.st_rules.specs.ClientLocks as locks
 use Rattle.st_rules.specs.ClientLocks.{LockCache}
 use Rattle.st_rules.specs.ClientPages as pages
 use Rattle.st_rules.specs.ClientPages.{Store}
-use Rattle.st_rules.specs.ClientState.{ClientSession, Turn, ClientTurn, no_requests, is_request_of, with_session, with_store, with_operations, with_lease, with_cache, with_release, without_request, note, send, at_each, is_asked, is_on, is_sync, changes_page, at_stage, answer_each, forget_wait, with_wait, is_release, is_releasing, reasserts, is_refusal, asks_cut_or_remove, fits, file_asked, page_asked, server_node, client_state_open}
+use Rattle.st_rules.specs.ClientState.{ClientSession, Turn, ClientTurn, no_requests, is_request_of, with_session, with_store, with_operations, with_lease, with_cache, with_release, without_request, note, send, at_each, is_asked, is_on, is_sync, changes_page, at_stage, answer_each, forget_wait, with_wait, is_release, is_releasing, reasserts, is_refusal, asks_cut_or_remove, fits, file_asked, page_asked, client_state_open}
+use Rattle.st_rules.specs.Keys.{server_node}
 
 -- Welcome: a session begins in the message's epoch; its lease has the message's stamp, which is that of the greeting.
 abbrev pub new_session : Epoch → Stamp → ClientSession
 new_session epoch stamp =
-    record { epoch = epoch; lease = lease.new_lease stamp; requests = no_requests; cutting = None; due = false; locks = locks.no_cached_locks; waits = []; releases = [] }
+    record {
+      epoch = epoch;
+      lease = lease.new_lease stamp;
+      requests = no_requests;
+      cutting = None;
+      due = false;
+      locks = locks.no_cached_locks;
+      waits = [];
+      releases = [];
+    }
 
 -- an association whose session begins
 abbrev pub begin_here : ClientSession → Turn → Turn
@@ -99,8 +109,8 @@ condemn t s = with_session (with_lease (lease.condemned s.lease) s) t
 
 -- Granted: the wait is forgotten. A grant above the greatest seen is the greatest seen; it is installed where there is a
 -- place for it, and else declined: its release goes last.
-unfoldable pub install : ClientSession → ℕ → GrantNo → Mode → ClientSession
-install s ino g mode = with_cache (locks.installed s.locks ino g mode) s
+unfoldable pub accept_grant : ClientSession → ℕ → GrantNo → Mode → ClientSession
+accept_grant s ino g mode = with_cache (locks.installed s.locks ino g mode) s
 
 -- the grant is given back
 unfoldable pub decline : ClientSession → ℕ → GrantNo → ClientSession
@@ -108,7 +118,7 @@ decline s ino g = with_release ino g modes.None (with_cache (locks.see s.locks i
 
 -- a grant above the greatest seen
 unfoldable pub grant_new : ClientSession → ℕ → GrantNo → Mode → ClientSession
-grant_new s ino g mode = if locks.has_place s.locks ino then install s ino g mode else decline s ino g
+grant_new s ino g mode = if locks.has_place s.locks ino then accept_grant s ino g mode else decline s ino g
 
 -- by what was seen
 unfoldable pub grant : ClientSession → ℕ → GrantNo → Mode → ClientSession
@@ -184,18 +194,18 @@ name_answer (Listed rows) = answers.Listed rows
 name_answer (Refused code) = answers.Refused code
 
 -- the lock goes
-unfoldable pub drop_lock : Turn → ClientSession → HeldLock → Turn
-drop_lock t s l = with_session (with_release l.ino l.g modes.None (with_cache (locks.drop_lock s.locks l.ino) s)) t
+unfoldable pub drop_lock : Turn → ClientSession → ℕ → HeldLock → Turn
+drop_lock t s ino l = with_session (with_release ino l.g modes.None (with_cache (locks.drop_lock s.locks ino) s)) t
 
 -- where the lock is held
-unfoldable pub drop_held : Turn → ClientSession → Option HeldLock → Turn
-drop_held t s None = t
-drop_held t s (Some l) = drop_lock t s l
+unfoldable pub drop_held : Turn → ClientSession → ℕ → Option HeldLock → Turn
+drop_held t s ino None = t
+drop_held t s ino (Some l) = drop_lock t s ino l
 
 -- the file that was removed, if one was
 unfoldable pub removed : Turn → ClientSession → Option ℕ → Turn
 removed t s None = t
-removed t s (Some ino) = drop_held t s (locks.lock_of s.locks ino)
+removed t s (Some ino) = drop_held t s ino (locks.lock_of s.locks ino)
 
 -- by the reply
 unfoldable pub named_as : Turn → ClientSession → Option ℕ → NameReply → Turn
@@ -386,5 +396,5 @@ receive t now h body = if h.to == t.state.id.0 then receive_here t now h body el
 
 -- opens all of this file and of the state
 unfoldable pub client_replies_open : ⊤
-unfolding client_state_open note_lease begin_session welcome without_session follow_epoch newer_epoch of_other_epoch condemn install decline grant_new grant granted wait_told wait_unless_held queued learn extents acknowledged drop_lock drop_held removed named_as named reasserted refuse_file refuse_page refuse_holder refuse_as leave_stuck refused effect note_renewal end_request reply_to count_reply by_request counted reply_of grant_or_reply release_unheld see_demand demand_as demand_by demand of_epoch with_a_session by_session hear receive_here receive send
+unfolding client_state_open note_lease begin_session welcome without_session follow_epoch newer_epoch of_other_epoch condemn accept_grant decline grant_new grant granted wait_told wait_unless_held queued learn extents acknowledged drop_lock drop_held removed named_as named reasserted refuse_file refuse_page refuse_holder refuse_as leave_stuck refused effect note_renewal end_request reply_to count_reply by_request counted reply_of grant_or_reply release_unheld see_demand demand_as demand_by demand of_epoch with_a_session by_session hear receive_here receive send
 client_replies_open = tt

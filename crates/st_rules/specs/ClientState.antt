@@ -14,17 +14,17 @@ use Rattle.st_base.specs.declared.mode.Mode.{Mode}
 use Rattle.st_base.specs.Mode.{number_of}
 use Rattle.st_base.specs.declared.names.NameAsk.{NameAsk}
 use Rattle.st_base.specs.declared.names.NameAsk.TheVariants as names
-use Rattle.st_codec.specs.declared.ask.Ask.{Ask}
-use Rattle.st_codec.specs.declared.ask.Ask.TheVariants as asks
-use Rattle.st_codec.specs.declared.answer.AppAnswer.{AppAnswer}
-use Rattle.st_codec.specs.declared.message.Header.{Header}
-use Rattle.st_codec.specs.declared.message.Body.{Body}
-use Rattle.st_codec.specs.declared.message.Body.TheVariants as bodies
-use Rattle.st_codec.specs.declared.message.NameOp.{NameOp}
-use Rattle.st_codec.specs.declared.message.NameOp.TheVariants as ops
-use Rattle.st_codec.specs.declared.output.Note.{Note}
-use Rattle.st_codec.specs.declared.output.Output.{Output}
-use Rattle.st_codec.specs.declared.output.Output.TheVariants as outputs
+use Rattle.st_messages.specs.declared.ask.Ask.{Ask}
+use Rattle.st_messages.specs.declared.ask.Ask.TheVariants as asks
+use Rattle.st_messages.specs.declared.answer.AppAnswer.{AppAnswer}
+use Rattle.st_messages.specs.declared.message.Header.{Header}
+use Rattle.st_messages.specs.declared.message.Body.{Body}
+use Rattle.st_messages.specs.declared.message.Body.TheVariants as bodies
+use Rattle.st_messages.specs.declared.message.NameOp.{NameOp}
+use Rattle.st_messages.specs.declared.message.NameOp.TheVariants as ops
+use Rattle.st_messages.specs.declared.output.Note.{Note}
+use Rattle.st_messages.specs.declared.output.Output.{Output}
+use Rattle.st_messages.specs.declared.output.Output.TheVariants as outputs
 use Rattle.st_rules.specs.declared.client.Request.{Request}
 use Rattle.st_rules.specs.declared.client.Release.{Release}
 use Rattle.st_rules.specs.declared.client.LockWait.{LockWait}
@@ -32,7 +32,7 @@ use Rattle.st_rules.specs.declared.client.LostPage.{LostPage}
 use Rattle.st_rules.specs.declared.client.Operation.{Operation}
 use Rattle.st_rules.specs.declared.client.Stage.{Stage}
 use Rattle.st_rules.specs.declared.client.Stage.TheVariants.{Unsent, Sent, Stuck}
-use Rattle.st_rules.specs.Keys.{same_server, same_page}
+use Rattle.st_rules.specs.Keys.{same_server, same_page, server_node}
 use Rattle.st_rules.specs.ClientLease.{ClientLease, standing_of, may_use, client_lease_open}
 use Rattle.st_rules.specs.ClientLocks.{LockCache, is_demanded, client_locks_open}
 use Rattle.st_rules.specs.ClientPages.{Store, client_pages_open}
@@ -123,7 +123,11 @@ enter t a = record { id = t.state.id; config = t.state.config; here = a; operati
 
 -- an association that a rule left goes last
 abbrev pub leave : ClientTurn → Turn → ClientTurn
-leave t r = record { state = record t.state { associations = t.state.associations ++ r.here ∷ []; operations = r.operations; next_command = r.next_command }; out = r.out }
+leave t r =
+    record {
+      state = record t.state { associations = t.state.associations ++ r.here ∷ []; operations = r.operations; next_command = r.next_command };
+      out = r.out;
+    }
 
 -- the rule at these associations, in order
 unfoldable pub at_these : (Turn → Turn) → List Association → ClientTurn → ClientTurn
@@ -197,10 +201,6 @@ note t n = say t (outputs.Note n)
 -- one more answer
 abbrev pub answered : Turn → ℕ → AppAnswer → Turn
 answered t op answer = say t (outputs.Answer op answer)
-
--- the number of a server as a node
-abbrev pub server_node : ServerId → ℕ
-server_node s = 32768 + s.0
 
 -- what stands in front of a message to the server
 abbrev pub header_of : Turn → ℕ → ℕ → ℕ → Header
@@ -308,7 +308,8 @@ answer_to answer o = outputs.Answer o.op answer
 
 -- Answering
 unfoldable pub answer_each : (Operation → Bool) → AppAnswer → Turn → Turn
-answer_each picked answer t = record t { operations = filter (λ o. not (picked o)) t.operations; out = t.out ++ map (answer_to answer) (filter picked t.operations) }
+answer_each picked answer t =
+    record t { operations = filter (λ o. not (picked o)) t.operations; out = t.out ++ map (answer_to answer) (filter picked t.operations) }
 
 -- an operation stays pending, behind those so far
 abbrev pub keep : Operation → Turn → Turn

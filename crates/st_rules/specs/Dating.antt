@@ -6,22 +6,18 @@ use Rattle.st_base.specs.declared.ids.ServerId.{ServerId}
 use Rattle.st_base.specs.declared.ids.Life.{Life}
 use Rattle.st_base.specs.declared.ids.Stamp.{Stamp}
 use Rattle.st_base.specs.declared.ids.NodeId.TheVariants as nodes
-use Rattle.st_codec.specs.declared.message.Message.{Message}
-use Rattle.st_codec.specs.declared.message.Header.{Header}
-use Rattle.st_codec.specs.declared.message.Body.{Body}
-use Rattle.st_codec.specs.declared.message.Body.TheVariants as bodies
-use Rattle.st_codec.specs.declared.message.Why.{Why}
-use Rattle.st_codec.specs.declared.message.Why.TheVariants as why
+use Rattle.st_messages.specs.declared.message.Message.{Message}
+use Rattle.st_messages.specs.declared.message.Header.{Header}
+use Rattle.st_messages.specs.declared.message.Body.{Body}
+use Rattle.st_messages.specs.declared.message.Body.TheVariants as bodies
+use Rattle.st_messages.specs.declared.message.Why.{Why}
+use Rattle.st_messages.specs.declared.message.Why.TheVariants as why
 use Rattle.st_rules.specs.declared.observation.Observation.{Observation}
 use Rattle.st_rules.specs.declared.observation.Observation.TheVariants as seen
 use Rattle.st_rules.specs.declared.world.SentMessage.{SentMessage}
-use Rattle.st_rules.specs.Keys.{same_client, same_server}
+use Rattle.st_rules.specs.Keys.{same_client, same_server, server_node}
 use Rattle.st_rules.specs.World.{World, clock_of}
 use Rattle.st_rules.specs.History.{Traced, History, TimerStart}
-
--- the number of a server as a node
-abbrev pub server_number : ServerId → ℕ
-server_number s = 32768 + s.0
 
 -- a request: what a client sends but a seen demand
 abbrev pub is_request : Body → Bool
@@ -30,7 +26,7 @@ is_request body = true
 
 -- from a client to a server
 abbrev pub is_between : ClientId → ServerId → Header → Bool
-is_between c s h = (h.from == c.0) && (h.to == server_number s)
+is_between c s h = (h.from == c.0) && (h.to == server_node s)
 
 -- of a life, and with this stamp
 abbrev pub is_stamped : Life → Stamp → Header → Bool

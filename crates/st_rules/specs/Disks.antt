@@ -1,5 +1,5 @@
 -- Disks: blocks with their tags, and the commands that read and write them.
-use Rattle.std.specs.Prelude.{ℕ, pred, zero, suc, Bool, true, false, not, ◌&&◌, if◌then◌else◌, List, [], ◌∷◌, ◌++◌, find, filter, set, slice_get, Option, Some, None, unwrap_or, Result, Ok, Err, ⊤}
+use Rattle.std.specs.Prelude.{ℕ, pred, zero, suc, Bool, true, false, not, ◌&&◌, if◌then◌else◌, List, [], ◌∷◌, ◌++◌, find, set, slice_get, Option, Some, None, unwrap_or, Result, Ok, Err, ⊤}
 use Rattle.st_base.specs.declared.disk.BlockAt.{BlockAt}
 use Rattle.st_base.specs.declared.disk.Tag.{Tag}
 use Rattle.st_base.specs.declared.disk.Command.{Command}
@@ -9,9 +9,9 @@ use Rattle.st_rules.specs.declared.disks.Block.{Block}
 use Rattle.st_rules.specs.declared.disks.Report.{Report}
 use Rattle.st_rules.specs.declared.disks.Report.TheVariants as reports
 use Rattle.st_rules.specs.declared.disks.DiskCommand.{DiskCommand}
-use Rattle.st_rules.specs.declared.disks.DiskRefusal.{DiskRefusal}
-use Rattle.st_rules.specs.declared.disks.DiskRefusal.TheVariants.{NoCommand, Twice, NotEffected, Reported}
-use Rattle.st_rules.specs.Keys.{same_block}
+use Rattle.st_rules.specs.declared.disks.CommandRefusal.{CommandRefusal}
+use Rattle.st_rules.specs.declared.disks.CommandRefusal.TheVariants.{NoCommand, Twice, NotEffected, Reported}
+use Rattle.st_rules.specs.Keys.{same_block, put, keys_open}
 
 -- The disks: how many there are, the blocks of each, the blocks that were written, and the commands in order of
 -- submission.
@@ -43,7 +43,7 @@ block d at = unwrap_or (find (is_block_at at) d.written) (fresh_block at)
 
 -- the disks with this block in its place
 abbrev pub with_block : Block → Disks → Disks
-with_block b d = record d { written = filter (λ x. not (is_block_at b.at x)) d.written ++ b ∷ [] }
+with_block b d = record d { written = put (is_block_at b.at) b d.written }
 
 -- Submit: the command is the last one, and its number is their count.
 abbrev pub new_command : Command → DiskCommand
@@ -81,21 +81,21 @@ effect_of d n c (Read at) = with_command n (sampled (block d at) c) d
 effect_of d n c (Write at tag bytes) = with_block (record { at = at; tag = tag; bytes = bytes }) (with_command n (effected c) d)
 
 -- a command has its effect once
-unfoldable pub effect_once : Disks → ℕ → DiskCommand → Result Disks DiskRefusal
+unfoldable pub effect_once : Disks → ℕ → DiskCommand → Result Disks CommandRefusal
 effect_once d n c = if c.effected then Err (Twice n) else Ok (effect_of d n c c.what)
 
 -- a command that was reported has no further effect
-unfoldable pub effect_reported : Disks → ℕ → DiskCommand → Report → Result Disks DiskRefusal
+unfoldable pub effect_reported : Disks → ℕ → DiskCommand → Report → Result Disks CommandRefusal
 effect_reported d n c reports.Open = effect_once d n c
 effect_reported d n c report = Err (Reported n)
 
 -- the effect of a command, where there is one
-unfoldable pub effect_at : Disks → ℕ → Option DiskCommand → Result Disks DiskRefusal
+unfoldable pub effect_at : Disks → ℕ → Option DiskCommand → Result Disks CommandRefusal
 effect_at d n None = Err (NoCommand n)
 effect_at d n (Some c) = effect_reported d n c c.report
 
 -- Effect of the command of a number
-unfoldable pub effect : Disks → ℕ → Result Disks DiskRefusal
+unfoldable pub effect : Disks → ℕ → Result Disks CommandRefusal
 effect d n = effect_at d n (command d n)
 
 -- Report: it ends a command. Success wants its effect; a command that is reported failed may have had it.
@@ -112,21 +112,21 @@ abbrev pub lacks_effect : Bool → DiskCommand → Bool
 lacks_effect ok c = ok && not c.effected
 
 -- success wants the effect
-unfoldable pub done_once : Disks → ℕ → Bool → DiskCommand → Result Disks DiskRefusal
+unfoldable pub done_once : Disks → ℕ → Bool → DiskCommand → Result Disks CommandRefusal
 done_once d n ok c = if lacks_effect ok c then Err (NotEffected n) else Ok (with_command n (reported ok c) d)
 
 -- a command is reported once
-unfoldable pub done_unreported : Disks → ℕ → Bool → DiskCommand → Report → Result Disks DiskRefusal
+unfoldable pub done_unreported : Disks → ℕ → Bool → DiskCommand → Report → Result Disks CommandRefusal
 done_unreported d n ok c reports.Open = done_once d n ok c
 done_unreported d n ok c report = Err (Twice n)
 
 -- the report of a command, where there is one
-unfoldable pub done_at : Disks → ℕ → Bool → Option DiskCommand → Result Disks DiskRefusal
+unfoldable pub done_at : Disks → ℕ → Bool → Option DiskCommand → Result Disks CommandRefusal
 done_at d n ok None = Err (NoCommand n)
 done_at d n ok (Some c) = done_unreported d n ok c c.report
 
 -- Report of the command of a number
-unfoldable pub done : Disks → ℕ → Bool → Result Disks DiskRefusal
+unfoldable pub done : Disks → ℕ → Bool → Result Disks CommandRefusal
 done d n ok = done_at d n ok (command d n)
 
 -- Sample: the block that a read found.
@@ -140,5 +140,5 @@ sample d n = sample_of (command d n)
 
 -- opens all of this file
 unfoldable pub disks_open : ⊤
-unfolding effect_of effect_once effect_reported effect_at effect done_once done_unreported done_at done
+unfolding keys_open effect_of effect_once effect_reported effect_at effect done_once done_unreported done_at done
 disks_open = tt

@@ -13,17 +13,17 @@ use Rattle.st_base.specs.declared.disk.BlockAt.{BlockAt}
 use Rattle.st_base.specs.declared.disk.Tag.{Tag}
 use Rattle.st_base.specs.declared.disk.Command.{Command}
 use Rattle.st_base.specs.declared.disk.Command.TheVariants as commands
-use Rattle.st_codec.specs.declared.ask.Ask.{Ask}
-use Rattle.st_codec.specs.declared.answer.AppAnswer.{AppAnswer}
-use Rattle.st_codec.specs.declared.answer.AppAnswer.TheVariants as answers
-use Rattle.st_codec.specs.declared.message.Message.{Message}
-use Rattle.st_codec.specs.declared.output.Note.{Note}
-use Rattle.st_codec.specs.declared.output.Note.TheVariants as notes
-use Rattle.st_codec.specs.declared.output.Output.{Output}
-use Rattle.st_codec.specs.declared.output.Output.TheVariants as outputs
-use Rattle.st_codec.specs.declared.event.Event.{Event}
-use Rattle.st_codec.specs.declared.event.Event.TheVariants as events
-use Rattle.st_codec.specs.Sizes.{size_of}
+use Rattle.st_messages.specs.declared.ask.Ask.{Ask}
+use Rattle.st_messages.specs.declared.answer.AppAnswer.{AppAnswer}
+use Rattle.st_messages.specs.declared.answer.AppAnswer.TheVariants as answers
+use Rattle.st_messages.specs.declared.message.Message.{Message}
+use Rattle.st_messages.specs.declared.output.Note.{Note}
+use Rattle.st_messages.specs.declared.output.Note.TheVariants as notes
+use Rattle.st_messages.specs.declared.output.Output.{Output}
+use Rattle.st_messages.specs.declared.output.Output.TheVariants as outputs
+use Rattle.st_messages.specs.declared.event.Event.{Event}
+use Rattle.st_messages.specs.declared.event.Event.TheVariants as events
+use Rattle.st_messages.specs.Sizes.{size_of}
 use Rattle.st_rules.specs.declared.lease.Phase.{Phase}
 use Rattle.st_rules.specs.declared.lease.Phase.TheVariants as phases
 use Rattle.st_rules.specs.declared.input.ServerInput.{ServerInput}
@@ -32,7 +32,8 @@ use Rattle.st_rules.specs.declared.client.ClientInput.{ClientInput}
 use Rattle.st_rules.specs.declared.client.ClientInput.TheVariants as inputs
 use Rattle.st_rules.specs.declared.disks.Block.{Block}
 use Rattle.st_rules.specs.declared.disks.DiskCommand.{DiskCommand}
-use Rattle.st_rules.specs.declared.disks.DiskRefusal.{DiskRefusal}
+use Rattle.st_rules.specs.declared.disks.CommandRefusal.{CommandRefusal}
+use Rattle.st_rules.specs.declared.node.StepRefusal.{StepRefusal}
 use Rattle.st_rules.specs.declared.log.Cause.{Cause}
 use Rattle.st_rules.specs.declared.log.Cause.TheVariants as causes
 use Rattle.st_rules.specs.declared.log.Change.{Change}
@@ -50,15 +51,17 @@ use Rattle.st_rules.specs.declared.world.Carried.{Carried}
 use Rattle.st_rules.specs.declared.world.IssuedCommand.{IssuedCommand}
 use Rattle.st_rules.specs.declared.world.LeaseLife.{LeaseLife}
 use Rattle.st_rules.specs.declared.world.FlushStep.{FlushStep}
-use Rattle.st_rules.specs.Keys.{same_file, same_page}
+use Rattle.st_rules.specs.Keys.{same_file, same_page, put}
 use Rattle.st_rules.specs.Leases.{drift_after}
 use Rattle.st_rules.specs.Disks as disks
 use Rattle.st_rules.specs.Disks.{Disks}
 use Rattle.st_rules.specs.FlatLog as log
 use Rattle.st_rules.specs.Server as server
+use Rattle.st_rules.specs.Server.{ServerNode}
 use Rattle.st_rules.specs.Client as client
-use Rattle.st_rules.specs.ClientState.{ClientState, ClientTurn}
-use Rattle.st_rules.specs.World.{World, ClientSite, ServerNode, with_numbered, site_of, node_of, clock_of, message_of, receiver_of, issued_of, server_of_disk, owner_carried, lives_of, life_with, is_flush_of, all_servers, world_open}
+use Rattle.st_rules.specs.Client.{ClientNode}
+use Rattle.st_rules.specs.ClientState.{ClientState}
+use Rattle.st_rules.specs.World.{World, ClientSite, with_numbered, site_of, node_of, clock_of, message_of, receiver_of, issued_of, server_of_disk, owner_carried, lives_of, life_with, is_flush_of, all_servers, world_open}
 use Rattle.st_rules.specs.Admissible.{is_link, is_open, reaches, step_of, refusal, admissible_open}
 
 -- A step so far: the world, and what was observed, in order.
@@ -84,9 +87,9 @@ with_site c site w = record w { clients = with_numbered c.0 site w.clients }
 abbrev pub with_node : ServerId → ServerNode → World → World
 with_node s node w = record w { servers = with_numbered s.0 node w.servers }
 
--- a client with this state
-abbrev pub in_state : ClientState → ClientSite → ClientSite
-in_state s site = record site { node = record site.node { state = s } }
+-- a client with this node
+abbrev pub at_node : ClientNode → ClientSite → ClientSite
+at_node n site = record site { node = n }
 
 -- one more event
 abbrev pub counted : World → World
@@ -128,7 +131,15 @@ carries w c (commands.Write at tag bytes) = Some (carried w c tag)
 
 -- a client's command, under its own number
 abbrev pub issued : World → ClientId → ClientSite → ℕ → BlockAt → Command → IssuedCommand
-issued w c site number at what = record { client = c; number = number; starts = site.starts; server = server_of_disk w at; life = life_with site.node.state (server_of_disk w at); carries = carries w c what }
+issued w c site number at what =
+    record {
+      client = c;
+      number = number;
+      starts = site.starts;
+      server = server_of_disk w at;
+      life = life_with site.node.state (server_of_disk w at);
+      carries = carries w c what;
+    }
 
 -- with this command
 abbrev pub with_command : IssuedCommand → Command → World → World
@@ -137,7 +148,8 @@ with_command c what w = record w { disks = disks.submit w.disks what; commands =
 -- Submitting
 unfoldable pub submits : Scene → ClientId → Option ClientSite → ℕ → BlockAt → Command → Scene
 submits sc c None number at what = sc
-submits sc c (Some site) number at what = see (with_command (issued sc.world c site number at what) what sc.world) sc (seen.Submitted (length sc.world.commands + 1) c number what)
+submits sc c (Some site) number at what =
+    see (with_command (issued sc.world c site number at what) what sc.world) sc (seen.Submitted (length sc.world.commands + 1) c number what)
 
 -- Answering: reads are counted.
 abbrev pub reads_in : AppAnswer → ℕ
@@ -169,11 +181,16 @@ with_log es w = record w { log = es }
 
 -- an accepted write
 unfoldable pub accepts : Scene → ClientId → FileId → PageNo → List ℕ → Scene
-accepts sc c f p bytes = see (with_log (log.accept sc.world.log c (present_life sc.world c f.server) f p bytes) sc.world) sc (seen.Wrote (length sc.world.log + 1) c f p bytes)
+accepts sc c f p bytes =
+    see (with_log (log.accept sc.world.log c (present_life sc.world c f.server) f p bytes) sc.world) sc (seen.Wrote (length sc.world.log + 1) c f p bytes)
 
 -- an accepted patch
 unfoldable pub patches : Scene → ClientId → FileId → PageNo → ℕ → List ℕ → Scene
-patches sc c f p at bytes = see (with_log (log.patch sc.world.log c (present_life sc.world c f.server) f p at bytes) sc.world) sc (seen.Patched (length sc.world.log + 1) c f p at bytes)
+patches sc c f p at bytes =
+    see
+    (with_log (log.patch sc.world.log c (present_life sc.world c f.server) f p at bytes) sc.world)
+    sc
+    (seen.Patched (length sc.world.log + 1) c f p at bytes)
 
 -- a life that is over
 abbrev pub life_over : ClientId → ServerId → Life → Option Stamp → LeaseLife
@@ -213,7 +230,7 @@ flush_step c s end = record { client = c; server = s; end = end }
 
 -- with this flush step in place of an older one
 abbrev pub with_flush_step : FlushStep → World → World
-with_flush_step x w = record w { flushed = filter (λ y. not (is_flush_of x.client x.server y)) w.flushed ++ x ∷ [] }
+with_flush_step x w = record w { flushed = put (is_flush_of x.client x.server) x w.flushed }
 
 -- under a lease end, where there is one
 abbrev pub flushed_under : World → ClientId → ServerId → Option Stamp → World
@@ -238,17 +255,18 @@ flushes c state (s ∷ ss) w = flushes c state ss (flushed_at w c s state)
 abbrev pub with_flushes : ClientId → ClientState → Scene → Scene
 with_flushes c state sc = scene (flushes c state (all_servers sc.world) sc.world) sc.seen
 
--- A step of a client.
-unfoldable pub client_took : World → ClientId → ClientSite → ClientTurn → Scene
-client_took w c site t = with_flushes c t.state (client_says_all c site.node.state t.out (scene (with_site c (in_state t.state site) w) []))
-
--- a client takes an input at its clock
-unfoldable pub client_takes : World → ClientId → ClientInput → ClientSite → Scene
-client_takes w c input site = client_took w c site (client.client_step site.node.state (clock_of w (nodes.Client c)) input)
-
 -- nothing is observed
 abbrev pub quiet : World → Scene
 quiet w = scene w []
+
+-- A step of a client. One that does not run takes none.
+unfoldable pub client_took : World → ClientId → ClientSite → Result client.NodeTurn StepRefusal → Scene
+client_took w c site (Ok t) = with_flushes c t.node.state (client_says_all c site.node.state t.out (quiet (with_site c (at_node t.node site) w)))
+client_took w c site (Err r) = quiet w
+
+-- a client takes an input at its clock
+unfoldable pub client_takes : World → ClientId → ClientInput → ClientSite → Scene
+client_takes w c input site = client_took w c site (client.node_step site.node (clock_of w (nodes.Client c)) input)
 
 -- a client that is there takes an input
 unfoldable pub at_client : World → ClientId → ClientInput → Option ClientSite → Scene
@@ -281,13 +299,14 @@ unfoldable pub server_says_all : ServerId → List Output → Scene → Scene
 server_says_all s [] sc = sc
 server_says_all s (o ∷ os) sc = server_says_all s os (server_says sc s o)
 
--- a server's step
-unfoldable pub server_took : World → ServerId → ServerNode → server.Turn → Scene
-server_took w s node t = server_says_all s t.out (quiet (with_node s (record node { state = t.state }) w))
+-- a server's step; one that does not run takes none
+unfoldable pub server_took : World → ServerId → Result server.NodeTurn StepRefusal → Scene
+server_took w s (Ok t) = server_says_all s t.out (quiet (with_node s t.node w))
+server_took w s (Err r) = quiet w
 
 -- a server takes an input at its clock
 unfoldable pub server_takes : World → ServerId → ServerInput → ServerNode → Scene
-server_takes w s input node = server_took w s node (server.server_step node.state (clock_of w (nodes.Server s)) input)
+server_takes w s input node = server_took w s (server.node_step node (clock_of w (nodes.Server s)) input)
 
 -- a server that is there takes an input
 unfoldable pub at_server : World → ServerId → ServerInput → Option ServerNode → Scene
@@ -353,7 +372,7 @@ marks w new = scene (with_log new w) (fates_from 1 w.log new)
 
 -- Effect: of the disks' command; a write makes the entry that it carries hard, and the earlier pending ones of the same
 -- client, life, file and page.
-abbrev pub disks_after : Disks → Result Disks DiskRefusal → Disks
+abbrev pub disks_after : Disks → Result Disks CommandRefusal → Disks
 disks_after old (Ok d) = d
 disks_after old (Err r) = old
 
@@ -514,21 +533,17 @@ with_crashed_lives site w = record w { ended = w.ended ++ map crashed_life (live
 
 -- a client that stopped
 abbrev pub stopped_site : ClientSite → ClientSite
-stopped_site site = record site { node = record { state = client.crash site.node.state; running = false } }
+stopped_site site = record site { node = client.crash_node site.node }
 
 -- a client that is there crashes
 unfoldable pub crashes_client : World → ClientId → Option ClientSite → Scene
 crashes_client w c None = quiet w
 crashes_client w c (Some site) = marks (with_site c (stopped_site site) (with_crashed_lives site w)) (log_crashed w c)
 
--- a server that stopped
-abbrev pub stopped_node : ServerNode → ServerNode
-stopped_node node = record { state = server.crash node.state; running = false }
-
 -- a server that is there crashes
 unfoldable pub crashes_server : World → ServerId → Option ServerNode → World
 crashes_server w s None = w
-crashes_server w s (Some node) = with_node s (stopped_node node) w
+crashes_server w s (Some node) = with_node s (server.crash_node node) w
 
 -- Crash
 unfoldable pub crashes : World → NodeId → Scene
@@ -537,11 +552,7 @@ crashes w (nodes.Server s) = quiet (crashes_server w s (node_of w s))
 
 -- Start: a client begins its next life at every server; a server begins its next epoch, in grace.
 abbrev pub started_site : ClientSite → ClientSite
-started_site site = record { node = record { state = client.start site.node.state; running = true }; asks = site.asks; starts = site.starts + 1 }
-
--- a server that starts at a moment
-abbrev pub started_node : Stamp → ServerNode → ServerNode
-started_node now node = record { state = server.start node.state now; running = true }
+started_site site = record { node = client.start_node site.node; asks = site.asks; starts = site.starts + 1 }
 
 -- a client that is there starts
 unfoldable pub starts_client : World → ClientId → Option ClientSite → World
@@ -551,7 +562,7 @@ starts_client w c (Some site) = with_site c (started_site site) w
 -- a server that is there starts
 unfoldable pub starts_server : World → ServerId → Option ServerNode → World
 starts_server w s None = w
-starts_server w s (Some node) = with_node s (started_node (clock_of w (nodes.Server s)) node) w
+starts_server w s (Some node) = with_node s (server.start_node node (clock_of w (nodes.Server s))) w
 
 -- Start
 unfoldable pub starts : World → NodeId → World
@@ -606,7 +617,17 @@ is_gone e = not (log.counts e.fate)
 
 -- Summary
 unfoldable pub summary : World → Summary
-summary w = record { events = w.tally.events; sent = length w.net.messages; commands = length w.commands; writes = length (filter is_change w.log); reads = w.tally.reads; hard = length (filter is_hard w.log); gone = length (filter is_gone w.log); stolen = w.tally.stolen }
+summary w =
+    record {
+      events = w.tally.events;
+      sent = length w.net.messages;
+      commands = length w.commands;
+      writes = length (filter is_change w.log);
+      reads = w.tally.reads;
+      hard = length (filter is_hard w.log);
+      gone = length (filter is_gone w.log);
+      stolen = w.tally.stolen;
+    }
 
 -- opens all of this file and of those below it
 unfoldable pub events_open : ⊤

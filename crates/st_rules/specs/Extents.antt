@@ -7,8 +7,8 @@ use Rattle.st_base.specs.declared.ids.PageNo.{PageNo}
 use Rattle.st_base.specs.declared.disk.BlockAt.{BlockAt}
 use Rattle.st_base.specs.declared.rows.ExtentRow.{ExtentRow}
 use Rattle.st_rules.specs.declared.extents.Extent.{Extent}
-use Rattle.st_rules.specs.declared.extents.ExtentRefusal.{ExtentRefusal}
-use Rattle.st_rules.specs.declared.extents.ExtentRefusal.TheVariants.{NoSpace}
+use Rattle.st_rules.specs.declared.extents.AllocateRefusal.{AllocateRefusal}
+use Rattle.st_rules.specs.declared.extents.AllocateRefusal.TheVariants.{NoSpace}
 use Rattle.st_rules.specs.Keys.{same_file, same_page, same_block, page_no}
 
 -- The extents of a server: the counts of the world's servers, disks and blocks, the mapped pages, and how many births
@@ -102,7 +102,7 @@ unfoldable pub place_pages : FileId → List PageNo → Extents → Extents
 place_pages f [] x = x
 place_pages f (p ∷ ps) x = place_pages f ps (place_on x f p (free_blocks x))
 
--- so many pages from a page on
+-- this number of pages from a page on
 abbrev pub pages_from : PageNo → ℕ → List PageNo
 pages_from p count = map page_no (numbers p.0 count)
 
@@ -111,11 +111,11 @@ abbrev pub unmapped : Extents → FileId → PageNo → ℕ → List PageNo
 unmapped x f p count = filter (λ q. not (is_mapped x f q)) (pages_from p count)
 
 -- all of these pages are mapped, or none
-unfoldable pub allocate_pages : Extents → FileId → List PageNo → Result Extents ExtentRefusal
+unfoldable pub allocate_pages : Extents → FileId → List PageNo → Result Extents AllocateRefusal
 allocate_pages x f ps = if nat_le (length ps) (free x) then Ok (place_pages f ps x) else Err (NoSpace (free x) (length ps))
 
 -- Allocate: the unmapped pages of a range
-unfoldable pub allocate : Extents → FileId → PageNo → ℕ → Result Extents ExtentRefusal
+unfoldable pub allocate : Extents → FileId → PageNo → ℕ → Result Extents AllocateRefusal
 allocate x f p count = allocate_pages x f (unmapped x f p count)
 
 -- Release: every page of the file from there on is unmapped, and its block is free.

@@ -10,8 +10,8 @@ use Rattle.st_base.specs.declared.ids.Stamp.{Stamp}
 use Rattle.st_base.specs.declared.ids.NodeId.TheVariants as nodes
 use Rattle.st_base.specs.declared.mode.Mode.TheVariants as modes
 use Rattle.st_base.specs.Mode.{covers}
-use Rattle.st_codec.specs.declared.event.Event.{Event}
-use Rattle.st_codec.specs.declared.event.Event.TheVariants as events
+use Rattle.st_messages.specs.declared.event.Event.{Event}
+use Rattle.st_messages.specs.declared.event.Event.TheVariants as events
 use Rattle.st_rules.specs.declared.client.HeldLock.{HeldLock}
 use Rattle.st_rules.specs.declared.locks.LockRow.{LockRow}
 use Rattle.st_rules.specs.declared.observation.Observation.{Observation}
@@ -21,7 +21,8 @@ use Rattle.st_rules.specs.Keys.{same_client, same_server}
 use Rattle.st_rules.specs.ClientLocks.{is_lock_on}
 use Rattle.st_rules.specs.ClientState.{ClientSession, Association}
 use Rattle.st_rules.specs.Client.{association_with}
-use Rattle.st_rules.specs.World.{World, ClientSite, ServerNode, site_of, node_of}
+use Rattle.st_rules.specs.Server.{ServerNode}
+use Rattle.st_rules.specs.World.{World, ClientSite, site_of, node_of}
 use Rattle.st_rules.specs.Events.{Scene, world_step, present_life}
 use Rattle.st_rules.specs.Run.{Run, run}
 

@@ -42,7 +42,8 @@ gain node advances = sum_by (λ steps. slice_index steps node) advances
 
 -- the advances of a run are in bound
 pub record IsInBound (k : Config) (nodes : ℕ) (advances : List (List ℕ)) : Type 0 where
-  pub over : (before during after : List (List ℕ)) → advances ≡ before ++ (during ++ after) → (m n : ℕ) → m < nodes → n < nodes → k.den * gain m during ≤ k.num * gain n during + k.den * k.grain
+  pub over : (before during after : List (List ℕ)) → advances ≡ before ++ (during ++ after) → (m n : ℕ) → m < nodes → n < nodes →
+      k.den * gain m during ≤ k.num * gain n during + k.den * k.grain
 
 -- Drift: for each pair of nodes one number, the greatest value of den * D(m) - num * D(n) over all intervals of advances
 -- that end with the last one, or 0. The numbers of a node m stand in one row, by n.
@@ -108,7 +109,8 @@ drift_step drift steps num den grain = drift_judged (drift_after drift steps num
 -- every advance was accepted, from these numbers on
 abbrev pub AllAccepted : Config → List (List ℕ) → List (List ℕ) → Type 0
 AllAccepted k drift [] = ⊤
-AllAccepted k drift (steps ∷ rest) = (drift_step drift steps k.num k.den k.grain ≡ Ok (drift_after drift steps k.num k.den)) × AllAccepted k (drift_after drift steps k.num k.den) rest
+AllAccepted k drift (steps ∷ rest) =
+    (drift_step drift steps k.num k.den k.grain ≡ Ok (drift_after drift steps k.num k.den)) × AllAccepted k (drift_after drift steps k.num k.den) rest
 
 -- every advance has one increment per node
 abbrev pub AllFull : ℕ → List (List ℕ) → Type 0
@@ -117,11 +119,13 @@ AllFull nodes (steps ∷ rest) = (length steps ≡ nodes) × AllFull nodes rest
 
 -- a run whose advances are all accepted is in bound
 abbrev pub AcceptedIsInBound : Type 0
-AcceptedIsInBound = (k : Config) (nodes : ℕ) (advances : List (List ℕ)) → AllFull nodes advances → AllAccepted k (no_drift nodes) advances → IsInBound k nodes advances
+AcceptedIsInBound =
+    (k : Config) (nodes : ℕ) (advances : List (List ℕ)) → AllFull nodes advances → AllAccepted k (no_drift nodes) advances → IsInBound k nodes advances
 
 -- all advances of a run in bound are accepted
 abbrev pub InBoundIsAccepted : Type 0
-InBoundIsAccepted = (k : Config) (nodes : ℕ) (advances : List (List ℕ)) → AllFull nodes advances → IsInBound k nodes advances → AllAccepted k (no_drift nodes) advances
+InBoundIsAccepted =
+    (k : Config) (nodes : ℕ) (advances : List (List ℕ)) → AllFull nodes advances → IsInBound k nodes advances → AllAccepted k (no_drift nodes) advances
 
 -- each advance of a run is in bound
 abbrev pub AllRated : Config → List (List ℕ) → Type 0
@@ -139,7 +143,9 @@ AllRunning (steps ∷ rest) = (list_all (nat_le 1) steps ≡ true) × AllRunning
 
 -- without a grain, a run in bound whose increments are all at least 1 has each of its advances in bound
 abbrev pub InBoundIsRated : Type 0
-InBoundIsRated = (k : Config) (nodes : ℕ) (advances : List (List ℕ)) → k.grain ≡ 0 → AllFull nodes advances → AllRunning advances → IsInBound k nodes advances → AllRated k advances
+InBoundIsRated =
+    (k : Config) (nodes : ℕ) (advances : List (List ℕ)) → k.grain ≡ 0 → AllFull nodes advances → AllRunning advances →
+    IsInBound k nodes advances → AllRated k advances
 
 -- The phase of a lease: by the age of its date, and whether it was condemned.
 unfoldable pub phase_young : Config → Stamp → Stamp → Phase

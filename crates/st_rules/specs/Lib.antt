@@ -20,6 +20,9 @@ pub mod Rules
 pub mod World
 pub mod Admissible
 pub mod Events
+pub mod ServerInvariants
+pub mod ClientInvariants
+pub mod WorldInvariants
 pub mod Run
 pub mod History
 pub mod Report

@@ -3,9 +3,9 @@ use Rattle.std.specs.Prelude.{ℕ, zero, suc, ◌+◌, Bool, true, false, ◌&&�
 use Rattle.std.specs.List.{list_any, list_all}
 use Rattle.std.specs.Option.{option_or}
 use Rattle.st_base.specs.declared.names.NameRow.{NameRow}
-use Rattle.st_base.specs.declared.names.NameRefusal.{NameRefusal}
-use Rattle.st_base.specs.declared.names.NameRefusal.TheVariants.{NoEntry, Exists, NotDir, IsDir, NotEmpty, Cycle, BadName, TooMany, Memory}
 use Rattle.st_rules.specs.declared.names.NameEntry.{NameEntry}
+use Rattle.st_rules.specs.declared.names.EntryRefusal.{EntryRefusal}
+use Rattle.st_rules.specs.declared.names.EntryRefusal.TheVariants.{NoEntry, Exists, NotDir, IsDir, NotEmpty, Cycle, BadName, TooMany}
 
 -- The names of a server: the entries of all directories, and the next inode number. Each inode but the root has one
 -- entry, so an inode lives as long as its entry.
@@ -84,35 +84,35 @@ unfoldable pub is_good : List ℕ → Bool
 is_good name = is_between 1 64 (length name) && (list_all is_name_byte name && not (is_dots name))
 
 -- A place: a directory and a name in it are refused in this order: no inode; no directory; no good name.
-abbrev pub kind_refusal : Option Bool → Option NameRefusal
+abbrev pub kind_refusal : Option Bool → Option EntryRefusal
 kind_refusal None = Some NoEntry
 kind_refusal (Some false) = Some NotDir
 kind_refusal (Some true) = None
 
 -- refused as a directory
-abbrev pub dir_refusal : Names → ℕ → Option NameRefusal
+abbrev pub dir_refusal : Names → ℕ → Option EntryRefusal
 dir_refusal n dir = kind_refusal (kind_of n dir)
 
 -- refused as a name
-abbrev pub name_refusal : List ℕ → Option NameRefusal
+abbrev pub name_refusal : List ℕ → Option EntryRefusal
 name_refusal name = if is_good name then None else Some BadName
 
 -- refused as a directory and a name in it
-unfoldable pub place_refusal : Names → ℕ → List ℕ → Option NameRefusal
+unfoldable pub place_refusal : Names → ℕ → List ℕ → Option EntryRefusal
 place_refusal n dir name = option_or (dir_refusal n dir) (name_refusal name)
 
 -- Look up: the inode of an entry.
-abbrev pub ino_of : Option NameEntry → Result ℕ NameRefusal
+abbrev pub ino_of : Option NameEntry → Result ℕ EntryRefusal
 ino_of None = Err NoEntry
 ino_of (Some e) = Ok e.ino
 
 -- where the place is not refused
-unfoldable pub lookup_at : Names → ℕ → List ℕ → Option NameRefusal → Result ℕ NameRefusal
+unfoldable pub lookup_at : Names → ℕ → List ℕ → Option EntryRefusal → Result ℕ EntryRefusal
 lookup_at n dir name (Some r) = Err r
 lookup_at n dir name None = ino_of (entry_at n dir name)
 
 -- Look up: the inode of a name in a directory
-unfoldable pub lookup : Names → ℕ → List ℕ → Result ℕ NameRefusal
+unfoldable pub lookup : Names → ℕ → List ℕ → Result ℕ EntryRefusal
 lookup n dir name = lookup_at n dir name (place_refusal n dir name)
 
 -- Create, and make a directory: the entry must be new, and at 4,096 live inodes there is no room. Inode numbers rise by 1 and are
@@ -130,28 +130,28 @@ unfoldable pub added : Names → ℕ → List ℕ → Bool → Changed
 added n dir name directory = record { names = record { entries = n.entries ++ new_entry n dir name directory ∷ []; next = n.next + 1 }; ino = n.next }
 
 -- where there is room
-unfoldable pub add_new : Names → ℕ → List ℕ → Bool → Result Changed NameRefusal
+unfoldable pub add_new : Names → ℕ → List ℕ → Bool → Result Changed EntryRefusal
 add_new n dir name directory = if nat_lt (live_inodes n) 4096 then Ok (added n dir name directory) else Err TooMany
 
 -- where the name is new
-unfoldable pub add_beside : Names → ℕ → List ℕ → Bool → Result Changed NameRefusal
+unfoldable pub add_beside : Names → ℕ → List ℕ → Bool → Result Changed EntryRefusal
 add_beside n dir name directory = if is_some (entry_at n dir name) then Err Exists else add_new n dir name directory
 
 -- where the place is not refused
-unfoldable pub add_at : Names → ℕ → List ℕ → Bool → Option NameRefusal → Result Changed NameRefusal
+unfoldable pub add_at : Names → ℕ → List ℕ → Bool → Option EntryRefusal → Result Changed EntryRefusal
 add_at n dir name directory (Some r) = Err r
 add_at n dir name directory None = add_beside n dir name directory
 
 -- a file or a directory is added
-unfoldable pub add : Names → ℕ → List ℕ → Bool → Result Changed NameRefusal
+unfoldable pub add : Names → ℕ → List ℕ → Bool → Result Changed EntryRefusal
 add n dir name directory = add_at n dir name directory (place_refusal n dir name)
 
 -- Create: a file
-unfoldable pub create : Names → ℕ → List ℕ → Result Changed NameRefusal
+unfoldable pub create : Names → ℕ → List ℕ → Result Changed EntryRefusal
 create n dir name = add n dir name false
 
 -- Make a directory
-unfoldable pub mkdir : Names → ℕ → List ℕ → Result Changed NameRefusal
+unfoldable pub mkdir : Names → ℕ → List ℕ → Result Changed EntryRefusal
 mkdir n dir name = add n dir name true
 
 -- Remove: the entry goes; a directory must be empty.
@@ -163,21 +163,21 @@ abbrev pub is_full : Names → NameEntry → Bool
 is_full n e = e.directory && has_entries n e.ino
 
 -- where a directory is empty
-unfoldable pub remove_entry : Names → ℕ → List ℕ → NameEntry → Result Changed NameRefusal
+unfoldable pub remove_entry : Names → ℕ → List ℕ → NameEntry → Result Changed EntryRefusal
 remove_entry n dir name e = if is_full n e then Err NotEmpty else Ok (without n dir name e)
 
 -- where the entry is there
-unfoldable pub remove_found : Names → ℕ → List ℕ → Option NameEntry → Result Changed NameRefusal
+unfoldable pub remove_found : Names → ℕ → List ℕ → Option NameEntry → Result Changed EntryRefusal
 remove_found n dir name None = Err NoEntry
 remove_found n dir name (Some e) = remove_entry n dir name e
 
 -- where the place is not refused
-unfoldable pub remove_at : Names → ℕ → List ℕ → Option NameRefusal → Result Changed NameRefusal
+unfoldable pub remove_at : Names → ℕ → List ℕ → Option EntryRefusal → Result Changed EntryRefusal
 remove_at n dir name (Some r) = Err r
 remove_at n dir name None = remove_found n dir name (entry_at n dir name)
 
 -- Remove: the entry of a name in a directory
-unfoldable pub remove : Names → ℕ → List ℕ → Result Changed NameRefusal
+unfoldable pub remove : Names → ℕ → List ℕ → Result Changed EntryRefusal
 remove n dir name = remove_at n dir name (place_refusal n dir name)
 
 -- Rename: the same refusals of both places; the wanted entry is missing; the new entry is there, also where it is the
@@ -186,7 +186,7 @@ abbrev pub climb : (ℕ → Bool) → Option NameEntry → Bool
 climb go_on None = false
 climb go_on (Some e) = go_on e.dir
 
--- a directory is another one or lies under it; it climbs at most so many steps
+-- a directory is another one or lies under it; it climbs at most this number of steps
 unfoldable pub is_under_in : Names → ℕ → ℕ → ℕ → Bool
 is_under_in n top zero dir = dir == top
 is_under_in n top (suc steps) dir = (dir == top) || climb (is_under_in n top steps) (entry_of_ino n dir)
@@ -212,25 +212,25 @@ abbrev pub comes_under_itself : Names → ℕ → NameEntry → Bool
 comes_under_itself n dir2 e = e.directory && is_under n e.ino dir2
 
 -- where no directory comes under itself
-unfoldable pub rename_free : Names → ℕ → List ℕ → ℕ → List ℕ → NameEntry → Result Changed NameRefusal
+unfoldable pub rename_free : Names → ℕ → List ℕ → ℕ → List ℕ → NameEntry → Result Changed EntryRefusal
 rename_free n dir name dir2 name2 e = if comes_under_itself n dir2 e then Err Cycle else Ok (renamed n dir name dir2 name2 e)
 
 -- where the new name is free
-unfoldable pub rename_entry : Names → ℕ → List ℕ → ℕ → List ℕ → NameEntry → Result Changed NameRefusal
+unfoldable pub rename_entry : Names → ℕ → List ℕ → ℕ → List ℕ → NameEntry → Result Changed EntryRefusal
 rename_entry n dir name dir2 name2 e = if is_some (entry_at n dir2 name2) then Err Exists else rename_free n dir name dir2 name2 e
 
 -- where the entry is there
-unfoldable pub rename_found : Names → ℕ → List ℕ → ℕ → List ℕ → Option NameEntry → Result Changed NameRefusal
+unfoldable pub rename_found : Names → ℕ → List ℕ → ℕ → List ℕ → Option NameEntry → Result Changed EntryRefusal
 rename_found n dir name dir2 name2 None = Err NoEntry
 rename_found n dir name dir2 name2 (Some e) = rename_entry n dir name dir2 name2 e
 
 -- where neither place is refused
-unfoldable pub rename_at : Names → ℕ → List ℕ → ℕ → List ℕ → Option NameRefusal → Result Changed NameRefusal
+unfoldable pub rename_at : Names → ℕ → List ℕ → ℕ → List ℕ → Option EntryRefusal → Result Changed EntryRefusal
 rename_at n dir name dir2 name2 (Some r) = Err r
 rename_at n dir name dir2 name2 None = rename_found n dir name dir2 name2 (entry_at n dir name)
 
 -- Rename: the entry of a name, to another name
-unfoldable pub rename : Names → ℕ → List ℕ → ℕ → List ℕ → Result Changed NameRefusal
+unfoldable pub rename : Names → ℕ → List ℕ → ℕ → List ℕ → Result Changed EntryRefusal
 rename n dir name dir2 name2 = rename_at n dir name dir2 name2 (option_or (place_refusal n dir name) (place_refusal n dir2 name2))
 
 -- List: the first 256 entries of a directory whose names are above the given one in the order of bytes, in rising order.
@@ -267,16 +267,16 @@ abbrev pub is_listed : ℕ → List ℕ → NameEntry → Bool
 is_listed dir after e = is_in dir e && name_below after e.name
 
 -- where the directory is not refused
-unfoldable pub list_at : Names → ℕ → List ℕ → Option NameRefusal → Result (List NameRow) NameRefusal
+unfoldable pub list_at : Names → ℕ → List ℕ → Option EntryRefusal → Result (List NameRow) EntryRefusal
 list_at n dir after (Some r) = Err r
 list_at n dir after None = Ok (take 256 (by_name (map name_row (filter (is_listed dir after) n.entries))))
 
 -- List: the entries of a directory above a name
-unfoldable pub list : Names → ℕ → List ℕ → Result (List NameRow) NameRefusal
+unfoldable pub list : Names → ℕ → List ℕ → Result (List NameRow) EntryRefusal
 list n dir after = list_at n dir after (dir_refusal n dir)
 
 -- The number of a refusal.
-abbrev pub code_of : NameRefusal → ℕ
+abbrev pub code_of : EntryRefusal → ℕ
 code_of NoEntry = 1
 code_of Exists = 2
 code_of NotDir = 3
@@ -285,7 +285,6 @@ code_of NotEmpty = 5
 code_of Cycle = 6
 code_of BadName = 7
 code_of TooMany = 8
-code_of Memory = 0
 
 -- opens all of this file
 unfoldable pub names_open : ⊤

@@ -17,17 +17,17 @@ use Rattle.st_base.specs.declared.rows.ExtentRow.{ExtentRow}
 use Rattle.st_base.specs.declared.ids.GrantNo.{GrantNo}
 use Rattle.st_base.specs.declared.mode.Mode.{Mode}
 use Rattle.st_base.specs.declared.rows.LostRow.{LostRow}
-use Rattle.st_codec.specs.declared.answer.AppAnswer.{AppAnswer}
-use Rattle.st_codec.specs.declared.answer.AppAnswer.TheVariants as answers
-use Rattle.st_codec.specs.declared.message.Message.{Message}
-use Rattle.st_codec.specs.declared.message.Body.{Body}
-use Rattle.st_codec.specs.declared.message.Body.TheVariants as bodies
-use Rattle.st_codec.specs.declared.message.Why.{Why}
-use Rattle.st_codec.specs.declared.message.Why.TheVariants as why
-use Rattle.st_codec.specs.declared.message.NameOp.{NameOp}
-use Rattle.st_codec.specs.declared.message.NameOp.TheVariants as ops
-use Rattle.st_codec.specs.declared.message.NameReply.{NameReply}
-use Rattle.st_codec.specs.declared.message.NameReply.TheVariants as replies
+use Rattle.st_messages.specs.declared.answer.AppAnswer.{AppAnswer}
+use Rattle.st_messages.specs.declared.answer.AppAnswer.TheVariants as answers
+use Rattle.st_messages.specs.declared.message.Message.{Message}
+use Rattle.st_messages.specs.declared.message.Body.{Body}
+use Rattle.st_messages.specs.declared.message.Body.TheVariants as bodies
+use Rattle.st_messages.specs.declared.message.Why.{Why}
+use Rattle.st_messages.specs.declared.message.Why.TheVariants as why
+use Rattle.st_messages.specs.declared.message.NameOp.{NameOp}
+use Rattle.st_messages.specs.declared.message.NameOp.TheVariants as ops
+use Rattle.st_messages.specs.declared.message.NameReply.{NameReply}
+use Rattle.st_messages.specs.declared.message.NameReply.TheVariants as replies
 use Rattle.st_rules.specs.declared.log.Cause.{Cause}
 use Rattle.st_rules.specs.declared.log.Cause.TheVariants as causes
 use Rattle.st_rules.specs.declared.observation.Observation.{Observation}
@@ -70,7 +70,7 @@ name bytes = 32 ∷ bytes
 abbrev pub one_run : ℕ → ℕ → List ℕ
 one_run count byte = decimal count ++ codes "x" ++ decimal byte
 
--- the runs, where so many bytes of the first one were passed
+-- the runs, where this number of bytes of the first one was counted already
 abbrev pub runs_from : ℕ → ℕ → List ℕ → List ℕ
 runs_from count byte [] = one_run count byte
 runs_from count byte (b ∷ bytes) =

@@ -13,35 +13,37 @@ use Rattle.st_base.specs.declared.mode.Mode.{Mode}
 use Rattle.st_base.specs.declared.mode.Mode.TheVariants as modes
 use Rattle.st_base.specs.Mode.{covers}
 use Rattle.st_base.specs.declared.names.NameRow.{NameRow}
-use Rattle.st_base.specs.declared.names.NameRefusal.{NameRefusal}
-use Rattle.st_base.specs.declared.names.NameRefusal.TheVariants.{IsDir}
-use Rattle.st_codec.specs.declared.message.Header.{Header}
-use Rattle.st_codec.specs.declared.message.Body.{Body}
-use Rattle.st_codec.specs.declared.message.Body.TheVariants as bodies
-use Rattle.st_codec.specs.declared.message.Why.TheVariants as why
-use Rattle.st_codec.specs.declared.message.NameOp.{NameOp}
-use Rattle.st_codec.specs.declared.message.NameOp.TheVariants.{Lookup, Create, Mkdir, Remove, Rename, List as ListFrom}
-use Rattle.st_codec.specs.declared.message.NameReply.TheVariants.{Ino, Listed, Refused}
-use Rattle.st_codec.specs.declared.output.Note.{Note}
-use Rattle.st_codec.specs.declared.output.Note.TheVariants as notes
-use Rattle.st_codec.specs.declared.output.Output.{Output}
-use Rattle.st_codec.specs.declared.output.Output.TheVariants as outputs
+use Rattle.st_messages.specs.declared.message.Header.{Header}
+use Rattle.st_messages.specs.declared.message.Body.{Body}
+use Rattle.st_messages.specs.declared.message.Body.TheVariants as bodies
+use Rattle.st_messages.specs.declared.message.Why.TheVariants as why
+use Rattle.st_messages.specs.declared.message.NameOp.{NameOp}
+use Rattle.st_messages.specs.declared.message.NameOp.TheVariants.{Lookup, Create, Mkdir, Remove, Rename, List as ListFrom}
+use Rattle.st_messages.specs.declared.message.NameReply.TheVariants.{Ino, Listed, Refused}
+use Rattle.st_messages.specs.declared.output.Note.{Note}
+use Rattle.st_messages.specs.declared.output.Note.TheVariants as notes
+use Rattle.st_messages.specs.declared.output.Output.{Output}
+use Rattle.st_messages.specs.declared.output.Output.TheVariants as outputs
 use Rattle.st_rules.specs.declared.input.ServerInput.{ServerInput}
 use Rattle.st_rules.specs.declared.input.ServerInput.TheVariants.{Tick, Control}
 use Rattle.st_rules.specs.declared.locks.LockRow.{LockRow}
 use Rattle.st_rules.specs.declared.locks.Verdict.{Verdict}
 use Rattle.st_rules.specs.declared.locks.Verdict.TheVariants as verdicts
-use Rattle.st_rules.specs.declared.locks.LockRefusal.{LockRefusal}
+use Rattle.st_rules.specs.declared.locks.AcquireRefusal.{AcquireRefusal}
 use Rattle.st_rules.specs.declared.sessions.Session.{Session}
 use Rattle.st_rules.specs.declared.sessions.Hello.{Hello}
 use Rattle.st_rules.specs.declared.sessions.Hello.TheVariants as hellos
 use Rattle.st_rules.specs.declared.sessions.Taken.{Taken}
 use Rattle.st_rules.specs.declared.sessions.Taken.TheVariants as takes
-use Rattle.st_rules.specs.declared.authority.ReassertRefusal.{ReassertRefusal}
-use Rattle.st_rules.specs.declared.authority.ReassertRefusal.TheVariants as refusals
-use Rattle.st_rules.specs.declared.extents.ExtentRefusal.{ExtentRefusal}
-use Rattle.st_rules.specs.declared.extents.ExtentRefusal.TheVariants as wants
-use Rattle.st_rules.specs.Keys.{client, page_no}
+use Rattle.st_rules.specs.declared.authority.AcceptRefusal.{AcceptRefusal}
+use Rattle.st_rules.specs.declared.authority.AcceptRefusal.TheVariants as refusals
+use Rattle.st_rules.specs.declared.extents.AllocateRefusal.{AllocateRefusal}
+use Rattle.st_rules.specs.declared.extents.AllocateRefusal.TheVariants as wants
+use Rattle.st_rules.specs.declared.names.EntryRefusal.{EntryRefusal}
+use Rattle.st_rules.specs.declared.names.EntryRefusal.TheVariants.{IsDir}
+use Rattle.st_rules.specs.declared.node.StepRefusal.{StepRefusal}
+use Rattle.st_rules.specs.declared.node.StepRefusal.TheVariants.{Crashed}
+use Rattle.st_rules.specs.Keys.{client, page_no, server_node}
 use Rattle.st_rules.specs.Leases as leases
 use Rattle.st_rules.specs.Locks as locks
 use Rattle.st_rules.specs.Locks.{Locks}
@@ -67,7 +69,7 @@ pub record ServerState : Type 0 where
   pub id : ServerId
   pub config : Config
   pub stable : Stable
-  pub grace : Grace
+  pub grace : Option Grace
   pub sessions : Sessions
   pub locks : Locks
   pub authority : Authority
@@ -82,16 +84,16 @@ abbrev pub turn : ServerState → List Output → Turn
 turn s out = record { state = s; out = out }
 
 -- a request's rule: the step so far, and the reply, where there is one
-pub record Answered : Type 0 where
+pub record Replied : Type 0 where
   pub turn : Turn
   pub reply : Option Body
 
 -- a rule with this reply
-abbrev pub answered : Turn → Body → Answered
-answered t body = record { turn = t; reply = Some body }
+abbrev pub replied : Turn → Body → Replied
+replied t body = record { turn = t; reply = Some body }
 
 -- a rule without a reply
-abbrev pub silent : Turn → Answered
+abbrev pub silent : Turn → Replied
 silent t = record { turn = t; reply = None }
 
 -- Changes of one part.
@@ -129,10 +131,6 @@ note t n = say t (outputs.Note n)
 -- one more message
 abbrev pub send : Turn → Header → Body → Turn
 send t header body = say t (outputs.Send (record { header = header; body = body }))
-
--- the number of a server as a node
-abbrev pub server_node : ServerId → ℕ
-server_node s = 32768 + s.0
 
 -- Reply: it has the request's life, number and stamp, and the server's epoch.
 abbrev pub reply_header : ServerState → Header → Header
@@ -200,7 +198,8 @@ thefts t now = steal_each (authority.over t.state.authority now) (with_authority
 
 -- Suspicion: the client's timer starts now, with a note, and its waits are dropped.
 unfoldable pub suspect_client : Turn → Stamp → ClientId → Turn
-suspect_client t now c = with_locks (locks.drop_waits t.state.locks c) (with_authority (authority.suspect t.state.authority c now) (note t (notes.Suspected c now)))
+suspect_client t now c =
+    with_locks (locks.drop_waits t.state.locks c) (with_authority (authority.suspect t.state.authority c now) (note t (notes.Suspected c now)))
 
 -- Refusing a suspect: nothing but a seen demand is passed over without a refusal.
 unfoldable pub refuse_suspect : Turn → Header → Stamp → Body → Turn
@@ -256,14 +255,13 @@ unfoldable pub refuse_epoch : Turn → Header → Turn
 refuse_epoch t h = reply t h (bodies.Nack why.OtherEpoch h.epoch t.state.stable.epoch.0)
 
 -- Reassertion: where the life is new to the sessions it is accepted, or refused by the first refusal. A refusal is not kept.
-abbrev pub refused_reassertion : ReassertRefusal → Body
+abbrev pub refused_reassertion : AcceptRefusal → Body
 refused_reassertion (refusals.GraceOver start now) = bodies.Nack why.GraceOver start.0 now.0
 refused_reassertion (refusals.Conflict ino holder) = bodies.Nack why.Conflict ino holder.0
 refused_reassertion (refusals.NotHolder ino g) = bodies.Nack why.NotHolder ino g.0
-refused_reassertion refusals.Memory = bodies.Nack why.GraceOver 0 0
 
 -- accepted or refused
-unfoldable pub reassert_by : Turn → Header → Result grace.Accepted ReassertRefusal → Turn
+unfoldable pub reassert_by : Turn → Header → Result grace.Accepted AcceptRefusal → Turn
 reassert_by t h (Ok a) = reply (with_sessions a.sessions (with_locks a.locks t)) h bodies.Reasserted
 reassert_by t h (Err r) = reply t h (refused_reassertion r)
 
@@ -285,8 +283,8 @@ unfoldable pub reassert : Turn → Stamp → Header → List (ℕ × GrantNo × 
 reassert t now h rows = if sessions.knows t.state.sessions (sender h) (life_in h) then reassert_again t h (take t h) else reassert_new t now h rows
 
 -- Keep-alive: acknowledged.
-unfoldable pub keep_alive : Turn → Answered
-keep_alive t = answered t bodies.Ack
+unfoldable pub keep_alive : Turn → Replied
+keep_alive t = replied t bodies.Ack
 
 -- Acquire: no file is refused; else as the lock table says.
 abbrev pub verdict_body : ℕ → Mode → Verdict → Body
@@ -294,32 +292,32 @@ verdict_body ino mode (verdicts.Granted g held) = bodies.Granted ino g held
 verdict_body ino mode (verdicts.Queued clients) = bodies.Queued ino mode
 
 -- granted, queued, or too many locks
-unfoldable pub acquire_by : Turn → ℕ → Mode → Result locks.Acquired LockRefusal → Answered
-acquire_by t ino mode (Ok a) = answered (with_locks a.locks t) (verdict_body ino mode a.verdict)
-acquire_by t ino mode (Err r) = answered t (bodies.Nack why.TooManyLocks 1024 0)
+unfoldable pub acquire_by : Turn → ℕ → Mode → Result locks.Acquired AcquireRefusal → Replied
+acquire_by t ino mode (Ok a) = replied (with_locks a.locks t) (verdict_body ino mode a.verdict)
+acquire_by t ino mode (Err r) = replied t (bodies.Nack why.TooManyLocks 1024 0)
 
 -- new locks may be granted
 abbrev pub grants_now : Turn → Stamp → Bool
 grants_now t now = not (in_grace t now)
 
 -- a lock on a file is asked for
-unfoldable pub acquire_lock : Turn → Stamp → Header → ℕ → Mode → Answered
+unfoldable pub acquire_lock : Turn → Stamp → Header → ℕ → Mode → Replied
 acquire_lock t now h ino mode = acquire_by t ino mode (locks.acquire t.state.locks (sender h) (life_in h) ino mode (grants_now t now))
 
 -- no file has this inode
-unfoldable pub no_file : Turn → ℕ → Answered
-no_file t ino = answered t (bodies.Nack why.NoFile ino 0)
+unfoldable pub no_file : Turn → ℕ → Replied
+no_file t ino = replied t (bodies.Nack why.NoFile ino 0)
 
 -- Acquire
-unfoldable pub acquire : Turn → Stamp → Header → ℕ → Mode → Answered
+unfoldable pub acquire : Turn → Stamp → Header → ℕ → Mode → Replied
 acquire t now h ino mode = if is_file t ino then acquire_lock t now h ino mode else no_file t ino
 
 -- Release: as the lock table says, and acknowledged in any case.
-unfoldable pub released_by : Turn → locks.Released → Answered
-released_by t r = answered (with_locks r.locks t) bodies.Ack
+unfoldable pub released_by : Turn → locks.Released → Replied
+released_by t r = replied (with_locks r.locks t) bodies.Ack
 
 -- Release
-unfoldable pub released : Turn → Header → ℕ → GrantNo → Mode → Answered
+unfoldable pub released : Turn → Header → ℕ → GrantNo → Mode → Replied
 released t h ino g to = released_by t (locks.released t.state.locks (sender h) (life_in h) ino g to)
 
 -- Holding a file: the client has a row of the file with that grant number and at least that mode.
@@ -332,49 +330,48 @@ abbrev pub holds : Turn → Header → ℕ → GrantNo → Mode → Bool
 holds t h ino g mode = is_held g mode (locks.row_of t.state.locks (sender h) ino)
 
 -- the client does not hold the file so
-unfoldable pub not_holder : Turn → ℕ → GrantNo → Answered
-not_holder t ino g = answered t (bodies.Nack why.NotHolder ino g.0)
+unfoldable pub not_holder : Turn → ℕ → GrantNo → Replied
+not_holder t ino g = replied t (bodies.Nack why.NotHolder ino g.0)
 
 -- Map: no file, and no lock, are refused; else the page's extent, or none.
 abbrev pub extents_body : Turn → ℕ → PageNo → ℕ → Body
 extents_body t ino page count = bodies.Extents ino (extents.extent_rows t.state.stable.extents (file t ino) page count)
 
 -- the extent of one page is told
-unfoldable pub map_page : Turn → ℕ → PageNo → Answered
-map_page t ino page = answered t (extents_body t ino page 1)
+unfoldable pub map_page : Turn → ℕ → PageNo → Replied
+map_page t ino page = replied t (extents_body t ino page 1)
 
 -- where the client holds the file
-unfoldable pub map_held : Turn → Header → ℕ → GrantNo → PageNo → Answered
+unfoldable pub map_held : Turn → Header → ℕ → GrantNo → PageNo → Replied
 map_held t h ino g page = if holds t h ino g modes.S then map_page t ino page else not_holder t ino g
 
 -- Map
-unfoldable pub map : Turn → Header → ℕ → GrantNo → PageNo → Answered
+unfoldable pub map : Turn → Header → ℕ → GrantNo → PageNo → Replied
 map t h ino g page = if is_file t ino then map_held t h ino g page else no_file t ino
 
 -- Allocate: no file, no exclusive lock, and too few free blocks are refused; else the extents of all pages of the range.
-abbrev pub refused_allocation : ExtentRefusal → Body
+abbrev pub refused_allocation : AllocateRefusal → Body
 refused_allocation (wants.NoSpace free asked) = bodies.Nack why.NoSpace free asked
-refused_allocation wants.Memory = bodies.Nack why.NoSpace 0 0
 
 -- the extents of the range are told
-unfoldable pub with_extents_told : Turn → ℕ → PageNo → ℕ → Answered
-with_extents_told t ino page count = answered t (extents_body t ino page count)
+unfoldable pub with_extents_told : Turn → ℕ → PageNo → ℕ → Replied
+with_extents_told t ino page count = replied t (extents_body t ino page count)
 
 -- allocated, or refused
-unfoldable pub allocate_by : Turn → ℕ → PageNo → ℕ → Result Extents ExtentRefusal → Answered
+unfoldable pub allocate_by : Turn → ℕ → PageNo → ℕ → Result Extents AllocateRefusal → Replied
 allocate_by t ino page count (Ok x) = with_extents_told (with_extents x t) ino page count
-allocate_by t ino page count (Err r) = answered t (refused_allocation r)
+allocate_by t ino page count (Err r) = replied t (refused_allocation r)
 
 -- the range is allocated
-unfoldable pub allocate_pages : Turn → ℕ → PageNo → ℕ → Answered
+unfoldable pub allocate_pages : Turn → ℕ → PageNo → ℕ → Replied
 allocate_pages t ino page count = allocate_by t ino page count (extents.allocate t.state.stable.extents (file t ino) page count)
 
 -- where the client holds the file exclusively
-unfoldable pub allocate_held : Turn → Header → ℕ → GrantNo → PageNo → ℕ → Answered
+unfoldable pub allocate_held : Turn → Header → ℕ → GrantNo → PageNo → ℕ → Replied
 allocate_held t h ino g page count = if holds t h ino g modes.X then allocate_pages t ino page count else not_holder t ino g
 
 -- Allocate
-unfoldable pub allocate : Turn → Header → ℕ → GrantNo → PageNo → ℕ → Answered
+unfoldable pub allocate : Turn → Header → ℕ → GrantNo → PageNo → ℕ → Replied
 allocate t h ino g page count = if is_file t ino then allocate_held t h ino g page count else no_file t ino
 
 -- Cut: no file, and no exclusive lock, are refused; else the extents from that page on are released, with a note.
@@ -382,39 +379,39 @@ unfoldable pub cut_pages : Turn → ℕ → PageNo → Turn
 cut_pages t ino from = note (with_extents (extents.release_from t.state.stable.extents (file t ino) from) t) (notes.CutDone (file t ino) from)
 
 -- cut and acknowledged
-unfoldable pub cut_from : Turn → ℕ → PageNo → Answered
-cut_from t ino from = answered (cut_pages t ino from) bodies.Ack
+unfoldable pub cut_from : Turn → ℕ → PageNo → Replied
+cut_from t ino from = replied (cut_pages t ino from) bodies.Ack
 
 -- where the client holds the file exclusively
-unfoldable pub cut_held : Turn → Header → ℕ → GrantNo → PageNo → Answered
+unfoldable pub cut_held : Turn → Header → ℕ → GrantNo → PageNo → Replied
 cut_held t h ino g from = if holds t h ino g modes.X then cut_from t ino from else not_holder t ino g
 
 -- Cut
-unfoldable pub cut : Turn → Header → ℕ → GrantNo → PageNo → Answered
+unfoldable pub cut : Turn → Header → ℕ → GrantNo → PageNo → Replied
 cut t h ino g from = if is_file t ino then cut_held t h ino g from else no_file t ino
 
 -- Names: what they answer, but for remove.
-unfoldable pub name_refused : Turn → NameRefusal → Answered
-name_refused t r = answered t (bodies.Named (Refused (names.code_of r)))
+unfoldable pub name_refused : Turn → EntryRefusal → Replied
+name_refused t r = replied t (bodies.Named (Refused (names.code_of r)))
 
 -- the inode is told
-unfoldable pub name_found : Turn → Result ℕ NameRefusal → Answered
-name_found t (Ok ino) = answered t (bodies.Named (Ino ino))
+unfoldable pub name_found : Turn → Result ℕ EntryRefusal → Replied
+name_found t (Ok ino) = replied t (bodies.Named (Ino ino))
 name_found t (Err r) = name_refused t r
 
 -- the names change, and the inode is told
-unfoldable pub name_changed : Turn → Result names.Changed NameRefusal → Answered
-name_changed t (Ok d) = answered (with_names d.names t) (bodies.Named (Ino d.ino))
+unfoldable pub name_changed : Turn → Result names.Changed EntryRefusal → Replied
+name_changed t (Ok d) = replied (with_names d.names t) (bodies.Named (Ino d.ino))
 name_changed t (Err r) = name_refused t r
 
 -- the entries are told
-unfoldable pub names_listed : Turn → Result (List NameRow) NameRefusal → Answered
-names_listed t (Ok rows) = answered t (bodies.Named (Listed rows))
+unfoldable pub names_listed : Turn → Result (List NameRow) EntryRefusal → Replied
+names_listed t (Ok rows) = replied t (bodies.Named (Listed rows))
 names_listed t (Err r) = name_refused t r
 
 -- Remove: the refusals of a look-up; a directory wants grant number 0 and must be empty; a file wants the client's
 -- exclusive lock, and with it go its extents and its waits, with a note. Its row stays until it is released.
-unfoldable pub remove_dir : Turn → ℕ → List ℕ → GrantNo → Answered
+unfoldable pub remove_dir : Turn → ℕ → List ℕ → GrantNo → Replied
 remove_dir t dir name g = if g.0 == 0 then name_changed t (names.remove t.state.stable.names dir name) else name_refused t IsDir
 
 -- a file that is gone: no waits, and no extents
@@ -422,29 +419,29 @@ unfoldable pub cut_whole : Turn → ℕ → Turn
 cut_whole t ino = cut_pages (with_locks (locks.drop_file_waits t.state.locks ino) t) ino (page_no 0)
 
 -- removed, with its extents and waits
-unfoldable pub remove_by : Turn → Result names.Changed NameRefusal → Answered
-remove_by t (Ok d) = answered (cut_whole (with_names d.names t) d.ino) (bodies.Named (Ino d.ino))
+unfoldable pub remove_by : Turn → Result names.Changed EntryRefusal → Replied
+remove_by t (Ok d) = replied (cut_whole (with_names d.names t) d.ino) (bodies.Named (Ino d.ino))
 remove_by t (Err r) = name_refused t r
 
 -- a file is removed by its exclusive holder
-unfoldable pub remove_file : Turn → Header → ℕ → List ℕ → GrantNo → ℕ → Answered
+unfoldable pub remove_file : Turn → Header → ℕ → List ℕ → GrantNo → ℕ → Replied
 remove_file t h dir name g ino = if holds t h ino g modes.X then remove_by t (names.remove t.state.stable.names dir name) else not_holder t ino g
 
 -- a file, or a directory
-unfoldable pub remove_ino : Turn → Header → ℕ → List ℕ → GrantNo → ℕ → Answered
+unfoldable pub remove_ino : Turn → Header → ℕ → List ℕ → GrantNo → ℕ → Replied
 remove_ino t h dir name g ino = if is_file t ino then remove_file t h dir name g ino else remove_dir t dir name g
 
 -- where there is an entry
-unfoldable pub remove_found : Turn → Header → ℕ → List ℕ → GrantNo → Result ℕ NameRefusal → Answered
+unfoldable pub remove_found : Turn → Header → ℕ → List ℕ → GrantNo → Result ℕ EntryRefusal → Replied
 remove_found t h dir name g (Ok ino) = remove_ino t h dir name g ino
 remove_found t h dir name g (Err r) = name_refused t r
 
 -- Remove
-unfoldable pub remove : Turn → Header → ℕ → List ℕ → GrantNo → Answered
+unfoldable pub remove : Turn → Header → ℕ → List ℕ → GrantNo → Replied
 remove t h dir name g = remove_found t h dir name g (names.lookup t.state.stable.names dir name)
 
 -- Names, by what is asked
-unfoldable pub name : Turn → Header → NameOp → Answered
+unfoldable pub name : Turn → Header → NameOp → Replied
 name t h (Lookup dir n) = name_found t (names.lookup t.state.stable.names dir n)
 name t h (Create dir n) = name_changed t (names.create t.state.stable.names dir n)
 name t h (Mkdir dir n) = name_changed t (names.mkdir t.state.stable.names dir n)
@@ -453,7 +450,7 @@ name t h (Rename dir n dir2 n2) = name_changed t (names.rename t.state.stable.na
 name t h (ListFrom dir after) = names_listed t (names.list t.state.stable.names dir after)
 
 -- The rule of a request whose number is the next one.
-unfoldable pub rule : Turn → Stamp → Header → Body → Answered
+unfoldable pub rule : Turn → Stamp → Header → Body → Replied
 rule t now h bodies.KeepAlive = keep_alive t
 rule t now h (bodies.Acquire ino mode) = acquire t now h ino mode
 rule t now h (bodies.Released ino g to) = released t h ino g to
@@ -473,7 +470,7 @@ keep h t None = t
 keep h t (Some body) = keep_and_reply t h body
 
 -- the request is served, and its reply kept
-unfoldable pub serve : Header → Answered → Turn
+unfoldable pub serve : Header → Replied → Turn
 serve h a = keep h a.turn a.reply
 
 -- Requests by the session: without one, or above its life, refused; stale ones and those out of order are passed over; the
@@ -595,7 +592,7 @@ fresh_server id k servers disks blocks =
       id = id;
       config = k;
       stable = record { epoch = first_epoch; names = names.fresh_names; extents = extents.no_extents id servers disks blocks };
-      grace = grace.no_grace k;
+      grace = grace.no_grace;
       sessions = sessions.no_sessions first_epoch;
       locks = locks.no_locks first_epoch;
       authority = authority.no_suspects k;
@@ -605,7 +602,7 @@ fresh_server id k servers disks blocks =
 unfoldable pub crash : ServerState → ServerState
 crash s =
     record s {
-      grace = grace.no_grace s.config;
+      grace = grace.no_grace;
       sessions = sessions.no_sessions s.stable.epoch;
       locks = locks.no_locks s.stable.epoch;
       authority = authority.no_suspects s.config;
@@ -630,7 +627,37 @@ begin_epoch s now epoch =
 unfoldable pub start : ServerState → Stamp → ServerState
 start s now = begin_epoch s now (next_epoch s.stable.epoch)
 
+-- A node: its machine, and whether it runs.
+pub record ServerNode : Type 0 where
+  pub state : ServerState
+  pub running : Bool
+
+-- Fresh: a server that was never started before, and that runs.
+abbrev pub fresh_node : ServerId → Config → ℕ → ℕ → ℕ → ServerNode
+fresh_node id k servers disks blocks = record { state = fresh_server id k servers disks blocks; running = true }
+
+-- Crash: it runs no more.
+abbrev pub crash_node : ServerNode → ServerNode
+crash_node n = record { state = crash n.state; running = false }
+
+-- Start: it runs, in its next epoch.
+abbrev pub start_node : ServerNode → Stamp → ServerNode
+start_node n now = record { state = start n.state now; running = true }
+
+-- a node's step: the node that it leaves, and the outputs in order
+pub record NodeTurn : Type 0 where
+  pub node : ServerNode
+  pub out : List Output
+
+-- what a step of its machine leaves of a node
+abbrev pub node_turn : ServerNode → Turn → NodeTurn
+node_turn n t = record { node = record n { state = t.state }; out = t.out }
+
+-- Step: a node that does not run takes none.
+unfoldable pub node_step : ServerNode → Stamp → ServerInput → Result NodeTurn StepRefusal
+node_step n now input = if n.running then Ok (node_turn n (server_step n.state now input)) else Err Crashed
+
 -- opens all of this file and of the parts
 unfoldable pub server_open : ⊤
-unfolding leases.leases_open locks.locks_open sessions.sessions_open authority.authority_open grace.grace_open names.names_open extents.extents_open reply tell steal_from steal_at steal steal_each thefts suspect_client refuse_suspect greet_as greet_by greet refuse_in_grace hello see_demand demand_seen refuse_epoch reassert_by reassert_new reassert_again reassert keep_alive acquire_by acquire_lock no_file acquire released_by released not_holder map_page map_held map with_extents_told allocate_by allocate_pages allocate_held allocate cut_pages cut_from cut_held cut name_refused name_found name_changed names_listed remove_dir cut_whole remove_by remove_file remove_ino remove_found remove name rule keep_and_reply keep serve request_by request of_epoch by_body by_suspicion receive_from receive take_input suspect_unless suspect_each suspecting suspecting_on tell_granted grant_by grant_waiting granting tell_demanded demand_by demanding server_step fresh_server crash begin_epoch start
+unfolding leases.leases_open locks.locks_open sessions.sessions_open authority.authority_open grace.grace_open names.names_open extents.extents_open reply tell steal_from steal_at steal steal_each thefts suspect_client refuse_suspect greet_as greet_by greet refuse_in_grace hello see_demand demand_seen refuse_epoch reassert_by reassert_new reassert_again reassert keep_alive acquire_by acquire_lock no_file acquire released_by released not_holder map_page map_held map with_extents_told allocate_by allocate_pages allocate_held allocate cut_pages cut_from cut_held cut name_refused name_found name_changed names_listed remove_dir cut_whole remove_by remove_file remove_ino remove_found remove name rule keep_and_reply keep serve request_by request of_epoch by_body by_suspicion receive_from receive take_input suspect_unless suspect_each suspecting suspecting_on tell_granted grant_by grant_waiting granting tell_demanded demand_by demanding server_step fresh_server crash begin_epoch start node_step
 server_open = tt

@@ -1,11 +1,11 @@
 -- Sessions: which life of each client a server serves in this epoch, and up to which request.
-use Rattle.std.specs.Prelude.{ℕ, ◌+◌, Bool, true, false, ◌&&◌, ◌||◌, not, ◌==◌, nat_lt, nat_le, if◌then◌else◌, List, [], ◌∷◌, ◌++◌, find, filter, map, Option, Some, None, option_map, ⊤}
+use Rattle.std.specs.Prelude.{ℕ, ◌+◌, Bool, true, false, ◌&&◌, ◌||◌, ◌==◌, nat_lt, nat_le, if◌then◌else◌, List, [], find, map, Option, Some, None, option_map, ⊤}
 use denote.Ref.{Bor}
 use Rattle.st_base.specs.declared.ids.ClientId.{ClientId}
 use Rattle.st_base.specs.declared.ids.Life.{Life}
 use Rattle.st_base.specs.declared.ids.Epoch.{Epoch}
-use Rattle.st_codec.specs.declared.message.Body.{Body}
-use Rattle.st_codec.specs.declared.message.Body.TheVariants.{Reasserted}
+use Rattle.st_messages.specs.declared.message.Body.{Body}
+use Rattle.st_messages.specs.declared.message.Body.TheVariants.{Reasserted}
 use Rattle.st_rules.specs.declared.sessions.SessionState.{SessionState}
 use Rattle.st_rules.specs.declared.sessions.SessionState.TheVariants.{Live, Ended}
 use Rattle.st_rules.specs.declared.sessions.Session.{Session}
@@ -13,7 +13,7 @@ use Rattle.st_rules.specs.declared.sessions.Hello.{Hello}
 use Rattle.st_rules.specs.declared.sessions.Hello.TheVariants as hellos
 use Rattle.st_rules.specs.declared.sessions.Taken.{Taken}
 use Rattle.st_rules.specs.declared.sessions.Taken.TheVariants.{OtherEpoch, NoSession, Stale, Again, Fresh, OutOfOrder}
-use Rattle.st_rules.specs.Keys.{same_client}
+use Rattle.st_rules.specs.Keys.{same_client, put, keys_open}
 
 -- the sessions of an epoch
 pub record Sessions : Type 0 where
@@ -59,7 +59,7 @@ is_past life s = nat_le life.0 s.life.0
 
 -- a session in place of its client's
 abbrev pub with_session : Session → Sessions → Sessions
-with_session s t = record t { rows = filter (λ r. not (is_session_of s.client r)) t.rows ++ s ∷ [] }
+with_session s t = record t { rows = put (is_session_of s.client) s t.rows }
 
 -- a session that served nothing yet
 abbrev pub new_session : ClientId → Life → Session
@@ -215,5 +215,5 @@ knows t c life = knows_at (session_of t c) life
 
 -- opens all of this file
 unfoldable pub sessions_open : ⊤
-unfolding greeted begin_session hello_higher hello_again hello_live hello_ended hello_by hello_at hello again take_next take_from take_number take_state take_past take_life take_at take keep_reply store reasserted ended end
+unfolding keys_open greeted begin_session hello_higher hello_again hello_live hello_ended hello_by hello_at hello again take_next take_from take_number take_state take_past take_life take_at take keep_reply store reasserted ended end
 sessions_open = tt

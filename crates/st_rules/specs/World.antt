@@ -1,5 +1,5 @@
 -- The world: clocks, nodes, the network, disks, the log, and what is kept of each command and each life. Its look-ups.
-use Rattle.std.specs.Prelude.{ℕ, zero, suc, pred, ◌+◌, ◌*◌, ◌-◌, ◌%◌, Bool, true, false, ◌&&◌, ◌==◌, nat_le, nat_lt, if◌then◌else◌, List, [], ◌++◌, length, find, map, set, slice_get, Option, Some, None, unwrap_or, ⊤}
+use Rattle.std.specs.Prelude.{ℕ, zero, suc, pred, ◌+◌, ◌*◌, ◌-◌, ◌%◌, Bool, false, ◌&&◌, ◌==◌, nat_le, nat_lt, if◌then◌else◌, List, [], ◌++◌, length, find, map, set, slice_get, Option, Some, None, unwrap_or, ⊤}
 use Rattle.st_base.specs.declared.ids.ClientId.{ClientId}
 use Rattle.st_base.specs.declared.ids.ServerId.{ServerId}
 use Rattle.st_base.specs.declared.ids.Life.{Life}
@@ -21,20 +21,12 @@ use Rattle.st_rules.specs.Leases.{no_drift, leases_open}
 use Rattle.st_rules.specs.Extents.{numbers}
 use Rattle.st_rules.specs.Disks.{Disks, fresh_disks}
 use Rattle.st_rules.specs.FlatLog.{owner}
-use Rattle.st_rules.specs.Server.{ServerState, fresh_server}
+use Rattle.st_rules.specs.Server as server_rules
+use Rattle.st_rules.specs.Server.{ServerNode}
 use Rattle.st_rules.specs.ClientState.{ClientState, Association}
-use Rattle.st_rules.specs.Client.{fresh_client, association_with, lease_at, lease_end_with}
+use Rattle.st_rules.specs.Client as client_rules
+use Rattle.st_rules.specs.Client.{ClientNode, association_with, lease_at, lease_end_with}
 use Rattle.st_rules.specs.ClientLease.{end_at}
-
--- A node: its machine, and whether it runs.
-pub record ClientNode : Type 0 where
-  pub state : ClientState
-  pub running : Bool
-
--- a server
-pub record ServerNode : Type 0 where
-  pub state : ServerState
-  pub running : Bool
 
 -- A client in the world: the node, how many asks it had, and how often it was started again.
 pub record ClientSite : Type 0 where
@@ -83,11 +75,11 @@ stamp n = record { 0 = n }
 
 -- a client at the start
 abbrev pub fresh_site : Config → ℕ → ℕ → ClientSite
-fresh_site k servers n = record { node = record { state = fresh_client (client n) k servers; running = true }; asks = 0; starts = 0 }
+fresh_site k servers n = record { node = client_rules.fresh_node (client n) k servers; asks = 0; starts = 0 }
 
 -- a server at the start
-abbrev pub fresh_node : Config → ℕ → ℕ → ℕ → ℕ → ServerNode
-fresh_node k servers disks blocks n = record { state = fresh_server (server n) k servers disks blocks; running = true }
+abbrev pub node_at_start : Config → ℕ → ℕ → ℕ → ℕ → ServerNode
+node_at_start k servers disks blocks n = server_rules.fresh_node (server n) k servers disks blocks
 
 -- a client's clock at the start
 abbrev pub client_clock : ℕ → Stamp
@@ -118,7 +110,7 @@ fresh_world k clients servers disks blocks form =
       clocks = fresh_clocks clients servers;
       drift = no_drift (clients + servers);
       clients = map (fresh_site k servers) (numbers 1 clients);
-      servers = map (fresh_node k servers disks blocks) (numbers 1 servers);
+      servers = map (node_at_start k servers disks blocks) (numbers 1 servers);
       net = fresh_net;
       disks = fresh_disks disks blocks;
       commands = [];

@@ -1,11 +1,6 @@
-ghost use Rattle.std.specs.Prelude.{◌≡◌};
-ghost use Rattle.st_rules.specs.declared.extents.ExtentRefusal.TheVariants as refusals;
-
 use st_base::{BlockAt, FileId, PageNo};
-use std::alloc::{AllocError, AllocFailed};
-use thiserror::Error;
 
-/// Where a page of a file lies. The birth tells this mapping of the page from every other one of its server.
+/// The block on which a page of a file lies. The birth tells this mapping from every other mapping of its server.
 #[derive(Clone, Copy, Debug, PartialEq, Eq)]
 pub struct Extent {
     pub file: FileId,
@@ -15,26 +10,8 @@ pub struct Extent {
 }
 
 /// Why pages are not mapped.
-#[derive(Clone, Copy, Debug, PartialEq, Eq, Error)]
-pub enum ExtentRefusal {
-    #[error("{free} free blocks for {asked} pages")]
+#[derive(Clone, Copy, Debug, PartialEq, Eq)]
+pub enum AllocateRefusal {
+    /// The number of free blocks, and the number of pages that need one.
     NoSpace { free: u64, asked: u64 },
-    #[error("out of memory")]
-    Memory,
-}
-
-impl From<AllocError> for ExtentRefusal {
-    ghost from_gives = { λ _ e. e ≡ refusals.Memory };
-
-    fn from(_e: AllocError) -> ExtentRefusal {
-        ExtentRefusal::Memory
-    }
-}
-
-impl<T: Drop> From<AllocFailed<T>> for ExtentRefusal {
-    ghost from_gives = { λ _ e. e ≡ refusals.Memory };
-
-    fn from(_e: AllocFailed<T>) -> ExtentRefusal {
-        ExtentRefusal::Memory
-    }
 }

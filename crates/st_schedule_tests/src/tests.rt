@@ -1,5 +1,5 @@
 use st_base::Config;
-use st_codec::{Ask, Counts, Event};
+use st_messages::{Ask, Counts, Event};
 use st_schedule::{Line, ScheduleReader, ScheduleRefusal, print};
 use std::alloc::{AllocError, Global};
 use std::fmt::Write;

@@ -1,5 +1,5 @@
 use Rattle.std.proofs.Common.{Ok, ap, inl, arith}
-use Rattle.st_codec.specs.declared.message.Message.{Message}
+use Rattle.st_messages.specs.declared.message.Message.{Message}
 use Rattle.st_codec.proofs.ExactMessage.{message_takes, only_this, no_fault}
 use Rattle.st_codec.proofs.decoding.decode.Goals as goal
 

@@ -1,4 +1,4 @@
-use Rattle.st_codec.specs.Fits.{are_extents, is_extent_row, after_extent}
+use Rattle.st_messages.specs.Fits.{are_extents, is_extent_row, after_extent}
 use Rattle.st_codec.proofs.Rows.{both_true, each_fits}
 use Rattle.st_codec.proofs.row.put_extents.Goals as goal
 

@@ -1,4 +1,4 @@
-use Rattle.st_codec.specs.Fits.{are_locks, is_lock_row, after_lock}
+use Rattle.st_messages.specs.Fits.{are_locks, is_lock_row, after_lock}
 use Rattle.st_codec.proofs.Rows.{both_true, each_fits}
 use Rattle.st_codec.proofs.row.put_locks.Goals as goal
 

@@ -1,4 +1,4 @@
-use Rattle.st_codec.specs.Fits.{are_lost, is_lost_row, after_lost}
+use Rattle.st_messages.specs.Fits.{are_lost, is_lost_row, after_lost}
 use Rattle.st_codec.proofs.Rows.{both_true, each_fits}
 use Rattle.st_codec.proofs.row.put_lost.Goals as goal
 

@@ -1,4 +1,4 @@
-use Rattle.st_codec.specs.Fits.{are_names, is_name_row, after_name}
+use Rattle.st_messages.specs.Fits.{are_names, is_name_row, after_name}
 use Rattle.st_codec.proofs.Rows.{both_true, each_fits}
 use Rattle.st_codec.proofs.row.put_names.Goals as goal
 

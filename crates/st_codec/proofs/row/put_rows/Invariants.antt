@@ -4,4 +4,4 @@ use Rattle.st_codec.specs.Spelling.{word16}
 use Rattle.st_codec.proofs.row.put_rows.Given as goal
 
 abbrev pub invariant-loop-row : goal.invariant-loop-row
-invariant-loop-row g l = l.out.items ≡ l.fn.out.items ++ word16 (length l.rows) ++ flat_map g.T.Row.spell (take l.row-index l.rows)
+invariant-loop-row g l = l.out.items ≡ l.fn.out.items ++ word16 (length l.rows) ++ flat_map g.T.RowBytes.spell (take l.row-index l.rows)

@@ -4,4 +4,4 @@ use Rattle.st_codec.proofs.Loop.{with_front}
 use Rattle.st_codec.proofs.row.read_rows.Given as goal
 
 abbrev pub invariant-loop : goal.invariant-loop
-invariant-loop g l = with_front l.rows.items (rows_at g.T.Row.row_at g.T.Row.next (l.count - l.counter) l.least l.rest) ≡ rows_at g.T.Row.row_at g.T.Row.next l.count l.fn.least l.bytes
+invariant-loop g l = with_front l.rows.items (rows_at g.T.RowBytes.row_at g.T.Row.next (l.count - l.counter) l.least l.rest) ≡ rows_at g.T.RowBytes.row_at g.T.Row.next l.count l.fn.least l.bytes

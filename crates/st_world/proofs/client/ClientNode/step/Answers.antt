@@ -1,5 +1,5 @@
 use Rattle.std.proofs.Common.{◌∙◌, ap, arith}
-use Rattle.st_codec.specs.declared.output.Output.{Output}
+use Rattle.st_messages.specs.declared.output.Output.{Output}
 use Rattle.std.specs.Prelude.{List}
 use Rattle.st_world.specs.Client.{turn, take, operations, greet}
 use Rattle.st_world.proofs.Counts.{asks_below}
