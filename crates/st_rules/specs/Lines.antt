@@ -18,7 +18,7 @@ with_fate index fate (Some e) es = with_numbered index (record e { fate = fate }
 abbrev pub fated : List LogEntry → ℕ → Fate → List LogEntry
 fated es index fate = with_fate index fate (log.entry_at es index) es
 
--- the log behind an observation of a step that left this world; the life of an entry is its client's present one
+-- the log after an observation of a step that left this world; the life of an entry is its client's present one
 unfoldable pub log_behind : World → List LogEntry → Observation → List LogEntry
 log_behind w es (seen.Wrote index c f p bytes) = log.accept es c (present_life w c f.server) f p bytes
 log_behind w es (seen.Patched index c f p at bytes) = log.patch es c (present_life w c f.server) f p at bytes

@@ -116,7 +116,7 @@ StepsEndWithTheRun = (es : List Event) (t : Traced) → (left_by t (steps es t))
 abbrev pub Promise : Type 1
 Promise = List Step → Step → Type 0
 
--- a promise is kept at each of these steps, behind those that stand before them
+-- a promise is kept at each of these steps, after those that stand before them
 unfoldable pub Throughout : Promise → List Step → List Step → Type 0
 Throughout promise past [] = ⊤
 Throughout promise past (x ∷ rest) = promise past x × Throughout promise (past ++ x ∷ []) rest
@@ -199,12 +199,12 @@ ask_of past x c op = numbered (filter_map (ask_in c) (map event_of (past ++ x �
 abbrev pub AtEachOf : Step → (List LogEntry → Observation → Type 0) → Type 0
 AtEachOf x fact = AtEach fact x.after.world x.before.world.log x.seen
 
--- The report tells the log: behind each event the log is what the lines of that event make of the log before it, in their order.
--- The line of a new entry has the next number, and a line that makes an entry hard or drops it names one that is pending there.
+-- The report tells the log: after each event the log is what the lines of that event make of the log before it, in their order.
+-- The line of a new entry has the next number, and a line that makes an entry hard or drops it names an entry that is pending at that line.
 abbrev pub TheReportTellsTheLog : Promise
 TheReportTellsTheLog past x = IsLogTold x.after.world x.before.world.log x.seen
 
--- Answers are logged: `written` comes right behind the line of the write or the patch that was asked, with its client, file, page,
+-- Answers are logged: `written` follows directly the line of the write or the patch that was asked, with its client, file, page,
 -- bytes and, for a patch, place in the page. `cut` comes only after a cut of the file from the page that was asked, since then.
 abbrev pub IsLoggedWrite : ClientId → Option Ask → Observation → Type 0
 IsLoggedWrite c (Some (asks.Write f p bytes)) (seen.Wrote i d g q old) = seen.Wrote i d g q old ≡ seen.Wrote i c f p bytes
@@ -212,9 +212,9 @@ IsLoggedWrite c (Some (asks.Patch f p at bytes)) (seen.Patched i d g q place old
 IsLoggedWrite c asked o = ⊥
 
 -- the line before the answer, where there is one
-abbrev pub IsLoggedBehind : ClientId → Option Ask → Option Observation → Type 0
-IsLoggedBehind c asked None = ⊥
-IsLoggedBehind c asked (Some o) = IsLoggedWrite c asked o
+abbrev pub IsLoggedAfter : ClientId → Option Ask → Option Observation → Type 0
+IsLoggedAfter c asked None = ⊥
+IsLoggedAfter c asked (Some o) = IsLoggedWrite c asked o
 
 -- a cut of a file from a page
 abbrev pub is_cut_at : FileId → PageNo → Observation → Bool
@@ -226,22 +226,22 @@ abbrev pub asks_at : Option ClientSite → ℕ
 asks_at None = 0
 asks_at (Some site) = site.asks
 
--- a step that stands behind a client's ask of this number
-abbrev pub is_behind_ask : ClientId → ℕ → Step → Bool
-is_behind_ask c op x = nat_le op (asks_at (site_of x.before.world c))
+-- a step after a client's ask of this number
+abbrev pub is_after_ask : ClientId → ℕ → Step → Bool
+is_after_ask c op x = nat_le op (asks_at (site_of x.before.world c))
 
--- a step behind the ask in which the file was cut from the page
-abbrev pub cuts_behind : ClientId → ℕ → FileId → PageNo → Step → Bool
-cuts_behind c op f p x = is_behind_ask c op x && list_any (is_cut_at f p) x.seen
+-- a step after the ask in which the file was cut from the page
+abbrev pub cuts_after : ClientId → ℕ → FileId → PageNo → Step → Bool
+cuts_after c op f p x = is_after_ask c op x && list_any (is_cut_at f p) x.seen
 
 -- what was asked is a cut, and it was done
 abbrev pub was_cut : List Step → ClientId → ℕ → Option Ask → Bool
-was_cut past c op (Some (asks.Cut f p)) = list_any (cuts_behind c op f p) past
+was_cut past c op (Some (asks.Cut f p)) = list_any (cuts_after c op f p) past
 was_cut past c op asked = false
 
 -- an answer that is neither `written` nor `cut` owes nothing
 abbrev pub IsLoggedAnswer : List Step → Step → Option Observation → ClientId → ℕ → AppAnswer → Type 0
-IsLoggedAnswer past x line c op answers.Written = IsLoggedBehind c (ask_of past x c op) line
+IsLoggedAnswer past x line c op answers.Written = IsLoggedAfter c (ask_of past x c op) line
 IsLoggedAnswer past x line c op answers.Cut = was_cut past c op (ask_of past x c op) ≡ true
 IsLoggedAnswer past x line c op answer = ⊤
 
@@ -250,7 +250,7 @@ abbrev pub IsLogged : List Step → Step → Option Observation → Observation 
 IsLogged past x line (seen.Answered c op answer) = IsLoggedAnswer past x line c op answer
 IsLogged past x line o = ⊤
 
--- each of these observations, behind the line before it
+-- each of these observations, after the line before it
 unfoldable pub AreLogged : List Step → Step → Option Observation → List Observation → Type 0
 AreLogged past x line [] = ⊤
 AreLogged past x line (o ∷ os) = IsLogged past x line o × AreLogged past x (Some o) os
@@ -259,8 +259,8 @@ AreLogged past x line (o ∷ os) = IsLogged past x line o × AreLogged past x (S
 abbrev pub AnswersAreLogged : Promise
 AnswersAreLogged past x = AreLogged past x None x.seen
 
--- Asks are answered once: each answer goes to an ask of its client that was not answered before, and behind the line of a write or
--- a patch comes at once the `written` of its client. So each ask has one line in the log at most, and each line has its ask.
+-- Asks are answered once: each answer goes to an ask of its client that was not answered before, and the line of a write or a patch
+-- is followed directly by a `written` to its client. So each such line is of one ask, and no ask has two.
 abbrev pub is_answer_to : ClientId → ℕ → Observation → Bool
 is_answer_to c op (seen.Answered d n answer) = same_client d c && (n == op)
 is_answer_to c op o = false
@@ -282,7 +282,7 @@ abbrev pub is_answered_once : List Step → Step → List Observation → Observ
 is_answered_once past x lines (seen.Answered c op answer) = is_first_answer past x lines c op
 is_answered_once past x lines o = true
 
--- each of these observations, behind these lines
+-- each of these observations, after these lines
 unfoldable pub all_answered_once : List Step → Step → List Observation → List Observation → Bool
 all_answered_once past x lines [] = true
 all_answered_once past x lines (o ∷ os) = is_answered_once past x lines o && all_answered_once past x (lines ++ o ∷ []) os
@@ -312,8 +312,8 @@ all_followed (o ∷ os) = is_followed o os && all_followed os
 abbrev pub AsksAreAnsweredOnce : Promise
 AsksAreAnsweredOnce past x = all_answered_once past x [] x.seen && all_followed x.seen ≡ true
 
--- Changes are locked: behind an event that logged a write or a patch, its client's lease lasts, the client has an exclusive lock on
--- the file, and the page is dirty. Behind one that logged a cut, the file's server runs and has an exclusive row on the file.
+-- Changes are locked: after an event that logged a write or a patch, its client's lease lasts, the client has an exclusive lock on
+-- the file, and the page is dirty. After one that logged a cut, the file's server runs and has an exclusive row on the file.
 abbrev pub has_exclusive : ℕ → Option Association → Bool
 has_exclusive ino a = list_any (is_exclusive_on ino) (locks_at a)
 
@@ -321,7 +321,7 @@ has_exclusive ino a = list_any (is_exclusive_on ino) (locks_at a)
 abbrev pub has_dirty_page : ℕ → PageNo → Option Association → Bool
 has_dirty_page ino p a = list_any (is_dirty_of ino p) (dirty_at a)
 
--- a client's change of a page, behind the event
+-- a client's change of a page, after the event
 abbrev pub changes_alone : World → ClientId → FileId → PageNo → Bool
 changes_alone w c f p = lasts w c f.server && (has_exclusive f.ino (association_of w c f.server) && has_dirty_page f.ino p (association_of w c f.server))
 
@@ -354,7 +354,7 @@ never_fall (e ∷ es) = list_all (is_no_lesser e) es && never_fall es
 abbrev pub ChangesGoInTheOrderOfLocks : Promise
 ChangesGoInTheOrderOfLocks past x = never_fall x.after.history.grants ≡ true
 
--- An expired lease empties its client: where a client takes a step while its lease at a server is over, then behind the step it is
+-- An expired lease empties its client: where a client takes a step while its lease at a server is over, then after the step it is
 -- in its next life there and has no session, page, known place or command of that server, and in the step nothing was submitted
 -- to that server's disks and no read or write of its files was answered.
 abbrev pub is_told_at : IssuedCommand → Option ClientSite → Bool
@@ -396,7 +396,7 @@ steps_expired x c s = takes_step x.before.world c x.event && is_expired x.before
 abbrev pub is_empty_store : Store → Bool
 is_empty_store st = not (is_any st.extents) && (not (is_any st.pages.clean) && (not (is_any st.pages.dirty) && not (is_any st.commands)))
 
--- the life behind this one, without a session and with nothing of pages
+-- the life after this one, without a session and with nothing of pages
 abbrev pub is_emptied : Life → Option Association → Bool
 is_emptied life None = false
 is_emptied life (Some a) = (a.life.0 == life.0 + 1) && (not (is_some a.session) && is_empty_store a.store)
@@ -690,7 +690,7 @@ pub record IsWorldsHistory (t : Traced) : Type 0 where
   pub dates : list_all (is_dated_life t.history) (all_lives t.world) ≡ true
   pub grants : fit_log t.history.grants t.world.log ≡ true
 
--- The history is the world's, behind every event
+-- The history is the world's, after every event
 abbrev pub TheHistoryIsTheWorlds : Promise
 TheHistoryIsTheWorlds past x = IsWorldsHistory x.after
 
