@@ -23,7 +23,6 @@ use Rattle.st_messages.specs.declared.message.Message.{Message}
 use Rattle.st_messages.specs.declared.message.Header.{Header}
 use Rattle.st_messages.specs.declared.message.Body.{Body}
 use Rattle.st_messages.specs.declared.message.Body.TheVariants as bodies
-use Rattle.st_messages.specs.declared.message.Why.{Why}
 use Rattle.st_messages.specs.declared.message.Why.TheVariants as why
 use Rattle.st_messages.specs.declared.event.Event.{Event}
 use Rattle.st_messages.specs.declared.event.Event.TheVariants as events
@@ -57,10 +56,12 @@ use Rattle.st_rules.specs.Locks as locks
 use Rattle.st_rules.specs.Server as server
 use Rattle.st_rules.specs.Server.{ServerNode}
 use Rattle.st_rules.specs.Sessions as sessions
-use Rattle.st_rules.specs.World.{World, ClientSite, site_of, node_of, same_node, all_clients, all_servers, clock_of, message_of, receiver_of, issued_of, server_of_disk, numbered, with_numbered, present_end, lease_end_of, fresh_world}
+use Rattle.st_rules.specs.World.{World, ClientSite, site_of, node_of, same_node, all_clients, all_servers, clock_of, message_of, receiver_of, issued_of, server_of_disk, numbered, present_end, lease_end_of, fresh_world}
 use Rattle.st_rules.specs.Events.{Scene, world_step, present_life, present_lives, is_same_instance, is_hard_fate, last_write}
 use Rattle.st_rules.specs.Run.{run}
-use Rattle.st_rules.specs.History.{Traced, History, TimerStart, LeaseDate, EntryGrant, association_of, locks_at, is_timer_of, is_exclusive_on, is_exclusive_row, rows_at, traced, traced_after}
+use Rattle.st_rules.specs.Lines.{AtEach, IsLogTold, lines_open}
+use Rattle.st_rules.specs.Dating.{dates_it, dating_open}
+use Rattle.st_rules.specs.History.{Traced, History, LeaseDate, EntryGrant, association_of, locks_at, is_timer_of, is_exclusive_on, is_exclusive_row, rows_at, traced, traced_after}
 
 -- The steps of a run: what stood before an event, the event, what was observed, and what it left.
 pub record Step : Type 0 where
@@ -194,72 +195,12 @@ ask_in c e = None
 abbrev pub ask_of : List Step → Step → ClientId → ℕ → Option Ask
 ask_of past x c op = numbered (filter_map (ask_in c) (map event_of (past ++ x ∷ []))) op
 
--- The log at an observation: the one before the event, with what was observed before.
-abbrev pub with_fate : ℕ → Fate → Option LogEntry → List LogEntry → List LogEntry
-with_fate index fate None es = es
-with_fate index fate (Some e) es = with_numbered index (record e { fate = fate }) es
-
--- an entry of the log has this fate
-abbrev pub fated : List LogEntry → ℕ → Fate → List LogEntry
-fated es index fate = with_fate index fate (log.entry_at es index) es
-
--- the log behind an observation of a step that left this world; the life of an entry is its client's present one
-unfoldable pub log_behind : World → List LogEntry → Observation → List LogEntry
-log_behind w es (seen.Wrote index c f p bytes) = log.accept es c (present_life w c f.server) f p bytes
-log_behind w es (seen.Patched index c f p at bytes) = log.patch es c (present_life w c f.server) f p at bytes
-log_behind w es (seen.CutAt index f p) = log.cut es f p
-log_behind w es (seen.Hardened index) = fated es index fates.Hard
-log_behind w es (seen.Dropped index cause) = fated es index (fates.Gone cause)
-log_behind w es o = es
-
--- a fact of each observation and the log at it
-unfoldable pub AtEach : (List LogEntry → Observation → Type 0) → World → List LogEntry → List Observation → Type 0
-AtEach fact w es [] = ⊤
-AtEach fact w es (o ∷ os) = fact es o × AtEach fact w (log_behind w es o) os
-
 -- a fact of each observation of a step and the log at it
 abbrev pub AtEachOf : Step → (List LogEntry → Observation → Type 0) → Type 0
 AtEachOf x fact = AtEach fact x.after.world x.before.world.log x.seen
 
 -- The report tells the log: behind each event the log is what the lines of that event make of the log before it, in their order.
 -- The line of a new entry has the next number, and a line that makes an entry hard or drops it names one that is pending there.
-unfoldable pub log_told : World → List LogEntry → List Observation → List LogEntry
-log_told w es [] = es
-log_told w es (o ∷ os) = log_told w (log_behind w es o) os
-
--- a new entry has the next number
-abbrev pub is_next : List LogEntry → ℕ → Bool
-is_next es index = index == length es + 1
-
--- an entry is there and pending
-abbrev pub is_pending_entry : Option LogEntry → Bool
-is_pending_entry None = false
-is_pending_entry (Some e) = log.is_pending e.fate
-
--- the entry of a number is pending
-abbrev pub is_pending_at : List LogEntry → ℕ → Bool
-is_pending_at es index = is_pending_entry (log.entry_at es index)
-
--- the line of a new entry has the next number, and a line of a fate names a pending entry
-abbrev pub tells_log : List LogEntry → Observation → Bool
-tells_log es (seen.Wrote index c f p bytes) = is_next es index
-tells_log es (seen.Patched index c f p at bytes) = is_next es index
-tells_log es (seen.CutAt index f p) = is_next es index
-tells_log es (seen.Hardened index) = is_pending_at es index
-tells_log es (seen.Dropped index cause) = is_pending_at es index
-tells_log es o = true
-
--- each line does, in the log at it
-unfoldable pub all_tell_log : World → List LogEntry → List Observation → Bool
-all_tell_log w es [] = true
-all_tell_log w es (o ∷ os) = tells_log es o && all_tell_log w (log_behind w es o) os
-
--- the lines of a step that left this world make this log of the one before it
-pub record IsLogTold (w : World) (old : List LogEntry) (lines : List Observation) : Type 0 where
-  pub entries : log_told w old lines ≡ w.log
-  pub numbers : all_tell_log w old lines ≡ true
-
--- The report tells the log
 abbrev pub TheReportTellsTheLog : Promise
 TheReportTellsTheLog past x = IsLogTold x.after.world x.before.world.log x.seen
 
@@ -627,76 +568,6 @@ TheftsComeLate past x = list_all (is_late x.before) x.seen ≡ true
 
 -- Leases are dated from a request: a lease's date is the client's own reading when it sent a request of this life, and the
 -- server sent that request's reply before any timer that runs for this client now.
-
--- a request: what a client sends but a seen demand
-abbrev pub is_request : Body → Bool
-is_request (bodies.DemandSeen ino g) = false
-is_request body = true
-
--- from a client to a server
-abbrev pub is_between : ClientId → ServerId → Header → Bool
-is_between c s h = (h.from == c.0) && (h.to == server_node s)
-
--- of a life, and with this stamp
-abbrev pub is_stamped : Life → Stamp → Header → Bool
-is_stamped life date h = (h.life == life.0) && (h.stamp == date.0)
-
--- a request of a client's life to a server, with this stamp
-abbrev pub is_request_at : ClientId → ServerId → Life → Stamp → Message → Bool
-is_request_at c s life date m = is_between c s m.header && (is_request m.body && is_stamped life date m.header)
-
--- a refusal of the client itself or of its epoch, by which no lease is renewed
-abbrev pub refuses_client : Why → Bool
-refuses_client why.Suspect = true
-refuses_client why.NoSession = true
-refuses_client why.OtherEpoch = true
-refuses_client why.Grace = true
-refuses_client why.GraceOver = true
-refuses_client why.Conflict = true
-refuses_client w = false
-
--- a message that may date a lease: neither such a refusal, nor a demand or a grant that answers no request
-abbrev pub may_date : ℕ → Body → Bool
-may_date number (bodies.Nack w a b) = not (refuses_client w)
-may_date number (bodies.Demand ino g to) = false
-may_date number (bodies.Granted ino g mode) = not (number == 0)
-may_date number body = true
-
--- it goes back to where the other came from
-abbrev pub goes_back : Header → Header → Bool
-goes_back q h = (h.from == q.to) && (h.to == q.from)
-
--- it has the life, the number and the stamp of the other
-abbrev pub answers_to : Header → Header → Bool
-answers_to q h = (h.life == q.life) && ((h.number == q.number) && (h.stamp == q.stamp))
-
--- a reply to a request, by which a lease may be dated
-abbrev pub is_reply_to : Message → Message → Bool
-is_reply_to q m = may_date m.header.number m.body && (goes_back q.header m.header && answers_to q.header m.header)
-
--- a timer of this client started after so many messages
-abbrev pub started_after : ServerId → ClientId → ℕ → TimerStart → Bool
-started_after s c k t = not (same_server t.server s && same_client t.client c) || nat_le k t.sent
-
--- every timer that runs for this client started after so many messages
-abbrev pub is_before_timers : History → ServerId → ClientId → ℕ → Bool
-is_before_timers h s c k = list_all (started_after s c k) h.timers
-
--- a message of the network is a reply to this request, sent before the timers
-unfoldable pub replied_from : ℕ → Traced → ServerId → ClientId → Message → List SentMessage → Bool
-replied_from number t s c q [] = false
-replied_from number t s c q (m ∷ ms) = (is_reply_to q m.message && is_before_timers t.history s c number) || replied_from (number + 1) t s c q ms
-
--- the request was replied to before the timers
-abbrev pub is_replied : Traced → ServerId → ClientId → Message → Bool
-is_replied t s c q = replied_from 1 t s c q t.world.net.messages
-
--- a message that dates a lease, sent at its stamp
-abbrev pub dates_it : Traced → World → ClientId → ServerId → Life → Stamp → Observation → Bool
-dates_it now before c s life date (seen.Sent k q) = is_request_at c s life date q && (((clock_of before (nodes.Client c)).0 == date.0) && is_replied now s c q)
-dates_it now before c s life date o = false
-
--- a step in which such a message was sent
 abbrev pub dates_in : Traced → ClientId → ServerId → Life → Stamp → Step → Bool
 dates_in now c s life date x = list_any (dates_it now x.before.world c s life date) x.seen
 
@@ -941,7 +812,7 @@ pub record IsAllPromised : Type 0 where
   pub clients : OldMessagesChangeNoClient
   pub servers : OldMessagesChangeNoServer
 
--- opens all of this file
+-- opens all of this file and of the two that it stands on
 unfoldable pub safety_open : ⊤
-unfolding steps_on steps left_by Throughout ask_of_client log_behind AtEach log_told all_tell_log AreLogged all_answered_once all_followed never_fall fit_log keep_hard replied_from
+unfolding lines_open dating_open steps_on steps left_by Throughout ask_of_client AreLogged all_answered_once all_followed never_fall fit_log keep_hard
 safety_open = tt
