@@ -74,11 +74,11 @@ pub record Next (now : Stamp) (t u : Turn) : Type 0 where
   pub out : u.out ≡ t.out ++ more
   pub unlost : All_unlost more
 
-session_same : (k : Config) (now : Stamp) (s : Option ClientSession) → Session_next k now s s
+pub session_same : (k : Config) (now : Stamp) (s : Option ClientSession) → Session_next k now s s
 session_same k now None = tt
 session_same k now (Some s) = omega arith
 
-session_then : (k : Config) (now : Stamp) (a b c : Option ClientSession) → Session_next k now a b → Session_next k now b c → Session_next k now a c
+pub session_then : (k : Config) (now : Stamp) (a b c : Option ClientSession) → Session_next k now a b → Session_next k now b c → Session_next k now a c
 session_then k now None None c x y = y
 session_then k now None (Some b) None x y = absurd y
 session_then k now None (Some b) (Some c) x y = omega (arith, x, y)
@@ -86,11 +86,11 @@ session_then k now (Some a) None c x y = absurd x
 session_then k now (Some a) (Some b) None x y = absurd y
 session_then k now (Some a) (Some b) (Some c) x y = omega (arith, x, y)
 
-empty_right : (os : List Output) → os ≡ os ++ []
+pub empty_right : (os : List Output) → os ≡ os ++ []
 empty_right [] = refl
 empty_right (o ∷ os) = ap (λ z. o ∷ z) (empty_right os)
 
-append_assoc : (os ps qs : List Output) → (os ++ ps) ++ qs ≡ os ++ (ps ++ qs)
+pub append_assoc : (os ps qs : List Output) → (os ++ ps) ++ qs ≡ os ++ (ps ++ qs)
 append_assoc [] ps qs = refl
 append_assoc (o ∷ os) ps qs = ap (λ z. o ∷ z) (append_assoc os ps qs)
 
@@ -160,6 +160,36 @@ not_idle st ino p d e i = go st.pages.dirty e (not_true (pages.has_dirty st.page
         at : (b : Bool) → pages.is_dirty_of ino p x ≡ b → (if b then Some x else find (pages.is_dirty_of ino p) xs) ≡ Some d → (find (pages.is_dirty_of ino p) xs ≡ Some d → list_any (pages.is_dirty_on ino) xs ≡ false → ⊥) → ⊥
         at true q e f = no (x.ino == ino) (and_true (x.ino == ino) (same_page x.page p) q).0 (or_false (x.ino == ino) (list_any (pages.is_dirty_on ino) xs) n).0
         at false q e f = f e (or_false (x.ino == ino) (list_any (pages.is_dirty_on ino) xs) n).1
+
+-- what is found among fewer rows is found among all, by its place
+pub found_fewer : (p q : DirtyPage → Bool) (xs : List DirtyPage) (d : DirtyPage) → find p (filter q xs) ≡ Some d → (x : DirtyPage) × (find p xs ≡ Some x)
+found_fewer p q [] d e = cc
+found_fewer p q (x ∷ xs) d e = go (p x) refl (q x) refl (found_fewer p q xs d)
+  where
+    there : (b : Bool) → p x ≡ b → ((y : DirtyPage) × (find p xs ≡ Some y)) → (y : DirtyPage) × (find p (x ∷ xs) ≡ Some y)
+    there true f r = (x, ap (λ b. if b then Some x else find p xs) f)
+    there false f r = (r.0, ap (λ b. if b then Some x else find p xs) f ∙ r.1)
+
+    go : (b : Bool) → p x ≡ b → (c : Bool) → q x ≡ c → (find p (filter q xs) ≡ Some d → (y : DirtyPage) × (find p xs ≡ Some y)) → (y : DirtyPage) × (find p (x ∷ xs) ≡ Some y)
+    go true f c g r = (x, ap (λ b. if b then Some x else find p xs) f)
+    go false f true g r = there false f (r (sym (ap (λ b. if b then Some x else find p (filter q xs)) f) ∙ ap (λ c. find p (if c then x ∷ filter q xs else filter q xs)) (sym g) ∙ e))
+    go false f false g r = there false f (r (ap (λ c. find p (if c then x ∷ filter q xs else filter q xs)) (sym g) ∙ e))
+
+-- a page that failed is the page that it was but for its failed command
+pub failed_found : (i : ℕ) (r : PageNo) (n : ℕ) (ino : ℕ) (p : PageNo) (xs : List DirtyPage) (d : DirtyPage) → find (pages.is_dirty_of ino p) (map (pages.fail_of i r n) xs) ≡ Some d → (x : DirtyPage) × (find (pages.is_dirty_of ino p) xs ≡ Some x)
+unfolding pages.failed_by
+failed_found i r n ino p [] d e = cc
+failed_found i r n ino p (x ∷ xs) d e = go (pages.is_dirty_of ino p x) refl (failed_found i r n ino p xs d)
+  where
+    same : (b : Bool) → pages.is_dirty_of ino p (if b then pages.failed_by n x else x) ≡ pages.is_dirty_of ino p x
+    same true = refl
+    same false = refl
+
+    go : (b : Bool) → pages.is_dirty_of ino p x ≡ b → (find (pages.is_dirty_of ino p) (map (pages.fail_of i r n) xs) ≡ Some d → (y : DirtyPage) × (find (pages.is_dirty_of ino p) xs ≡ Some y)) → (y : DirtyPage) × (find (pages.is_dirty_of ino p) (x ∷ xs) ≡ Some y)
+    go true f h = (x, ap (λ b. if b then Some x else find (pages.is_dirty_of ino p) xs) f)
+    go false f h =
+        let z = h (sym (ap (λ b. if b then Some (pages.fail_of i r n x) else find (pages.is_dirty_of ino p) (map (pages.fail_of i r n) xs)) (same (pages.is_dirty_of i r x) ∙ f)) ∙ e) in
+        (z.0, ap (λ b. if b then Some x else find (pages.is_dirty_of ino p) xs) f ∙ z.1)
 
 -- What fits stays so.
 mapped_learn : (e : KnownExtent) (xs : List KnownExtent) (ino : ℕ) (p : PageNo) → (e.mapping ≡ None → pages.known_of xs e.ino e.page ≡ None) → pages.is_mapped xs ino p ≡ true → pages.is_mapped (pages.with_known e xs) ino p ≡ true
