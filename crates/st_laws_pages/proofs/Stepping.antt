@@ -147,7 +147,7 @@ pairs_same R f [] = tt
 pairs_same R f (a ∷ al) = record { one = f a; rest = pairs_same R f al }
 
 -- what each of one list has, each of the other has
-pairs_has : (R : Association → Association → Type 0) (P Q : Association → Type 0) → ((a b : Association) → R a b → P a → Q b) → (al bs : List Association) → Pairwise R al bs → ((a : Association) → Has a al → P a) → (b : Association) → Has b bs → Q b
+pub pairs_has : (R : Association → Association → Type 0) (P Q : Association → Type 0) → ((a b : Association) → R a b → P a → Q b) → (al bs : List Association) → Pairwise R al bs → ((a : Association) → Has a al → P a) → (b : Association) → Has b bs → Q b
 pairs_has R P Q f [] [] r p b h = absurd h
 pairs_has R P Q f [] (y ∷ ys) r p b h = absurd r
 pairs_has R P Q f (x ∷ xs) [] r p b h = absurd r

@@ -89,16 +89,22 @@ pub record Is_below (running : Bool) (e : LeaseLife) (a : Association) : Type 0 
   pub up_to : e.life.0 ≤ a.life.0
   pub below : running ≡ true → e.life.0 < a.life.0
 
--- What stands of a client: its associations are of one server each and fit; where it does not run none has a session.
-pub record Site_holds (k : Config) (ts : List Stamp) (es : List LeaseLife) (c : ClientId) (site : ClientSite) : Type 0 where
-  pub id : site.node.state.id ≡ c
-  pub config : site.node.state.config ≡ k
-  pub once : Once (map server_number site.node.state.associations)
-  pub fit : (a : Association) → Has a site.node.state.associations → Fit a
-  pub stopped : site.node.running ≡ false → (a : Association) → Has a site.node.state.associations → a.session ≡ None
+-- where a client does not run it has no session, and its lives are among those that ended
+pub record Is_stopped (es : List LeaseLife) (c : ClientId) (a : Association) : Type 0 where
+  pub session : a.session ≡ None
+  pub row : LeaseLife
+  pub is : find (is_life_of c a.server a.life) es ≡ Some row
+
+-- What stands of a client's node: its associations are of one server each and fit.
+pub record Node_holds (k : Config) (ts : List Stamp) (es : List LeaseLife) (c : ClientId) (node : cl.ClientNode) : Type 0 where
+  pub id : node.state.id ≡ c
+  pub config : node.state.config ≡ k
+  pub once : Once (map server_number node.state.associations)
+  pub fit : (a : Association) → Has a node.state.associations → Fit a
+  pub stopped : node.running ≡ false → (a : Association) → Has a node.state.associations → Is_stopped es c a
   pub clock : Stamp
   pub ticks : numbered ts c.0 ≡ Some clock
-  pub below : (e : LeaseLife) → Has e es → e.client ≡ c → (a : Association) → find (is_at e.server) site.node.state.associations ≡ Some a → Is_below site.node.running e a
+  pub below : (e : LeaseLife) → Has e es → e.client ≡ c → (a : Association) → find (is_at e.server) node.state.associations ≡ Some a → Is_below node.running e a
 
 -- What stands of a life that ended: it is of a client that there is, it stands once, and its lease is over or a crash ended it.
 pub record Ended_holds (ts : List Stamp) (cs : List ClientSite) (es : List LeaseLife) (e : LeaseLife) : Type 0 where
@@ -113,7 +119,7 @@ owner_of e = e.of
 
 -- What stands of the lives in a world.
 pub record Lives_hold (k : Config) (ts : List Stamp) (cs : List ClientSite) (es : List LeaseLife) : Type 0 where
-  pub sites : (c : ClientId) (site : ClientSite) → numbered cs c.0 ≡ Some site → Site_holds k ts es c site
+  pub sites : (c : ClientId) (site : ClientSite) → numbered cs c.0 ≡ Some site → Node_holds k ts es c site.node
   pub ends : (e : LeaseLife) → Has e es → Ended_holds ts cs es e
 
 -- the lives of all commands and entries are known
