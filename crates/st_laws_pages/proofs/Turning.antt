@@ -111,7 +111,7 @@ pairs_map : (f : Association → Association) (al : List Association) → Pairwi
 pairs_map f [] = tt
 pairs_map f (a ∷ al) = record { one = refl; rest = pairs_map f al }
 
-fresh_fit : (l : Life) (s : ServerId) → Fit (cl.association_of l s)
+pub fresh_fit : (l : Life) (s : ServerId) → Fit (cl.association_of l s)
 fresh_fit l s = record { mapped = λ ino p d e. absurd (none d e); fresh = tt }
   where
     none : (d : DirtyPage) → ◌≡◌ {A = Option DirtyPage} None (Some d) → ⊥
@@ -196,7 +196,7 @@ module _ (ts : List Stamp) (es : List LeaseLife) (c : ClientId) (n : cl.ClientNo
       ended a i l w = let z = h.stopped r a i in (z.row, find_front (is_life_of c a.server l) es [] z.row (ap (λ y. find (is_life_of c a.server y) es) (sym (ap (λ n. record { 0 = n }) w)) ∙ z.is))
 
 -- What a client says.
-owners_more : (es : List LogEntry) (e : LogEntry) → map owner_of (es ++ e ∷ []) ≡ map owner_of es ++ e.of ∷ []
+pub owners_more : (es : List LogEntry) (e : LogEntry) → map owner_of (es ++ e ∷ []) ≡ map owner_of es ++ e.of ∷ []
 owners_more [] e = refl
 owners_more (x ∷ es) e = ap (λ z. x.of ∷ z) (owners_more es e)
 
@@ -207,7 +207,7 @@ pub record Said (c : ClientId) (rows : List LeaseLife) (v u : World) : Type 0 wh
   pub ended : u.ended ≡ v.ended ++ rows
   pub known : (es : List LeaseLife) → All_known v.clients es v.commands (map owner_of v.log) → All_known v.clients es u.commands (map owner_of u.log)
 
-none_rows : (xs : List LeaseLife) → xs ≡ xs ++ []
+pub none_rows : (xs : List LeaseLife) → xs ≡ xs ++ []
 none_rows [] = refl
 none_rows (x ∷ xs) = ap (λ z. x ∷ z) (none_rows xs)
 
@@ -225,7 +225,7 @@ same_said c v u k t s e x l =
       known = λ es a. subst (λ z. All_known v.clients es z (map owner_of u.log)) (sym x) (subst (λ z. All_known v.clients es v.commands (map owner_of z)) (sym l) a);
     }
 
-known_owner : (cs : List ClientSite) (es : List LeaseLife) (xs : List IssuedCommand) (os : List LogOwner) (o : LogOwner) → Is_known cs es o.client o.file.server o.life → All_known cs es xs os → All_known cs es xs (os ++ o ∷ [])
+pub known_owner : (cs : List ClientSite) (es : List LeaseLife) (xs : List IssuedCommand) (os : List LogOwner) (o : LogOwner) → Is_known cs es o.client o.file.server o.life → All_known cs es xs os → All_known cs es xs (os ++ o ∷ [])
 known_owner cs es xs os o k a = record { commands = a.commands; owners = λ p i. go p (has_append os (o ∷ []) p i) }
   where
     go : (p : LogOwner) → Has p os ⊎ Has p (o ∷ []) → Is_known cs es p.client p.file.server p.life
@@ -311,7 +311,7 @@ flush_lives c s (x ∷ ss) w h = flush_lives c s ss (ev.flushed_at w c x s) (in_
     in_phase o None = h
 
 -- by the parts of a world
-lives_by : (v : World) (k : Config) (ts : List Stamp) (cs : List ClientSite) (es : List LeaseLife) → v.config ≡ k → v.clocks ≡ ts → v.clients ≡ cs → v.ended ≡ es → Lives_hold k ts cs es → All_known cs es v.commands (map owner_of v.log) → LivesHold v
+pub lives_by : (v : World) (k : Config) (ts : List Stamp) (cs : List ClientSite) (es : List LeaseLife) → v.config ≡ k → v.clocks ≡ ts → v.clients ≡ cs → v.ended ≡ es → Lives_hold k ts cs es → All_known cs es v.commands (map owner_of v.log) → LivesHold v
 lives_by v k ts cs es a b d e h n =
     record {
       lives = subst (λ z. Lives_hold v.config v.clocks v.clients z) (sym e) (subst (λ z. Lives_hold v.config v.clocks z es) (sym d) (subst (λ z. Lives_hold v.config z cs es) (sym b) (subst (λ z. Lives_hold z ts cs es) (sym a) h)));
