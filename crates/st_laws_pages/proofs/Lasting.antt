@@ -27,9 +27,8 @@ use Rattle.st_lemmas.proofs.Lookups.{some_is}
 use Rattle.st_lemmas.proofs.Tables.{has_append, has_map, same_or_not}
 use Rattle.st_lemmas.proofs.Numbers.{numbered_own, numbered_other, numbered_below, numbered_has}
 use Rattle.st_laws_pages.specs.World.{Timely, Late_stays, Ends_at, Ends_agree}
-use Rattle.st_laws_pages.specs.Owed.{Crash_lives}
 use Rattle.st_laws_pages.specs.Losses.{is_ended}
-use Rattle.st_laws_pages.specs.Lives.{ended_rows, rows_lost, Life_next, Stepped, clock_in, Is_known, Node_holds, Ended_holds, Lives_hold, All_known, LivesHold}
+use Rattle.st_laws_pages.specs.Lives.{ended_rows, rows_lost, Life_next, Stepped, clock_in, Is_known, Node_holds, Ended_holds, Lives_hold, All_known, LivesHold, Crash_lives}
 use Rattle.st_laws_pages.proofs.Lives.{find_front, find_back}
 use Rattle.st_laws_pages.proofs.Associations.{own_found, lost_found, lost_other}
 use Rattle.st_laws_pages.proofs.Living.{row_is}
@@ -252,10 +251,12 @@ present_end_is w h e p t q = go p.site.node.running refl
     go : (b : Bool) → p.site.node.running ≡ b → (p.site.node.running ≡ true) × (ended_of w e.client e.server e.life ≡ None) × (lease_end_of w e.client e.server e.life ≡ Some t)
     go false r = absurd (no_option t (ap (λ o. lease.end_at w.config (option_map cl.lease_of_session o)) (sym (m.stopped r p.a p.has).session) ∙ end_is))
     go true r =
-        let n = none (find (is_life_of e.client e.server e.life) w.ended) refl r in
-        (r, n,
-        ap (end_or_present w e.client e.server) n ∙ ap (world.present_end w e.server) p.there ∙ ap (λ s. cl.lease_end_with p.site.node.state s) (ap (λ (y : LeaseLife). y.server) p.is)
-        ∙ ap (λ o. lease.end_at p.site.node.state.config (cl.lease_at o)) (own_found p.site.node.state.associations m.once p.a p.has) ∙ ap (λ k. lease.end_at k (cl.lease_at (Some p.a))) m.config ∙ end_is)
+        let n = none (find (is_life_of e.client e.server e.life) w.ended) refl r in (
+          r,
+          n,
+          ap (end_or_present w e.client e.server) n ∙ ap (world.present_end w e.server) p.there ∙ ap (λ s. cl.lease_end_with p.site.node.state s) (ap (λ (y : LeaseLife). y.server) p.is)
+              ∙ ap (λ o. lease.end_at p.site.node.state.config (cl.lease_at o)) (own_found p.site.node.state.associations m.once p.a p.has) ∙ ap (λ k. lease.end_at k (cl.lease_at (Some p.a))) m.config ∙ end_is,
+        )
 
 end_one : (w : World) → LivesHold w → (e : LeaseLife) → Has e (present_lives w.clients ++ w.ended) → (t : Stamp) → e.end ≡ Some t → Ends_at w e t
 end_one w h e i t q = go (has_append (present_lives w.clients) w.ended e i)

@@ -162,7 +162,7 @@ advance_lives w steps h =
         up t z = let y = clock_up w steps e.client in omega (arith, z, y)
 
 -- Crash and start of a client.
-runs_is : (w : World) (c : ClientId) (site : ClientSite) → site_of w c ≡ Some site → adm.refusal w (events.Crash (nodes.Client c)) ≡ None → site.node.running ≡ true
+pub runs_is : (w : World) (c : ClientId) (site : ClientSite) → site_of w c ≡ Some site → adm.refusal w (events.Crash (nodes.Client c)) ≡ None → site.node.running ≡ true
 unfolding adm.refusal
 runs_is w c site e r = go site.node.running refl
   where
@@ -176,7 +176,7 @@ runs_is w c site e r = go site.node.running refl
         bad true u v = cc
         bad false u v = cc
 
-stopped_is : (w : World) (c : ClientId) (site : ClientSite) → site_of w c ≡ Some site → adm.refusal w (events.Start (nodes.Client c)) ≡ None → site.node.running ≡ false
+pub stopped_is : (w : World) (c : ClientId) (site : ClientSite) → site_of w c ≡ Some site → adm.refusal w (events.Start (nodes.Client c)) ≡ None → site.node.running ≡ false
 unfolding adm.refusal
 stopped_is w c site e r =
     let z = or_none (adm.no_node w (nodes.Client c)) (adm.still_running w (nodes.Client c)) r in

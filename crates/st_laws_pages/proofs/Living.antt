@@ -35,11 +35,12 @@ row_is c s l (x ∷ es) e i = go (is_life_of c s l x) refl i (row_is c s l es e)
     go true q i f =
         let a = and_true (same_client x.client c) (same_server x.server s && (x.life.0 == l.0)) q in
         let b = and_true (same_server x.server s) (x.life.0 == l.0) a.1 in
-        let same : x ≡ e = some_is i in
-        (inl (sym same),
-        ap (λ (z : LeaseLife). z.client) (sym same) ∙ ap (λ n. record { 0 = n }) (eqb-true x.client.0 c.0 a.0),
-        ap (λ (z : LeaseLife). z.server) (sym same) ∙ ap (λ n. record { 0 = n }) (eqb-true x.server.0 s.0 b.0),
-        ap (λ (z : LeaseLife). z.life) (sym same) ∙ ap (λ n. record { 0 = n }) (eqb-true x.life.0 l.0 b.1))
+        let same : x ≡ e = some_is i in (
+          inl (sym same),
+          ap (λ (z : LeaseLife). z.client) (sym same) ∙ ap (λ n. record { 0 = n }) (eqb-true x.client.0 c.0 a.0),
+          ap (λ (z : LeaseLife). z.server) (sym same) ∙ ap (λ n. record { 0 = n }) (eqb-true x.server.0 s.0 b.0),
+          ap (λ (z : LeaseLife). z.life) (sym same) ∙ ap (λ n. record { 0 = n }) (eqb-true x.life.0 l.0 b.1),
+        )
     go false q i f = let z = f i in (inr z.0, z.1, z.2, z.3)
 
 -- what a row says that joins the lives that ended

@@ -78,10 +78,11 @@ module _ (ts : List Stamp) (es : List LeaseLife) (c : ClientId) (n m : cl.Client
     where
       go : (s : Option ClientSession) → a.session ≡ s → is_ended n.state.config now s ≡ true → (t : Stamp) × (cl.lease_end_with n.state a.server ≡ Some t) × (t.0 ≤ now.0)
       go None w e = cc
-      go (Some s) w e =
-          (lease.end_of n.state.config s.lease,
-          ap (λ o. lease.end_at n.state.config (cl.lease_at o)) (own_found n.state.associations h.once a i) ∙ ap (λ o. lease.end_at n.state.config (option_map cl.lease_of_session o)) w,
-          leb-true (lease.end_of n.state.config s.lease).0 now.0 e)
+      go (Some s) w e = (
+        lease.end_of n.state.config s.lease,
+        ap (λ o. lease.end_at n.state.config (cl.lease_at o)) (own_found n.state.associations h.once a i) ∙ ap (λ o. lease.end_at n.state.config (option_map cl.lease_of_session o)) w,
+        leb-true (lease.end_of n.state.config s.lease).0 now.0 e,
+      )
 
   new : (e : LeaseLife) → Has e (rows_lost c n.state now n.state.associations) → New_row N ts c n m (rows_lost c n.state now n.state.associations) e
   new e i = go (lost_has c n.state now n.state.associations e i)
@@ -250,7 +251,7 @@ entry_said c v o ch q u k t s e x l =
       clients = s;
       ended = e ∙ none_rows v.ended;
       known = λ es a. subst (λ z. All_known v.clients es z (map owner_of u.log)) (sym x) (subst (λ z. All_known v.clients es v.commands (map owner_of z)) (sym l)
-      (subst (All_known v.clients es v.commands) (sym (owners_more v.log (log.pending o ch))) (known_owner v.clients es v.commands (map owner_of v.log) o (inr (ap (λ (z : Life). z.0) (sym q))) a)));
+          (subst (All_known v.clients es v.commands) (sym (owners_more v.log (log.pending o ch))) (known_owner v.clients es v.commands (map owner_of v.log) o (inr (ap (λ (z : Life). z.0) (sym q))) a)));
     }
 
 says_one : (c : ClientId) (before : ClientState) (o : Output) (sc : Scene) → Said c (rows_said c before o) sc.world (client_says sc c before o).world

@@ -14,7 +14,7 @@ use Rattle.st_rules.specs.declared.world.IssuedCommand.{IssuedCommand}
 use Rattle.st_rules.specs.declared.world.LeaseLife.{LeaseLife}
 use Rattle.st_rules.specs.Client as cl
 use Rattle.st_rules.specs.ClientState.{Association, ClientState, ClientSession, is_at}
-use Rattle.st_rules.specs.World.{World, ClientSite, numbered, is_life_of}
+use Rattle.st_rules.specs.World.{World, ClientSite, numbered, is_life_of, ended_of}
 use Rattle.st_rules.specs.Events as ev
 use Rattle.st_lemmas.specs.Lists.{Has}
 use Rattle.st_laws_pages.specs.Losses.{Fit, Session_next, is_ended}
@@ -130,3 +130,8 @@ pub record All_known (cs : List ClientSite) (es : List LeaseLife) (xs : List Iss
 pub record LivesHold (w : World) : Type 0 where
   pub lives : Lives_hold w.config w.clocks w.clients w.ended
   pub known : All_known w.clients w.ended w.commands (map owner_of w.log)
+
+-- the commands of a client are of lives that ended, or of its present ones
+abbrev pub Crash_lives : World → ClientId → Type 0
+Crash_lives w c =
+    (k : ℕ) (x : IssuedCommand) → numbered w.commands k ≡ Some x → x.client ≡ c → ended_of w x.client x.server x.life ≡ None → (ev.present_life w x.client x.server).0 ≡ x.life.0
