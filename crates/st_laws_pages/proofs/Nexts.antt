@@ -260,7 +260,7 @@ plain_next : (now : Stamp) (t u : Turn) (more : List Output) → t.id ≡ u.id �
 plain_next now t u more i k s l e f o n =
     record { id = i; config = k; server = s; life = l; session = subst (λ z. Session_next t.config now t.here.session z) e (session_same t.config now t.here.session); fit = f; more = more; out = o; unlost = n }
 
-change_next : (now : Stamp) (t u : Turn) → Change now t u → Next now t u
+pub change_next : (now : Stamp) (t u : Turn) → Change now t u → Next now t u
 unfolding cp.submit_read cp.submit_write cp.submit_command
 change_next now t _ (Says _ o p) = plain_next now t _ (o ∷ []) refl refl refl refl refl (λ f. f) refl (record { one = plain_unlost o p; rest = record {} })
 change_next now t _ (Operates _ os) = plain_next now t _ [] refl refl refl refl refl (λ f. f) (empty_right t.out) (record {})
