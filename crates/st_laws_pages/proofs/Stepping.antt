@@ -27,6 +27,10 @@ use Rattle.st_lemmas.specs.Lists.{Has}
 use Rattle.st_lemmas.proofs.Tables.{has_filter}
 use Rattle.st_laws_pages.specs.Losses.{Session_fresh, Session_next, Fit, is_ended, Loses, Lasts, Is_lost, Ends, Unknown, Passes, Hardens, Fails, without}
 use Rattle.st_laws_pages.specs.Lives.{rows_said, ended_rows, row_lost, rows_lost, Life_next, Pairwise, Stepped}
+use Rattle.st_base.specs.declared.ids.FileId.{FileId}
+use Rattle.st_base.specs.declared.ids.PageNo.{PageNo}
+use Rattle.st_laws_pages.specs.Notes.{Is_changed}
+use Rattle.st_laws_pages.proofs.Dirtying.{Dirtied, changes_dirty, changed_lasts}
 use Rattle.st_laws_pages.proofs.Nexts.{Unlost, All_unlost, Next, next_same, next_then, changes_next, empty_right, append_assoc, session_same, session_then}
 use Rattle.st_laws_pages.proofs.Asking.{c_passes}
 use Rattle.st_laws_pages.proofs.Replying.{c_hear}
@@ -366,3 +370,54 @@ step_lives c s now input f = go (losses_left c s now (client_turn s []) refl f)
                       pairs = pairs_then (Lost_or_not s.config now) (Goes s.config now) (Life_next now s) (life_next s now) s.associations t.state.associations v.state.associations l.pairs r.pairs;
                       rows = r.out ∙ l.out;
                     }
+
+-- What stands between the phases of a step: the associations fit, and what was noted as changed lasts through the passes.
+pub record Phases (s : ClientState) (now : Stamp) (t u v : ClientTurn) : Type 0 where
+  pub config : s.config ≡ t.state.config
+  pub config_too : t.state.config ≡ u.state.config
+  pub fit : (a : Association) → Has a t.state.associations → Fit a
+  pub fit_too : (a : Association) → Has a u.state.associations → Fit a
+  pub lasts : Pairwise (λ a b. (f : FileId) (p : PageNo) → Is_changed s.config now a f p → Is_changed s.config now b f p) u.state.associations v.state.associations
+
+pub phases : (c : ClientId) (s : ClientState) (now : Stamp) (input : ClientInput) → ((a : Association) → Has a s.associations → Fit a) →
+    Phases s now (cl.losses (client_turn s []) now) (cl.take_input (cl.losses (client_turn s []) now) now input) (cl.work (cl.take_input (cl.losses (client_turn s []) now) now input) now input)
+unfolding cl.work no_rows
+phases c s now input f = go (losses_left c s now (client_turn s []) refl f)
+  where
+    t : ClientTurn
+    t = cl.losses (client_turn s []) now
+
+    u : ClientTurn
+    u = cl.take_input t now input
+
+    v : ClientTurn
+    v = cl.work u now input
+
+    Lasts : Association → Association → Type 0
+    Lasts a b = (f : FileId) (p : PageNo) → Is_changed s.config now a f p → Is_changed s.config now b f p
+
+    go : Losses_left c s now (client_turn s []) t → Phases s now t u v
+    go l = heard (input_left c s now input t fit)
+      where
+        fit : (a : Association) → Has a t.state.associations → Fit a
+        fit = pairs_has (Lost_or_not s.config now) Fit Fit (λ a b r. r.fit) s.associations t.state.associations l.pairs f
+
+        heard : Left_all c s t.state.config now t u → Phases s now t u v
+        heard i = worked (pairs_has (Goes t.state.config now) Fit Fit (λ a b r. r.fit) t.state.associations u.state.associations i.pairs fit)
+          where
+            one : (k : Config) → k ≡ s.config → (x y : Turn) → x.config ≡ k → Dirtied now x y → Left Lasts no_rows (λ os. []) x y
+            one k e x y q d =
+                record {
+                  one = λ g p z. changed_lasts s.config now x.here y.here d.next.server (subst (λ w. Session_next w now x.here.session y.here.session) (q ∙ e) d.next.session) d.dirty g p z;
+                  said = refl;
+                }
+
+            worked : ((a : Association) → Has a u.state.associations → Fit a) → Phases s now t u v
+            worked fit_too =
+                record {
+                  config = l.config;
+                  config_too = i.config;
+                  fit = fit;
+                  fit_too = fit_too;
+                  lasts = (each Fit Lasts no_rows (λ os. []) (cp.passes now (cl.is_tick input)) u (λ x q p. one u.state.config (sym (l.config ∙ i.config)) x _ q (changes_dirty now x _ (c_passes now (cl.is_tick input) x))) fit_too).pairs;
+                }
