@@ -30,7 +30,7 @@ pub notes_both : (Q : FileId → PageNo → Type 0) (os ps : List Output) → No
 notes_both Q [] ps a b = b
 notes_both Q (o ∷ os) ps a b = record { one = a.one; rest = notes_both Q os ps a.rest b }
 
-note_map : (P Q : FileId → PageNo → Type 0) → ((f : FileId) (p : PageNo) → P f p → Q f p) → (o : Output) → Note_at P o → Note_at Q o
+pub note_map : (P Q : FileId → PageNo → Type 0) → ((f : FileId) (p : PageNo) → P f p → Q f p) → (o : Output) → Note_at P o → Note_at Q o
 note_map P Q g (outputs.Note n) h = go n h
   where
     go : (n : Note) → Note_at P (outputs.Note n) → Note_at Q (outputs.Note n)

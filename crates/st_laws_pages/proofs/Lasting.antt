@@ -34,7 +34,7 @@ use Rattle.st_laws_pages.proofs.Associations.{own_found, lost_found, lost_other}
 use Rattle.st_laws_pages.proofs.Living.{row_is}
 use Rattle.st_laws_pages.proofs.Turning.{Said, says_lives}
 
-no_option : {A : Type 0} (x : A) → ◌≡◌ {A = Option A} None (Some x) → ⊥
+pub no_option : {A : Type 0} (x : A) → ◌≡◌ {A = Option A} None (Some x) → ⊥
 no_option x e = cc
 
 -- A command's life that has not ended is the present one.
@@ -77,12 +77,12 @@ start_stays w c site there r h k x i t = go (ended_of w x.client x.server x.life
 -- A step of a client.
 
 -- what flush steps leave
-record Flushed (w v : World) : Type 0 where
+pub record Flushed (w v : World) : Type 0 where
   pub clocks : v.clocks ≡ w.clocks
   pub clients : v.clients ≡ w.clients
   pub ended : v.ended ≡ w.ended
 
-flush_parts : (c : ClientId) (s : ClientState) (ss : List ServerId) (w : World) → Flushed w (ev.flushes c s ss w)
+pub flush_parts : (c : ClientId) (s : ClientState) (ss : List ServerId) (w : World) → Flushed w (ev.flushes c s ss w)
 unfolding ev.flushes
 flush_parts c s [] w = record { clocks = refl; clients = refl; ended = refl }
 flush_parts c s (x ∷ ss) w = go (in_phase (cl.lease_end_with s x) (cl.phase_with s x (clock_of w (nodes.Client c)))) (flush_parts c s ss (ev.flushed_at w c x s))

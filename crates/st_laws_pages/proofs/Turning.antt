@@ -254,7 +254,7 @@ entry_said c v o ch q u k t s e x l =
           (subst (All_known v.clients es v.commands) (sym (owners_more v.log (log.pending o ch))) (known_owner v.clients es v.commands (map owner_of v.log) o (inr (ap (λ (z : Life). z.0) (sym q))) a)));
     }
 
-says_one : (c : ClientId) (before : ClientState) (o : Output) (sc : Scene) → Said c (rows_said c before o) sc.world (client_says sc c before o).world
+pub says_one : (c : ClientId) (before : ClientState) (o : Output) (sc : Scene) → Said c (rows_said c before o) sc.world (client_says sc c before o).world
 unfolding client_says ev.sends ev.submits ev.answers_with client_notes ev.accepts ev.patches ev.loses log.accept log.patch
 says_one c before (outputs.Send m) sc = same_said c sc.world _ refl refl refl refl refl refl
 says_one c before (outputs.Answer op a) sc = same_said c sc.world _ refl refl refl refl refl refl
