@@ -51,9 +51,19 @@ impl Authority {
         ensures ok { OnOk result (self.new ≡ rules.suspect self.old client now) }
         ensures err { OnErr result (self.new ≡ self.old) }
     {
-        if !self.may_ack(client) {
-            return Ok(());
+        if self.may_ack(client) {
+            return self.start(client, now);
         }
+        Ok(())
+    }
+
+    /// Starts the timer of a client whose timer does not run.
+    #[tactic(auto, unfolding(st_rules::specs::Authority::start_timer))]
+    fn start(&mut self, client: ClientId, now: Stamp) -> Result<(), AllocError>
+        requires { rules.may_ack self.old client ≡ true }
+        ensures ok { OnOk result (self.new ≡ rules.start_timer self.old client now) }
+        ensures err { OnErr result (self.new ≡ self.old) }
+    {
         self.clients.reserve(1)?;
         start_timer(&mut self.timers, Suspect { client, start: now })?;
         tell_clients(&mut self.clients, &self.timers);
