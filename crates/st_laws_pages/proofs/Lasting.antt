@@ -261,7 +261,7 @@ present_end_is w h e p t q = go p.site.node.running refl
               ∙ ap (λ o. lease.end_at p.site.node.state.config (cl.lease_at o)) (own_found p.site.node.state.associations m.once p.a p.has) ∙ ap (λ k. lease.end_at k (cl.lease_at (Some p.a))) m.config ∙ end_is,
         )
 
-end_one : (w : World) → LivesHold w → (e : LeaseLife) → Has e (present_lives w.clients ++ w.ended) → (t : Stamp) → e.end ≡ Some t → Ends_at w e t
+pub end_one : (w : World) → LivesHold w → (e : LeaseLife) → Has e (present_lives w.clients ++ w.ended) → (t : Stamp) → e.end ≡ Some t → Ends_at w e t
 end_one w h e i t q = go (has_append (present_lives w.clients) w.ended e i)
   where
     go : Has e (present_lives w.clients) ⊎ Has e w.ended → Ends_at w e t
