@@ -218,7 +218,7 @@ at_client_gone w c input None e h f = f
 at_client_gone w c input (Some site) e h f = takes_gone w c input site site e refl h f
 
 -- the same parts, by computation
-kept : (w : World) (o : LogOwner) (v : World) → (Is_crashed w o → Is_crashed v o) → (Is_late w o → Is_late v o) → Over w o → Over v o
+pub kept : (w : World) (o : LogOwner) (v : World) → (Is_crashed w o → Is_crashed v o) → (Is_late w o → Is_late v o) → Over w o → Over v o
 kept w o v f g (inl x) = inl (f x)
 kept w o v f g (inr x) = inr (g x)
 
