@@ -81,26 +81,29 @@ pub record Flushed (w v : World) : Type 0 where
   pub clocks : v.clocks ≡ w.clocks
   pub clients : v.clients ≡ w.clients
   pub ended : v.ended ≡ w.ended
+  pub log : v.log ≡ w.log
+  pub commands : v.commands ≡ w.commands
+  pub config : v.config ≡ w.config
 
 pub flush_parts : (c : ClientId) (s : ClientState) (ss : List ServerId) (w : World) → Flushed w (ev.flushes c s ss w)
 unfolding ev.flushes
-flush_parts c s [] w = record { clocks = refl; clients = refl; ended = refl }
+flush_parts c s [] w = record { clocks = refl; clients = refl; ended = refl; log = refl; commands = refl; config = refl }
 flush_parts c s (x ∷ ss) w = go (in_phase (cl.lease_end_with s x) (cl.phase_with s x (clock_of w (nodes.Client c)))) (flush_parts c s ss (ev.flushed_at w c x s))
   where
     under : (o : Option Stamp) → Flushed w (ev.flushed_under w c x o)
-    under None = record { clocks = refl; clients = refl; ended = refl }
-    under (Some e) = record { clocks = refl; clients = refl; ended = refl }
+    under None = record { clocks = refl; clients = refl; ended = refl; log = refl; commands = refl; config = refl }
+    under (Some e) = record { clocks = refl; clients = refl; ended = refl; log = refl; commands = refl; config = refl }
 
     in_phase : (o : Option Stamp) (p : Option Phase) → Flushed w (ev.flushed_in w c x o p)
     in_phase o (Some phases.Flush) = under o
-    in_phase o (Some phases.Valid) = record { clocks = refl; clients = refl; ended = refl }
-    in_phase o (Some phases.Renewal) = record { clocks = refl; clients = refl; ended = refl }
-    in_phase o (Some phases.Quiesce) = record { clocks = refl; clients = refl; ended = refl }
-    in_phase o (Some phases.Expired) = record { clocks = refl; clients = refl; ended = refl }
-    in_phase o None = record { clocks = refl; clients = refl; ended = refl }
+    in_phase o (Some phases.Valid) = record { clocks = refl; clients = refl; ended = refl; log = refl; commands = refl; config = refl }
+    in_phase o (Some phases.Renewal) = record { clocks = refl; clients = refl; ended = refl; log = refl; commands = refl; config = refl }
+    in_phase o (Some phases.Quiesce) = record { clocks = refl; clients = refl; ended = refl; log = refl; commands = refl; config = refl }
+    in_phase o (Some phases.Expired) = record { clocks = refl; clients = refl; ended = refl; log = refl; commands = refl; config = refl }
+    in_phase o None = record { clocks = refl; clients = refl; ended = refl; log = refl; commands = refl; config = refl }
 
     go : Flushed w (ev.flushed_at w c x s) → Flushed (ev.flushed_at w c x s) (ev.flushes c s ss (ev.flushed_at w c x s)) → Flushed w (ev.flushes c s ss (ev.flushed_at w c x s))
-    go a b = record { clocks = b.clocks ∙ a.clocks; clients = b.clients ∙ a.clients; ended = b.ended ∙ a.ended }
+    go a b = record { clocks = b.clocks ∙ a.clocks; clients = b.clients ∙ a.clients; ended = b.ended ∙ a.ended; log = b.log ∙ a.log; commands = b.commands ∙ a.commands; config = b.config ∙ a.config }
 
 -- what was late stays late, by the parts of a world
 late_parts : (w v : World) (c : ClientId) (old site : ClientSite) → site_of w c ≡ Some old → LivesHold w → v.clocks ≡ w.clocks → v.clients ≡ with_numbered c.0 site w.clients →
@@ -258,7 +261,7 @@ present_end_is w h e p t q = go p.site.node.running refl
               ∙ ap (λ o. lease.end_at p.site.node.state.config (cl.lease_at o)) (own_found p.site.node.state.associations m.once p.a p.has) ∙ ap (λ k. lease.end_at k (cl.lease_at (Some p.a))) m.config ∙ end_is,
         )
 
-end_one : (w : World) → LivesHold w → (e : LeaseLife) → Has e (present_lives w.clients ++ w.ended) → (t : Stamp) → e.end ≡ Some t → Ends_at w e t
+pub end_one : (w : World) → LivesHold w → (e : LeaseLife) → Has e (present_lives w.clients ++ w.ended) → (t : Stamp) → e.end ≡ Some t → Ends_at w e t
 end_one w h e i t q = go (has_append (present_lives w.clients) w.ended e i)
   where
     go : Has e (present_lives w.clients) ⊎ Has e w.ended → Ends_at w e t
