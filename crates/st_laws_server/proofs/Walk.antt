@@ -53,11 +53,11 @@ use Rattle.st_rules.specs.Grace as grace
 use Rattle.st_rules.specs.Grace.{accept, accept_rows, accept_earlier, accept_own, accept_installed, accepted}
 use Rattle.st_rules.specs.Safety.{is_request, may_date, is_conflict}
 use Rattle.st_rules.specs.Server as sv
-use Rattle.st_rules.specs.Server.{ServerState, Turn, Replied, turn, with_locks, with_sessions, sender, life_in, reply, tell, steal_at, steal_from, steal, steal_each, thefts, suspect_client, greet_as, greet_by, greet, refuse_in_grace, hello, demand_seen, see_demand, refuse_epoch, reassert_by, reassert_new, reassert_again, reassert, rule, refused_reassertion, keep_and_reply, keep, serve, request_by, request, of_epoch, by_body, refuse_suspect, by_suspicion, receive_from, receive, take_input, suspect_unless, suspect_each, suspecting, suspecting_on, tell_granted, grant_by, grant_waiting, granting, tell_demanded, demand_by, demanding, server_step}
+use Rattle.st_rules.specs.Server.{is_client_node, ServerState, Turn, Replied, turn, with_locks, with_sessions, sender, life_in, reply, tell, steal_at, steal_from, steal, steal_each, thefts, suspect_client, greet_as, greet_by, greet, refuse_in_grace, hello, demand_seen, see_demand, refuse_epoch, reassert_by, reassert_new, reassert_again, reassert, rule, refused_reassertion, keep_and_reply, keep, serve, request_by, request, of_epoch, by_body, refuse_suspect, by_suspicion, receive_from, receive, take_input, suspect_unless, suspect_each, suspecting, suspecting_on, tell_granted, grant_by, grant_waiting, granting, tell_demanded, demand_by, demanding, server_step}
 use Rattle.st_lemmas.specs.Lists.{Has}
 use Rattle.st_lemmas.proofs.Tables.{cond_either, and_true, not_true, found_at, has_map, has_filter}
 use Rattle.st_lemmas.proofs.Keys.{rising_has}
-use Rattle.st_laws_server.specs.Edits.{All_some, Wish, Wish_input, No_sends, is_kept, Acquired, At_once, In_turn, Refused_in_grace, Edit, Takes_timers, Steals, Suspects, Begins, Drops_waits, Keeps, Reasserts, Sees, Acquires, Releases, Drops_file, Grants, Demands, Names_change, Extents_change, Cuts, Replies, Repeats, Refuses, Tells_grant, Tells_demand}
+use Rattle.st_laws_server.specs.Edits.{All_some, Wish, Wish_input, No_sends, is_kept, Acquired, At_once, In_turn, In_grace, Edit, Takes_timers, Steals, Suspects, Begins, Drops_waits, Keeps, Reasserts, Sees, Acquires, Releases, Drops_file, Grants, Demands, Names_change, Extents_change, Cuts, Replies, Repeats, Refuses, Tells_grant, Tells_demand}
 use Rattle.st_laws_server.proofs.Reasserting.{Take_ok, taken_ok}
 
 -- what is kept is no conflict
@@ -124,7 +124,7 @@ greeted_known t c life rows (Some s) e w =
 
 -- what an accepted reassertion found, and what it leaves
 accepted_is : (g : Option grace.Grace) (now : Stamp) (l : Locks) (t : sessions.Sessions) (c : ClientId) (life : Life) (rs : List (ℕ × GrantNo × Mode)) (a : grace.Accepted) → grace.is_on g now ≡ true → accept g now c life rs l t ≡ Ok a →
-    (grace.own_older l c life ≡ None) × (first_conflict l c rs ≡ None) × (a ≡ record { locks = with_rows l c life rs; sessions = sessions.reasserted t c life })
+    (first_conflict l c rs ≡ None) × (a ≡ record { locks = with_rows l c life rs; sessions = sessions.reasserted t c life })
 unfolding accept accept_rows accept_earlier accept_own accept_installed accepted install install_at
 accepted_is g now l t c life rs a on e = earlier (find (grace.is_new_grant l) rs) (sym (on_is (grace.is_on g now) on) ∙ e)
   where
@@ -135,16 +135,16 @@ accepted_is g now l t c life rs a on e = earlier (find (grace.is_new_grant l) rs
     on_is true e = refl
     on_is false e = cc
 
-    free : (o : Option (ℕ × ClientId)) → first_conflict l c rs ≡ o → grace.own_older l c life ≡ None → accept_installed t c life (install_at l c life rs o) ≡ Ok a → (grace.own_older l c life ≡ None) × (first_conflict l c rs ≡ None) × (a ≡ record { locks = with_rows l c life rs; sessions = sessions.reasserted t c life })
-    free None f w e = (w, f, cc)
-    free (Some x) f w e = cc
+    free : (o : Option (ℕ × ClientId)) → first_conflict l c rs ≡ o → accept_installed t c life (install_at l c life rs o) ≡ Ok a → (first_conflict l c rs ≡ None) × (a ≡ record { locks = with_rows l c life rs; sessions = sessions.reasserted t c life })
+    free None f e = (f, cc)
+    free (Some x) f e = cc
 
-    own : (o : Option ℕ) → grace.own_older l c life ≡ o → accept_own l t c life rs o ≡ Ok a → (grace.own_older l c life ≡ None) × (first_conflict l c rs ≡ None) × (a ≡ record { locks = with_rows l c life rs; sessions = sessions.reasserted t c life })
-    own None w e = free (first_conflict l c rs) refl w e
-    own (Some x) w e = cc
+    own : (o : Option ℕ) → accept_own l t c life rs o ≡ Ok a → (first_conflict l c rs ≡ None) × (a ≡ record { locks = with_rows l c life rs; sessions = sessions.reasserted t c life })
+    own None e = free (first_conflict l c rs) refl e
+    own (Some x) e = cc
 
-    earlier : (o : Option (ℕ × GrantNo × Mode)) → accept_earlier l t c life rs o ≡ Ok a → (grace.own_older l c life ≡ None) × (first_conflict l c rs ≡ None) × (a ≡ record { locks = with_rows l c life rs; sessions = sessions.reasserted t c life })
-    earlier None e = own (grace.own_older l c life) refl e
+    earlier : (o : Option (ℕ × GrantNo × Mode)) → accept_earlier l t c life rs o ≡ Ok a → (first_conflict l c rs ≡ None) × (a ≡ record { locks = with_rows l c life rs; sessions = sessions.reasserted t c life })
+    earlier None e = own (grace.own_older l c life) e
     earlier (Some x) e = cc
 
 accept_off : (g : Option grace.Grace) (now : Stamp) (c : ClientId) (life : Life) (rs : List (ℕ × GrantNo × Mode)) (l : Locks) (t : sessions.Sessions) → grace.is_on g now ≡ false → accept g now c life rs l t ≡ Err (refusals.GraceOver (grace.grace_start g) now)
@@ -157,6 +157,12 @@ module _ (n : ServerState) (now : Stamp) (m : Message) (P : Turn → Type 0) (ke
 
   abbrev h : Header
   h = m.header
+
+  -- a message of a client to this server, right after the thefts
+  record First (t : Turn) : Type 0 where
+    is : t ≡ thefts (turn n []) now
+    from : is_client_node h.from ≡ true
+    there : h.to ≡ server_node t.state.id
 
   -- a reply to a request, and an answer that is kept
   says : (t : Turn) (b : Body) → is_request m.body ≡ true → is_conflict b ≡ false → (may_date h.number b ≡ true → Free t.state m) → P t → P (reply t h b)
@@ -203,9 +209,6 @@ module _ (n : ServerState) (now : Stamp) (m : Message) (P : Turn → Type 0) (ke
   w_seen t ino g p = cond_either P (sv.is_served t h) (see_demand t h ino g) t (λ e. edit (Sees t (sender h) ino g) p) (λ e. p)
 
   -- Reassertion.
-  w_refused : (t : Turn) (r : AcceptRefusal) → Free t.state m → Refused_in_grace n now t m r → P t → P (reply t h (refused_reassertion r))
-  w_refused t r f q p = edit (Refuses t m r refl f q) p
-
   w_again : (t : Turn) (tk : Taken Body) → is_request m.body ≡ true → Free t.state m → Take_ok (sessions.session_of t.state.sessions (sender h)) h.life h.number tk → P t → P (reassert_again t h tk)
   unfolding reassert_again
   w_again t (takes.Again b) r f k p = edit (Repeats t m k.0 h.number b refl r f k.1 k.3) p
@@ -220,16 +223,15 @@ module _ (n : ServerState) (now : Stamp) (m : Message) (P : Turn → Type 0) (ke
   unfolding reassert_by
   w_over t r p = says t _ r refl (λ d. cc) p
 
-  w_accept : (t : Turn) (x : Res grace.Accepted AcceptRefusal) (rs : List (ℕ × GrantNo × Mode)) → m.body ≡ bd.Reassert rs → t ≡ thefts (turn n []) now → h.epoch ≡ t.state.stable.epoch.0 → Free t.state m → All_some rs →
-      grace.is_on t.state.grace now ≡ true → sessions.knows t.state.sessions (sender h) (life_in h) ≡ false → accept t.state.grace now (sender h) (life_in h) rs t.state.locks t.state.sessions ≡ x → P t → P (reassert_by t h x)
+  w_accept : (t : Turn) (x : Res grace.Accepted AcceptRefusal) (rs : List (ℕ × GrantNo × Mode)) → Free t.state m → All_some rs → In_grace n now t m rs → accept t.state.grace now (sender h) (life_in h) rs t.state.locks t.state.sessions ≡ x → P t → P (reassert_by t h x)
   unfolding reassert_by
-  w_accept t (Err r) rs b first ep f w on new e p = w_refused t r f (record { rows = rs; body = b; first = first; on = on; epoch = ep; new = new; refused = e }) p
-  w_accept t (Ok a) rs b first ep f w on new e p =
-      let z = accepted_is t.state.grace now t.state.locks t.state.sessions (sender h) (life_in h) rs a on e in
-      subst (λ (a : grace.Accepted). P (reply (with_sessions a.sessions (with_locks a.locks t)) h bd.Reasserted)) (sym z.2)
-      (says _ bd.Reasserted (ap is_request b) refl (λ d. f) (edit (Reasserts t (sender h) (life_in h) rs w z.0 z.1 on new) p))
+  w_accept t (Err r) rs f w g e p = edit (Refuses t m rs r refl f g e) p
+  w_accept t (Ok a) rs f w g e p =
+      let z = accepted_is t.state.grace now t.state.locks t.state.sessions (sender h) (life_in h) rs a g.on e in
+      subst (λ (a : grace.Accepted). P (reply (with_sessions a.sessions (with_locks a.locks t)) h bd.Reasserted)) (sym z.1)
+      (says _ bd.Reasserted (ap is_request g.body) refl (λ d. f) (edit (Reasserts t m rs refl w g z.0) p))
 
-  w_reassert : (t : Turn) (rs : List (ℕ × GrantNo × Mode)) → m.body ≡ bd.Reassert rs → t ≡ thefts (turn n []) now → h.epoch ≡ t.state.stable.epoch.0 → Free t.state m → All_some rs → P t → P (reassert t now h rs)
+  w_reassert : (t : Turn) (rs : List (ℕ × GrantNo × Mode)) → m.body ≡ bd.Reassert rs → First t → h.epoch ≡ t.state.stable.epoch.0 → Free t.state m → All_some rs → P t → P (reassert t now h rs)
   unfolding reassert reassert_new
   w_reassert t rs b first ep f w p =
       cond_either P (sessions.knows t.state.sessions (sender h) (life_in h)) (reassert_again t h (sv.take t h)) (reassert_new t now h rs)
@@ -237,17 +239,17 @@ module _ (n : ServerState) (now : Stamp) (m : Message) (P : Turn → Type 0) (ke
       (λ new. by_grace new (grace.is_on t.state.grace now) refl)
     where
       by_grace : sessions.knows t.state.sessions (sender h) (life_in h) ≡ false → (b : Bool) → grace.is_on t.state.grace now ≡ b → P (reassert_by t h (accept t.state.grace now (sender h) (life_in h) rs t.state.locks t.state.sessions))
-      by_grace new true on = w_accept t _ rs b first ep f w on new refl p
+      by_grace new true on = w_accept t _ rs f w (record { from = first.from; there = first.there; body = b; first = first.is; on = on; epoch = ep; new = new }) refl p
       by_grace new false off = subst (λ x. P (reassert_by t h x)) (sym (accept_off t.state.grace now (sender h) (life_in h) rs t.state.locks t.state.sessions off)) (w_over t (ap is_request b) p)
 
   -- Requests.
-  w_more : (t : Turn) (c : ClientId) (life : Life) (ino : ℕ) (mode : Mode) (b : Bool) → 1 ≤ number_of mode → Acquired t.state.locks c life (acquire_more t.state.locks c life ino mode b).locks
+  w_more : (t : Turn) (c : ClientId) (life : Life) (ino : ℕ) (mode : Mode) → 1 ≤ number_of mode → Acquired (grace.is_on t.state.grace now) t.state.locks c life (acquire_more t.state.locks c life ino mode (sv.grants_now t now)).locks
   unfolding acquire_more acquire_granted acquire_queued
-  w_more t c life ino mode b w =
-      cond_either (λ (a : locks.Acquired). Acquired t.state.locks c life a.locks) (may_grant t.state.locks c ino mode b) (acquire_granted t.state.locks c life ino mode) (acquire_queued t.state.locks c life ino mode)
-      (λ e. At_once ino mode w (not_true _ (and_true _ _ (and_true b _ e).1).1)) (λ e. In_turn ino mode w)
+  w_more t c life ino mode w =
+      cond_either (λ (a : locks.Acquired). Acquired (grace.is_on t.state.grace now) t.state.locks c life a.locks) (may_grant t.state.locks c ino mode (sv.grants_now t now)) (acquire_granted t.state.locks c life ino mode) (acquire_queued t.state.locks c life ino mode)
+      (λ e. let z = and_true (sv.grants_now t now) _ e in At_once ino mode (not_true _ z.0) w (not_true _ (and_true _ _ z.1).1)) (λ e. In_turn ino mode w)
 
-  w_acquired : (t : Turn) (ino : ℕ) (mode : Mode) (a : locks.Acquired) → is_request m.body ≡ true → Free t.state m → Acquired t.state.locks (sender h) (life_in h) a.locks → P t → P (serve h (sv.acquire_by t ino mode (Ok a)))
+  w_acquired : (t : Turn) (ino : ℕ) (mode : Mode) (a : locks.Acquired) → is_request m.body ≡ true → Free t.state m → Acquired (grace.is_on t.state.grace now) t.state.locks (sender h) (life_in h) a.locks → P t → P (serve h (sv.acquire_by t ino mode (Ok a)))
   unfolding serve keep sv.acquire_by
   w_acquired t ino mode a r f q p = edit (Acquires t m a.locks (sv.verdict_body ino mode a.verdict) refl (record { calm = kept_calm _ (verdict a.verdict); free = λ d. f; request = r }) (verdict a.verdict) q) p
     where
@@ -263,15 +265,15 @@ module _ (n : ServerState) (now : Stamp) (m : Message) (P : Turn → Type 0) (ke
   unfolding sv.acquire_by acquire_held
   w_held t ino mode x r f p = answer t _ r refl f p
 
-  w_acquire_at : (t : Turn) (ino : ℕ) (mode : Mode) (b : Bool) (o : Option LockRow) → is_request m.body ≡ true → Free t.state m → 1 ≤ number_of mode → P t → P (serve h (sv.acquire_by t ino mode (acquire_at t.state.locks (sender h) (life_in h) ino mode b o)))
+  w_acquire_at : (t : Turn) (ino : ℕ) (mode : Mode) (o : Option LockRow) → is_request m.body ≡ true → Free t.state m → 1 ≤ number_of mode → P t → P (serve h (sv.acquire_by t ino mode (acquire_at t.state.locks (sender h) (life_in h) ino mode (sv.grants_now t now) o)))
   unfolding acquire_at acquire_new acquire_over acquire_held
-  w_acquire_at t ino mode b None r f w p =
-      cond_either Q (locks.has_place t.state.locks (sender h) ino) (Ok _) (Err TooManyLocks) (λ e. w_acquired t ino mode _ r f (w_more t (sender h) (life_in h) ino mode b w) p) (λ e. w_full t ino mode r f p)
+  w_acquire_at t ino mode None r f w p =
+      cond_either Q (locks.has_place t.state.locks (sender h) ino) (Ok _) (Err TooManyLocks) (λ e. w_acquired t ino mode _ r f (w_more t (sender h) (life_in h) ino mode w) p) (λ e. w_full t ino mode r f p)
     where
       Q : Res locks.Acquired AcquireRefusal → Type 0
       Q x = P (serve h (sv.acquire_by t ino mode x))
-  w_acquire_at t ino mode b (Some x) r f w p =
-      cond_either Q _ (acquire_held t.state.locks x) (acquire_more t.state.locks (sender h) (life_in h) ino mode b) (λ e. w_held t ino mode x r f p) (λ e. w_acquired t ino mode _ r f (w_more t (sender h) (life_in h) ino mode b w) p)
+  w_acquire_at t ino mode (Some x) r f w p =
+      cond_either Q _ (acquire_held t.state.locks x) (acquire_more t.state.locks (sender h) (life_in h) ino mode (sv.grants_now t now)) (λ e. w_held t ino mode x r f p) (λ e. w_acquired t ino mode _ r f (w_more t (sender h) (life_in h) ino mode w) p)
     where
       Q : locks.Acquired → Type 0
       Q x = P (serve h (sv.acquire_by t ino mode (Ok x)))
@@ -352,7 +354,7 @@ module _ (n : ServerState) (now : Stamp) (m : Message) (P : Turn → Type 0) (ke
   w_rule : (t : Turn) (b : Body) → is_request m.body ≡ true → Free t.state m → Wish b → P t → P (serve h (rule t now h b))
   unfolding rule sv.keep_alive sv.acquire sv.acquire_lock sv.no_file locks.acquire sv.released locks.released sv.map sv.map_held sv.map_page sv.not_holder sv.allocate sv.allocate_held sv.allocate_pages sv.cut sv.cut_held sv.cut_from
   w_rule t bd.KeepAlive r f w p = answer t _ r refl f p
-  w_rule t (bd.Acquire i md) r f w p = cond_either A (sv.is_file t i) (sv.acquire_lock t now h i md) (sv.no_file t i) (λ e. w_acquire_at t i md _ _ r f w p) (λ e. answer t _ r refl f p)
+  w_rule t (bd.Acquire i md) r f w p = cond_either A (sv.is_file t i) (sv.acquire_lock t now h i md) (sv.no_file t i) (λ e. w_acquire_at t i md _ r f w p) (λ e. answer t _ r refl f p)
     where
       A : Replied → Type 0
       A a = P (serve h a)
@@ -381,16 +383,16 @@ module _ (n : ServerState) (now : Stamp) (m : Message) (P : Turn → Type 0) (ke
   w_request_by t b takes.OutOfOrder r f k w p = p
   w_request_by t b takes.Fresh r f k w p = w_rule t b r f w p
 
-  w_request : (t : Turn) (b : Body) → m.body ≡ b → t ≡ thefts (turn n []) now → h.epoch ≡ t.state.stable.epoch.0 → is_request m.body ≡ true → Free t.state m → Wish b → P t → P (request t now h b)
+  w_request : (t : Turn) (b : Body) → m.body ≡ b → First t → h.epoch ≡ t.state.stable.epoch.0 → is_request m.body ≡ true → Free t.state m → Wish b → P t → P (request t now h b)
   unfolding request
   w_request t (bd.Reassert rs) e first ep r f w p = w_reassert t rs e first ep f w p
   w_request t b e first ep r f w p = w_request_by t b (sv.take t h) r f (taken_ok t.state.sessions (sender h) (life_in h) (record { 0 = h.epoch }) h.number) w p
 
-  w_of_epoch : (t : Turn) (b : Body) → m.body ≡ b → t ≡ thefts (turn n []) now → is_request m.body ≡ true → Free t.state m → Wish b → P t → P (of_epoch t now h b)
+  w_of_epoch : (t : Turn) (b : Body) → m.body ≡ b → First t → is_request m.body ≡ true → Free t.state m → Wish b → P t → P (of_epoch t now h b)
   unfolding of_epoch refuse_epoch
   w_of_epoch t b e first r f w p = cond_either P (h.epoch == t.state.stable.epoch.0) (request t now h b) (refuse_epoch t h) (λ q. w_request t b e first (eqb-true _ _ q) r f w p) (λ q. says t _ r refl (λ d. cc) p)
 
-  w_by_body : (t : Turn) (b : Body) → m.body ≡ b → t ≡ thefts (turn n []) now → No_sends t.out → Free t.state m → Wish b → P t → P (by_body t now h b)
+  w_by_body : (t : Turn) (b : Body) → m.body ≡ b → First t → No_sends t.out → Free t.state m → Wish b → P t → P (by_body t now h b)
   unfolding by_body
   w_by_body t bd.Hello e first q f w p = w_hello t (ap is_request e) q f p
   w_by_body t (bd.DemandSeen i g) e first q f w p = w_seen t i g p
@@ -401,7 +403,7 @@ module _ (n : ServerState) (now : Stamp) (m : Message) (P : Turn → Type 0) (ke
   w_refuse t start (bd.DemandSeen i g) e p = p
   w_refuse t start b e p = says t _ (ap is_request e) refl (λ d. cc) p
 
-  w_by_suspicion : (t : Turn) (x : Option Stamp) → authority.started t.state.authority (sender h) ≡ x → t ≡ thefts (turn n []) now → No_sends t.out → Wish m.body → P t → P (by_suspicion t now h m.body x)
+  w_by_suspicion : (t : Turn) (x : Option Stamp) → authority.started t.state.authority (sender h) ≡ x → First t → No_sends t.out → Wish m.body → P t → P (by_suspicion t now h m.body x)
   unfolding by_suspicion
   w_by_suspicion t None e first q w p = w_by_body t m.body refl first q (none_runs (authority.suspect_of t.state.authority (sender h)) e) w p
     where
@@ -414,7 +416,8 @@ module _ (n : ServerState) (now : Stamp) (m : Message) (P : Turn → Type 0) (ke
   unfolding take_input receive receive_from
   w_message w p =
       cond_either P (sv.is_for (thefts (turn n []) now).state h) _ (thefts (turn n []) now)
-      (λ e. w_by_suspicion (thefts (turn n []) now) _ refl refl (thefts_quiet n now) (w (and_true (h.to == server_node (thefts (turn n []) now).state.id) _ e).1) p) (λ e. p)
+      (λ e. let z = and_true (h.to == server_node (thefts (turn n []) now).state.id) _ e in
+      w_by_suspicion (thefts (turn n []) now) _ refl (record { is = refl; from = z.1; there = eqb-true _ _ z.0 }) (thefts_quiet n now) (w z.1) p) (λ e. p)
 
 -- The passes, and the whole step.
 module _ (n : ServerState) (now : Stamp) (i : ServerInput) (P : Turn → Type 0) (keeps : (t u : Turn) → Edit n now i t u → P t → P u) where
@@ -468,21 +471,21 @@ module _ (n : ServerState) (now : Stamp) (i : ServerInput) (P : Turn → Type 0)
       go true e = cc
       go false e = e
 
-  w_file : (t : Turn) (ino k : ℕ) (p : Granting) → P (with_locks p.locks t) → P (with_locks (grant_file ino k p).locks t)
+  w_file : (t : Turn) (ino k : ℕ) (p : Granting) → grace.is_on t.state.grace now ≡ false → P (with_locks p.locks t) → P (with_locks (grant_file ino k p).locks t)
   unfolding grant_file grant_waiter
-  w_file t ino zero p q = q
-  w_file t ino (suc k) p q = go (next_waiter p.locks ino) refl (λ r s. w_file t ino k r s)
+  w_file t ino zero p off q = q
+  w_file t ino (suc k) p off q = go (next_waiter p.locks ino) refl (λ r s. w_file t ino k r off s)
     where
       go : (o : Option Waiter) → next_waiter p.locks ino ≡ o → ((r : Granting) → P (with_locks r.locks t) → P (with_locks (grant_file ino k r).locks t)) → P (with_locks (grant_and (grant_file ino k) p o).locks t)
       go None e r = q
       go (Some w) e r =
           r (grant_waiter p w)
-          (edit_in (Grants (with_locks p.locks t) w (found_at (locks.is_wait_on ino) p.locks.waiters w (waiter_is p.locks (find (locks.is_wait_on ino) p.locks.waiters) w e)).1 (waiter_free p.locks (find (locks.is_wait_on ino) p.locks.waiters) w e)) q)
+          (edit_in (Grants (with_locks p.locks t) w off (found_at (locks.is_wait_on ino) p.locks.waiters w (waiter_is p.locks (find (locks.is_wait_on ino) p.locks.waiters) w e)).1 (waiter_free p.locks (find (locks.is_wait_on ino) p.locks.waiters) w e)) q)
 
-  w_files : (t : Turn) (inos : List ℕ) (p : Granting) → P (with_locks p.locks t) → P (with_locks (grant_files inos p).locks t)
+  w_files : (t : Turn) (inos : List ℕ) (p : Granting) → grace.is_on t.state.grace now ≡ false → P (with_locks p.locks t) → P (with_locks (grant_files inos p).locks t)
   unfolding grant_files
-  w_files t [] p q = q
-  w_files t (ino ∷ inos) p q = w_files t inos _ (w_file t ino (length p.locks.waiters) p q)
+  w_files t [] p off q = q
+  w_files t (ino ∷ inos) p off q = w_files t inos _ off (w_file t ino (length p.locks.waiters) p off q)
 
   w_told : (rs : List (ClientId × Life × ℕ × GrantNo × Mode)) (t : Turn) → P t → P (tell_granted rs t)
   unfolding tell_granted
@@ -491,7 +494,7 @@ module _ (n : ServerState) (now : Stamp) (i : ServerInput) (P : Turn → Type 0)
 
   w_granting : (t : Turn) → P t → P (granting t now)
   unfolding granting grant_waiting grant_by next_grants
-  w_granting t p = cond_either P (sv.in_grace t now) t _ (λ e. p) (λ e. w_told _ (with_locks (next_grants t.state.locks).locks t) (w_files t _ (locks.nothing_granted t.state.locks) p))
+  w_granting t p = cond_either P (sv.in_grace t now) t _ (λ e. p) (λ e. w_told _ (with_locks (next_grants t.state.locks).locks t) (w_files t _ (locks.nothing_granted t.state.locks) e p))
 
   -- demanding
   w_with : (t : Turn) (p : Demanding) (r : LockRow) (x : Option RowDemand) → P (with_locks p.locks t) → P (with_locks (demand_with p r x).locks t)

@@ -29,6 +29,7 @@ use Rattle.st_rules.specs.Locks.{Locks, stands_against, first_conflict, with_row
 use Rattle.st_rules.specs.Sessions as sessions
 use Rattle.st_rules.specs.Authority as authority
 use Rattle.st_rules.specs.Grace as grace
+use Rattle.st_rules.specs.Keys.{server_node}
 use Rattle.st_rules.specs.Extents.{Extents}
 use Rattle.st_rules.specs.Names.{Names}
 use Rattle.st_rules.specs.Server.{ServerState, Turn, turn, with_sessions, with_locks, with_authority, with_names, with_extents, note, reply, tell, sender, life_in, thefts, steal_from, suspect_client, keep_and_reply, refused_reassertion, is_client_node}
@@ -77,20 +78,21 @@ pub record Reply_ok (s : ServerState) (m : Message) (b : Body) : Type 0 where
   pub free : may_date m.header.number b ≡ true → authority.may_ack s.authority (sender m.header) ≡ true
   pub request : is_request m.body ≡ true
 
--- What an acquired lock makes of the table: a grant that no row stands against, or a wait.
-pub data Acquired (l : Locks) (c : ClientId) (life : Life) : Locks → Type 0 where
-  At_once : (ino : ℕ) (mode : Mode) → 1 ≤ number_of mode → list_any (stands_against c ino mode) l.rows ≡ false → Acquired l c life (grant l c life ino mode)
-  In_turn : (ino : ℕ) (mode : Mode) → 1 ≤ number_of mode → Acquired l c life (queue l c life ino mode)
+-- What an acquired lock makes of the table: outside grace a grant that no row stands against, or a wait.
+pub data Acquired (graced : Bool) (l : Locks) (c : ClientId) (life : Life) : Locks → Type 0 where
+  At_once : (ino : ℕ) (mode : Mode) → graced ≡ false → 1 ≤ number_of mode → list_any (stands_against c ino mode) l.rows ≡ false →
+      Acquired graced l c life (grant l c life ino mode)
+  In_turn : (ino : ℕ) (mode : Mode) → 1 ≤ number_of mode → Acquired graced l c life (queue l c life ino mode)
 
--- A reassertion of a new life that is refused in grace, right after the thefts.
-pub record Refused_in_grace (n : ServerState) (now : Stamp) (t : Turn) (m : Message) (r : AcceptRefusal) : Type 0 where
-  pub rows : List (ℕ × GrantNo × Mode)
+-- A reassertion of a new life, in grace and right after the thefts.
+pub record In_grace (n : ServerState) (now : Stamp) (t : Turn) (m : Message) (rows : List (ℕ × GrantNo × Mode)) : Type 0 where
+  pub from : is_client_node m.header.from ≡ true
+  pub there : m.header.to ≡ server_node t.state.id
   pub body : m.body ≡ bodies.Reassert rows
   pub first : t ≡ thefts (turn n []) now
   pub on : grace.is_on t.state.grace now ≡ true
   pub epoch : m.header.epoch ≡ t.state.stable.epoch.0
   pub new : sessions.knows t.state.sessions (sender m.header) (life_in m.header) ≡ false
-  pub refused : grace.accept t.state.grace now (sender m.header) (life_in m.header) rows t.state.locks t.state.sessions ≡ Err r
 
 -- One change of a step that began in the state n, at a moment and with an input.
 pub data Edit (n : ServerState) (now : Stamp) (i : ServerInput) : Turn → Turn → Type 0 where
@@ -106,18 +108,19 @@ pub data Edit (n : ServerState) (now : Stamp) (i : ServerInput) : Turn → Turn 
   Drops_waits : (t : Turn) (c : ClientId) → Edit n now i t (with_locks (locks.drop_waits t.state.locks c) t)
   Keeps : (t : Turn) (c : ClientId) (number : ℕ) (b : Body) → is_kept b ≡ true → Edit n now i t (with_sessions (sessions.store t.state.sessions c number b) t)
   -- a reassertion is accepted
-  Reasserts : (t : Turn) (c : ClientId) (life : Life) (rows : List (ℕ × GrantNo × Mode)) → All_some rows →
-      grace.own_older t.state.locks c life ≡ None → first_conflict t.state.locks c rows ≡ None →
-      grace.is_on t.state.grace now ≡ true → sessions.knows t.state.sessions c life ≡ false →
-      Edit n now i t (with_sessions (sessions.reasserted t.state.sessions c life) (with_locks (with_rows t.state.locks c life rows) t))
+  Reasserts : (t : Turn) (m : Message) (rows : List (ℕ × GrantNo × Mode)) → i ≡ Control m → All_some rows → In_grace n now t m rows →
+      first_conflict t.state.locks (sender m.header) rows ≡ None →
+      Edit n now i t
+      (with_sessions (sessions.reasserted t.state.sessions (sender m.header) (life_in m.header))
+      (with_locks (with_rows t.state.locks (sender m.header) (life_in m.header) rows) t))
   -- the lock table
   Sees : (t : Turn) (c : ClientId) (ino : ℕ) (g : GrantNo) → Edit n now i t (with_locks (locks.demand_seen t.state.locks c ino g) t)
   Acquires : (t : Turn) (m : Message) (l : Locks) (b : Body) → i ≡ Control m → Reply_ok t.state m b → is_kept b ≡ true →
-      Acquired t.state.locks (sender m.header) (life_in m.header) l →
+      Acquired (grace.is_on t.state.grace now) t.state.locks (sender m.header) (life_in m.header) l →
       Edit n now i t (keep_and_reply (with_locks l t) m.header b)
   Releases : (t : Turn) (c : ClientId) (ino : ℕ) (to : Mode) → Edit n now i t (with_locks (release_to t.state.locks c ino to) t)
   Drops_file : (t : Turn) (ino : ℕ) → Edit n now i t (with_locks (locks.drop_file_waits t.state.locks ino) t)
-  Grants : (t : Turn) (w : Waiter) → Has w t.state.locks.waiters → list_any (stands_against w.client w.ino w.mode) t.state.locks.rows ≡ false →
+  Grants : (t : Turn) (w : Waiter) → grace.is_on t.state.grace now ≡ false → Has w t.state.locks.waiters → list_any (stands_against w.client w.ino w.mode) t.state.locks.rows ≡ false →
       Edit n now i t (with_locks (grant t.state.locks w.client w.life w.ino w.mode) t)
   Demands : (t : Turn) (r : LockRow) (x : RowDemand) → Edit n now i t (with_locks (with_demand r x t.state.locks) t)
   -- names and pages
@@ -129,7 +132,9 @@ pub data Edit (n : ServerState) (now : Stamp) (i : ServerInput) : Turn → Turn 
   Repeats : (t : Turn) (m : Message) (s : Session) (last : ℕ) (b : Body) → i ≡ Control m → is_request m.body ≡ true →
       authority.may_ack t.state.authority (sender m.header) ≡ true → sessions.session_of t.state.sessions (sender m.header) ≡ Some s →
       s.state ≡ Live last (Some b) → Edit n now i t (reply t m.header b)
-  Refuses : (t : Turn) (m : Message) (r : AcceptRefusal) → i ≡ Control m → authority.may_ack t.state.authority (sender m.header) ≡ true →
-      Refused_in_grace n now t m r → Edit n now i t (reply t m.header (refused_reassertion r))
+  Refuses : (t : Turn) (m : Message) (rows : List (ℕ × GrantNo × Mode)) (r : AcceptRefusal) → i ≡ Control m →
+      authority.may_ack t.state.authority (sender m.header) ≡ true → In_grace n now t m rows →
+      grace.accept t.state.grace now (sender m.header) (life_in m.header) rows t.state.locks t.state.sessions ≡ Err r →
+      Edit n now i t (reply t m.header (refused_reassertion r))
   Tells_grant : (t : Turn) (c : ClientId) (life : Life) (ino : ℕ) (g : GrantNo) (mode : Mode) → Edit n now i t (tell t c life (bodies.Granted ino g mode))
   Tells_demand : (t : Turn) (c : ClientId) (life : Life) (ino : ℕ) (g : GrantNo) (mode : Mode) → Edit n now i t (tell t c life (bodies.Demand ino g mode))
