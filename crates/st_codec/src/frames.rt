@@ -1,5 +1,5 @@
 ghost use Rattle.std.specs.Prelude.{◌≡◌, ◌≤◌, ◌+◌, ℕ, IfOk, OnOk, OnErr, None, length};
-ghost use Rattle.st_codec.specs.Frames as rules;
+ghost use Rattle.st_codec.specs.Frames as frames;
 
 use crate::decoding::decode;
 use crate::refusal::CodecRefusal;
@@ -20,7 +20,7 @@ pub enum Front {
 
 #[tactic(auto, unfolding(crate::specs::Frames::front))]
 fn front_of(rest: &[u8]) -> Front
-    ensures front { result ≡ rules.front rest.now }
+    ensures front { result ≡ frames.front rest.now }
     ensures whole { (n : ℕ) → result ≡ Front.Whole n → 4 + n ≤ length rest.now }
 {
     if rest.len() < 4 {
@@ -61,7 +61,7 @@ impl Model for FrameReader {
 
 impl FrameReader {
     pub fn new(alloc: Global) -> FrameReader
-        ensures { result ≡ rules.fresh }
+        ensures { result ≡ frames.fresh }
     {
         FrameReader {
             alloc,
@@ -107,7 +107,7 @@ impl FrameReader {
 
     /// Takes the next piece of the stream. If it runs out of memory, nothing changes.
     pub fn feed(&mut self, piece: &[u8]) -> Result<(), AllocError>
-        ensures fed { OnOk result (self.new ≡ rules.fed self.old piece.now) }
+        ensures fed { OnOk result (self.new ≡ frames.fed self.old piece.now) }
         ensures memory { OnErr result (self.new ≡ self.old) }
     {
         self.compact()?;
@@ -122,7 +122,7 @@ impl FrameReader {
     ) -> Result<Option<Result<Message, CodecRefusal>>, AllocError>
         requires whole { 4 + len ≤ length self.old.rest }
         requires open { self.old.refusal ≡ None }
-        ensures answer { IfOk result (λ answer. (self.new, answer) ≡ rules.next_whole self.old len) }
+        ensures answer { IfOk result (λ answer. (self.new, answer) ≡ frames.next_whole self.old len) }
         ensures memory { OnErr result (self.new ≡ self.old) }
     {
         let (_, body) = self.rest().split_at(4);
@@ -145,7 +145,7 @@ impl FrameReader {
     /// frame is held. If it runs out of memory, nothing changes.
     #[tactic(auto, unfolding(crate::specs::Frames::next))]
     pub fn next(&mut self) -> Result<Option<Result<Message, CodecRefusal>>, AllocError>
-        ensures answer { IfOk result (λ answer. (self.new, answer) ≡ rules.next self.old) }
+        ensures answer { IfOk result (λ answer. (self.new, answer) ≡ frames.next self.old) }
         ensures memory { OnErr result (self.new ≡ self.old) }
     {
         if let Some(refusal) = self.refusal {

@@ -1,5 +1,5 @@
 ghost use Rattle.std.specs.Prelude.{◌≡◌};
-ghost use Rattle.st_messages.specs.Kinds as rules;
+ghost use Rattle.st_messages.specs.Kinds as kinds;
 
 /// The kinds of messages. `Patch` is the application's request in version 2; all other kinds are in version 1.
 #[derive(Clone, Copy, Debug, PartialEq, Eq)]
@@ -53,7 +53,7 @@ pub enum Need {
 impl Party {
     /// Returns whether the node with this number is one of them.
     pub fn includes(self, node: u16) -> bool
-        ensures { result ≡ rules.includes self node }
+        ensures { result ≡ kinds.includes self node }
     {
         match self {
             Party::Client => 1 <= node && node <= 16,
@@ -68,7 +68,7 @@ impl Need {
     /// Returns whether the number is in the range.
     #[tactic(auto, using(crate::proofs::Ranges::in_word64))]
     pub fn allows(self, number: u64) -> bool
-        ensures { result ≡ rules.allows self number }
+        ensures { result ≡ kinds.allows self number }
     {
         match self {
             Need::Zero => number == 0,
@@ -81,7 +81,7 @@ impl Need {
 impl Kind {
     /// Returns who sends messages of this kind.
     pub fn sender(self) -> Party
-        ensures { result ≡ rules.sender self }
+        ensures { result ≡ kinds.sender self }
     {
         match self {
             Kind::Tick | Kind::App | Kind::Patch | Kind::Done => Party::Surroundings,
@@ -100,7 +100,7 @@ impl Kind {
 
     /// Returns who receives messages of this kind.
     pub fn receiver(self) -> Party
-        ensures { result ≡ rules.receiver self }
+        ensures { result ≡ kinds.receiver self }
     {
         match self {
             Kind::AppDone | Kind::Submit => Party::Surroundings,
@@ -123,7 +123,7 @@ impl Kind {
 
     /// Returns the range of the life in the header.
     pub fn life(self) -> Need
-        ensures { result ≡ rules.life_of self }
+        ensures { result ≡ kinds.life_of self }
     {
         match self {
             Kind::Tick | Kind::App | Kind::Patch | Kind::AppDone | Kind::Submit | Kind::Done =>
@@ -134,7 +134,7 @@ impl Kind {
 
     /// Returns the range of the epoch in the header.
     pub fn epoch(self) -> Need
-        ensures { result ≡ rules.epoch_of self }
+        ensures { result ≡ kinds.epoch_of self }
     {
         match self {
             Kind::Hello
@@ -150,7 +150,7 @@ impl Kind {
 
     /// Returns the range of the request number in the header.
     pub fn request(self) -> Need
-        ensures { result ≡ rules.request_of self }
+        ensures { result ≡ kinds.request_of self }
     {
         match self {
             Kind::Hello
@@ -170,7 +170,7 @@ impl Kind {
 
     /// Returns the range of the stamp in the header.
     pub fn stamp(self) -> Need
-        ensures { result ≡ rules.stamp_of self }
+        ensures { result ≡ kinds.stamp_of self }
     {
         match self {
             Kind::DemandSeen

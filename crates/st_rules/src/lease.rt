@@ -12,8 +12,8 @@ pub enum Phase {
     Expired,
 }
 
-/// The first pair of nodes, by position, where the clock of `ahead` ran ahead of the clock of `behind` by more than the
-/// bound. `by` is `den` times the gain of `ahead`, minus `num` times the gain of `behind`.
+/// The first pair of nodes, by position, where the clock of node `m` ran ahead of the clock of node `n` by more than the
+/// bound. `excess` is `den` times the gain of `m`, minus `num` times the gain of `n`.
 #[derive(Clone, Copy, Debug, PartialEq, Eq)]
 pub struct Excess {
     pub m: usize,
