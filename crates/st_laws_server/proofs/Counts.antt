@@ -1,11 +1,12 @@
 -- How many locks a server granted in its epoch, and how many wait: in a step at most one more, and then a message is sent.
-use Rattle.std.proofs.Common.{◌≡◌, ℕ, ◌+◌, ◌^◌, ◌<◌, ◌≤◌, ◌⊎◌, Bool, true, false, List, [], ◌∷◌, ◌++◌, if◌then◌else◌, refl, sym, ap, ◌∙◌, subst, inl, inr, arith}
+use Rattle.std.proofs.Common.{◌≡◌, ℕ, ◌+◌, ◌^◌, ◌<◌, ◌≤◌, ◌⊎◌, Bool, true, false, List, [], ◌∷◌, ◌++◌, if◌then◌else◌, refl, sym, ap, subst, inl, inr, arith}
 use Rattle.std.specs.Prelude.{not, filter, map, length, Option, Some, None}
 use Rattle.st_base.specs.declared.ids.ClientId.{ClientId}
 use Rattle.st_base.specs.declared.ids.GrantNo.{GrantNo}
 use Rattle.st_base.specs.declared.ids.Life.{Life}
 use Rattle.st_base.specs.declared.ids.ServerId.{ServerId}
 use Rattle.st_base.specs.declared.ids.Stamp.{Stamp}
+use Rattle.st_base.specs.declared.config.Config as base
 use Rattle.st_base.specs.declared.mode.Mode.{Mode}
 use Rattle.st_base.specs.declared.mode.Mode.TheVariants as modes
 use Rattle.st_messages.specs.declared.message.Message.{Message}
@@ -14,22 +15,20 @@ use Rattle.st_messages.specs.declared.output.Output.{Output}
 use Rattle.st_messages.specs.declared.output.Output.TheVariants as outputs
 use Rattle.st_messages.specs.Sizes.{size_of}
 use Rattle.st_rules.specs.declared.input.ServerInput.{ServerInput}
-use Rattle.st_rules.specs.declared.locks.LockRow.{LockRow}
-use Rattle.st_rules.specs.declared.locks.RowDemand.{RowDemand}
 use Rattle.st_rules.specs.declared.locks.Waiter.{Waiter}
 use Rattle.st_rules.specs.declared.sessions.Session.{Session}
 use Rattle.st_rules.specs.Locks as locks
 use Rattle.st_rules.specs.Locks.{Locks, is_wait_of, wait_of, grant, queue, queue_at, raise, release_to, with_rows, with_demand}
 use Rattle.st_rules.specs.Sessions as sessions
 use Rattle.st_rules.specs.Authority as authority
-use Rattle.st_rules.specs.Server.{ServerState, Turn, turn, sender, life_in, reply, tell, steal_at, steal_from, steal, steal_each, thefts, suspect_client, keep_and_reply, server_step}
+use Rattle.st_rules.specs.Server.{ServerState, Turn, turn, sender, life_in, reply, tell, steal_at, steal_from, steal, steal_each, thefts, suspect_client, keep_and_reply, server_step, crash, start, begin_epoch, fresh_server}
 use Rattle.st_rules.specs.Events.{Scene, sends, cuts, server_notes, server_says, server_says_all}
 use Rattle.st_lemmas.specs.Lists.{Has}
 use Rattle.st_lemmas.proofs.Numbers.{length_more}
 use Rattle.st_lemmas.proofs.Tables.{and_both}
 use Rattle.std.proofs.lemmas.Bool.{eq-eqb}
 use Rattle.st_laws_server.specs.Edits.{Wish_input, Acquired, At_once, In_turn, Edit, Takes_timers, Steals, Suspects, Begins, Drops_waits, Keeps, Reasserts, Sees, Acquires, Releases, Drops_file, Grants, Demands, Names_change, Extents_change, Cuts, Replies, Repeats, Refuses, Tells_grant, Tells_demand}
-use Rattle.st_laws_server.specs.Stands.{taken_locks}
+use Rattle.st_laws_server.specs.Stands.{taken_locks, Few}
 use Rattle.st_laws_server.proofs.Walk.{walk}
 
 fewer : {A : Type 0} (p : A → Bool) (xs : List A) → length (filter p xs) ≤ length xs
@@ -197,3 +196,23 @@ pub all_bytes : (s : ServerId) (os : List Output) (sc : Scene) → sc.world.net.
 unfolding server_says_all
 all_bytes s [] sc = omega arith
 all_bytes s (o ∷ os) sc = let a = says_bytes s o sc in let b = all_bytes s os (server_says sc s o) in let c = sent_first o os in omega arith
+
+-- more bytes, a crash and a start leave it so, and a fresh server begins so
+pub few_more : (a b : ℕ) (n : ServerState) → a ≤ b → Few a n → Few b n
+few_more a b n h f = record { paid = let p = f.paid in omega arith; few = f.few }
+
+pub few_crash : (bytes : ℕ) (n : ServerState) → Few bytes (crash n)
+unfolding crash
+few_crash bytes n = record { paid = omega arith; few = omega arith }
+
+pub few_start : (bytes : ℕ) (n : ServerState) (now : Stamp) → Few bytes (start n now)
+unfolding start begin_epoch
+few_start bytes n now = record { paid = omega arith; few = omega arith }
+
+pub few_fresh : (bytes : ℕ) (id : ServerId) (kb : base.Config) (servers disks blocks : ℕ) → Few bytes (fresh_server id kb servers disks blocks)
+unfolding fresh_server
+few_fresh bytes id kb servers disks blocks = record { paid = omega arith; few = omega arith }
+
+-- so the grant numbers of an epoch stay below those of the next one
+pub few_grants : (bytes : ℕ) (n : ServerState) → Few bytes n → n.locks.grants < 2 ^ 32
+few_grants bytes n f = let p = f.few in omega arith
