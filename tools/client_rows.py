@@ -336,7 +336,7 @@ def write_file(name, rows):
         if there:
             head += f"ghost use Rattle.{path}.{{{', '.join(there)}}};\n"
     target = pathlib.Path("crates/st_rows/src") / f"{name}.rt"
-    target.write_text(head + body)
+    target.write_text("// Written by tools/client_rows.py.\n" + head + body)
 
 
 def main():

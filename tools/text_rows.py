@@ -154,4 +154,4 @@ if __name__ == "__main__":
                  [(n, f"text.refusal ({refusal_text(r)}) ≡ {codes(' ' + str(r))}") for n, r in REFUSALS.items()]),
         function("a_refused_run", "A report that ends with a refusal.", whole("cut-twice")),
         function("a_whole_run", "A report that ends with the counts.", whole("names")),
-    ]))
+    ]), "text_rows.py")

@@ -1,3 +1,4 @@
 pub mod Page
+pub mod Content
 pub mod Config
 pub mod Mode

@@ -4,7 +4,8 @@ use crate::ids::{DiskId, FileId, PageNo};
 use crate::page::PageBytes;
 use std::alloc::AllocError;
 
-/// What a block says of its page: whose it is, and the birth of the mapping under which it was written.
+/// The tag that is stored with a block: the page whose bytes it holds, and the birth of the mapping under which it was
+/// written.
 #[derive(Clone, Copy, Debug, PartialEq, Eq)]
 pub struct Tag {
     pub file: FileId,
@@ -12,14 +13,14 @@ pub struct Tag {
     pub birth: u64,
 }
 
-/// A block of a disk, from 0.
+/// A block of a disk. Blocks are numbered from 0.
 #[derive(Clone, Copy, Debug, PartialEq, Eq)]
 pub struct BlockAt {
     pub disk: DiskId,
     pub block: u32,
 }
 
-/// What a client asks of a disk: a whole block is read or written.
+/// A disk command: it reads or writes one whole block.
 #[derive(Drop)]
 pub enum Command {
     Read {
@@ -41,7 +42,7 @@ impl Clone for Command {
 }
 
 impl Command {
-    /// The same command, once more; the page is shared.
+    /// Returns a copy of the command. The page is shared.
     pub fn copy(&self) -> Result<Command, AllocError>
         ensures { IfOk result (λ c. c ≡ self.now) }
     {

@@ -1,5 +1,5 @@
-//! The values that every part of the protocol speaks of: numbers of nodes, files and pages, lock modes, pages,
-//! rows and the settings of a world. `docs/PROTOCOL.md`, "The cast", says what each stands for.
+//! The types that every part of the protocol uses: identifiers, lock modes, pages, names, rows and the settings of a
+//! world. `docs/PROTOCOL.md`, "The cast", describes each.
 #![tactic(auto)]
 
 mod config;

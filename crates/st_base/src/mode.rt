@@ -1,7 +1,7 @@
 ghost use Rattle.std.specs.Prelude.{◌≡◌};
-ghost use Rattle.st_base.specs.Mode as rules;
+ghost use Rattle.st_base.specs.Mode as mode;
 
-/// A lock's mode: none, shared or exclusive, in rising order.
+/// The mode of a lock: none, shared or exclusive, from the weakest to the strongest.
 #[derive(Clone, Copy, Debug, PartialEq, Eq)]
 pub enum Mode {
     None,
@@ -10,9 +10,9 @@ pub enum Mode {
 }
 
 impl Mode {
-    /// The mode's number, on the wire and in a report: 0, 1 or 2.
+    /// Returns the number of the mode in messages and reports: 0, 1 or 2.
     pub fn number(self) -> u8
-        ensures { result ≡ rules.number_of self }
+        ensures { result ≡ mode.number_of self }
     {
         match self {
             Mode::None => 0,
@@ -21,16 +21,16 @@ impl Mode {
         }
     }
 
-    /// Whether a lock of this mode serves for the other.
+    /// Returns whether this mode is at least as strong as `wanted`.
     pub fn covers(self, wanted: Mode) -> bool
-        ensures { result ≡ rules.covers self wanted }
+        ensures { result ≡ mode.covers self wanted }
     {
         wanted.number() <= self.number()
     }
 
-    /// Whether two clients can't hold these modes at once.
+    /// Returns whether two clients cannot hold these modes of one lock at the same time.
     pub fn conflicts(self, other: Mode) -> bool
-        ensures { result ≡ rules.conflicts self other }
+        ensures { result ≡ mode.conflicts self other }
     {
         match (self, other) {
             (Mode::S, Mode::X) => true,

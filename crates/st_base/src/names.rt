@@ -5,7 +5,7 @@ use std::alloc::{AllocError, Global};
 use std::marker::Model;
 use thiserror::Error;
 
-/// A name in a directory. Contracts see it as the list of its bytes.
+/// A name in a directory. Contracts see it as the list of its bytes; its length is not limited here.
 #[derive(Drop)]
 pub struct Name {
     bytes: Vec<u8>,
@@ -20,12 +20,14 @@ impl Model for Name {
 }
 
 impl Name {
+    /// Makes a name of these bytes. It does not allocate.
     pub fn from_vec(bytes: Vec<u8>) -> Name
         ensures { result ≡ bytes.items }
     {
         Name { bytes }
     }
 
+    /// Makes a name of a copy of these bytes.
     pub fn from_slice(alloc: Global, bytes: &[u8]) -> Result<Name, AllocError>
         ensures { IfOk result (λ n. n ≡ bytes.now) }
     {
@@ -34,12 +36,14 @@ impl Name {
         })
     }
 
+    /// Returns the number of bytes.
     pub fn len(&self) -> usize
         ensures { result ≡ length self.now }
     {
         self.bytes.len()
     }
 
+    /// Returns the byte at index `i`.
     pub fn get(&self, i: usize) -> &u8
         requires { i < length self.now }
         ensures { slice_get self.now i ≡ Some result.now }
@@ -47,12 +51,14 @@ impl Name {
         &self.bytes[i]
     }
 
+    /// Returns the bytes.
     pub fn as_slice(&self) -> &[u8]
         ensures { result.now ≡ self.now }
     {
         self.bytes.as_slice()
     }
 
+    /// Returns a copy of the name.
     pub fn copy(&self) -> Result<Name, AllocError>
         ensures { IfOk result (λ n. n ≡ self.now) }
     {
@@ -70,7 +76,7 @@ impl Clone for Name {
     }
 }
 
-/// What is asked of the names of a server: `dir` and `dir2` are directories, by their inodes.
+/// A request on the names of a server. `dir` and `dir2` are the inode numbers of directories.
 #[derive(Drop)]
 pub enum NameAsk {
     Lookup {
@@ -85,7 +91,7 @@ pub enum NameAsk {
         dir: u32,
         name: Name,
     },
-    /// `ino` is the inode that the asker means, 0 for a directory.
+    /// `ino` is the inode number of the file to be removed, or 0 for a directory.
     Remove {
         dir: u32,
         name: Name,
@@ -97,14 +103,14 @@ pub enum NameAsk {
         dir2: u32,
         name2: Name,
     },
-    /// The entries above `after`, which may be empty.
+    /// Lists the entries whose names are greater than `after`. An empty `after` lists from the beginning.
     List {
         dir: u32,
         after: Name,
     },
 }
 
-/// An entry of a directory.
+/// An entry of a directory: its inode number, whether it is a directory, and its name.
 #[derive(Drop)]
 pub struct NameRow {
     pub ino: u32,
@@ -113,6 +119,7 @@ pub struct NameRow {
 }
 
 impl NameRow {
+    /// Returns a copy of the entry.
     pub fn copy(&self) -> Result<NameRow, AllocError>
         ensures { IfOk result (λ r. r ≡ self.now) }
     {
@@ -132,11 +139,11 @@ impl Clone for NameRow {
     }
 }
 
-/// Entries of a directory, in the order in which they are told.
+/// Entries of a directory, in the order of an answer.
 pub type NameRows = Rows<NameRow>;
 
 impl Rows<NameRow> {
-    /// The same entries, once more.
+    /// Returns a copy of the entries.
     pub fn copy(&self) -> Result<NameRows, AllocError>
         ensures { IfOk result (λ r. r ≡ self.now) }
     {
@@ -148,7 +155,7 @@ impl Rows<NameRow> {
     }
 }
 
-/// Why the names of a server refuse a call; the number of each is its place in this list, from 1.
+/// Why a request on names is refused. The number of a refusal is its position in this list, from 1.
 #[derive(Clone, Copy, Debug, PartialEq, Eq, Error)]
 pub enum NameRefusal {
     #[error("no such entry")]
@@ -180,7 +187,7 @@ impl Clone for NameAsk {
 }
 
 impl NameAsk {
-    /// The same ask, once more.
+    /// Returns a copy of the request.
     pub fn copy(&self) -> Result<NameAsk, AllocError>
         ensures { IfOk result (λ a. a ≡ self.now) }
     {

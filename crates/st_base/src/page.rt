@@ -1,24 +1,34 @@
-ghost use Rattle.std.specs.Prelude.{◌≡◌, ◌<◌, IfOk, Some, length, slice_get};
+ghost use Rattle.std.specs.Prelude.{◌≡◌, ◌<◌, IfOk, IfSome, OnOk, None, Some, ◌++◌, ◌==◌, length, slice_get};
+ghost use Rattle.std.specs.List.{list_all};
 ghost use Rattle.st_base.specs.Page as pages;
 
 use std::alloc::{AllocError, Global};
 use std::marker::Model;
 use std::rc::Rc;
 
-/// The bytes of one page, of which there are 4,096. A page never changes, and its copies are one page in memory.
+/// The bytes of a page: one byte where all 4,096 are equal, and otherwise all of them, shared by the copies of the page.
+#[derive(Drop)]
+enum Content {
+    Filled(u8),
+    Mixed(Rc<Vec<u8>>),
+}
+
+/// The 4,096 bytes of a page. Contracts see it as the list of these bytes. A page never changes. A page whose bytes are
+/// all equal keeps one byte; the copies of any other page share one allocation.
 #[derive(Drop)]
 pub struct PageBytes {
-    bytes: Rc<Vec<u8>>,
+    content: Content,
 }
 
 impl Model for PageBytes {
-    ghost use Rattle.std.specs.Prelude.{◌≡◌, List, ℕ, length};
+    ghost use Rattle.std.specs.Prelude.{List, ℕ};
+    ghost use Rattle.st_base.specs.Content.{IsPage, bytes_of};
 
     ghost Value = { List ℕ };
 
-    ghost view = { λ p. p.bytes.value.items };
+    ghost view = { λ p. bytes_of p.content };
 
-    ghost invariant = { λ p. length p.bytes.value.items ≡ 4096 };
+    ghost invariant = { λ p. IsPage p.content };
 }
 
 impl Clone for PageBytes {
@@ -29,58 +39,145 @@ impl Clone for PageBytes {
     }
 }
 
+fn are_all(bytes: &[u8], byte: u8) -> bool
+    ensures { result ≡ list_all (λ x. x == byte) bytes.now }
+{
+    bytes.iter().all(|x| *x == byte)
+}
+
+/// Returns the first byte if all bytes equal it. Without bytes it returns `None`.
+#[tactic(auto, unfolding(crate::specs::Page::repeated_of))]
+fn repeated_byte(bytes: &[u8]) -> Option<u8>
+    ensures { result ≡ pages.repeated_of bytes.now }
+{
+    match bytes {
+        [] => None,
+        [first, rest @ ..] => {
+            if are_all(rest, *first) {
+                Some(*first)
+            } else {
+                None
+            }
+        }
+    }
+}
+
+#[tactic(auto, unfolding(crate::specs::Page::filled))]
+fn put_filled(out: &mut Vec<u8>, byte: u8) -> Result<(), AllocError>
+    ensures { OnOk result (out.new.items ≡ out.old.items ++ pages.filled byte) }
+{
+    let bytes = [byte; 4096];
+    out.extend_from_slice(&bytes)
+}
+
+fn fill(into: &mut [u8], byte: u8)
+    requires { length into.old ≡ 4096 }
+    ensures { into.new ≡ pages.filled byte }
+{
+    into.fill(byte);
+}
+
 impl PageBytes {
+    /// The number of bytes of a page.
     pub const LEN: usize = 4096;
 
-    /// A page of one byte repeated.
-    #[tactic(auto, unfolding(crate::specs::Page::filled))]
-    pub fn filled(alloc: Global, byte: u8) -> Result<PageBytes, AllocError>
-        ensures { IfOk result (λ p. p ≡ pages.filled byte) }
+    /// Makes a page whose bytes all equal `byte`. It does not allocate.
+    #[tactic(auto, using(crate::proofs::Filled::length_filled, crate::proofs::Filled::repeated_of_filled))]
+    pub fn filled(byte: u8) -> PageBytes
+        ensures { result ≡ pages.filled byte }
     {
-        let bytes = vec![in alloc; byte; 4096]?;
+        PageBytes {
+            content: Content::Filled(byte),
+        }
+    }
+
+    /// Makes a page of a copy of these 4,096 bytes. It does not allocate where they are all equal.
+    pub fn from_slice(alloc: Global, bytes: &[u8]) -> Result<PageBytes, AllocError>
+        requires { length bytes.now ≡ 4096 }
+        ensures { IfOk result (λ p. p ≡ bytes.now) }
+    {
+        if let Some(byte) = repeated_byte(bytes) {
+            return Ok(PageBytes::filled(byte));
+        }
+        let bytes = Vec::from_slice(alloc, bytes)?;
         Ok(PageBytes {
-            bytes: Rc::new(alloc, bytes)?,
+            content: Content::Mixed(Rc::new(alloc, bytes)?),
         })
     }
 
-    /// A page of these bytes.
-    pub fn from_vec(bytes: Vec<u8>) -> Result<PageBytes, AllocError>
-        requires { length bytes.items ≡ 4096 }
-        ensures { IfOk result (λ p. p ≡ bytes.items) }
-    {
-        let alloc = *bytes.allocator();
-        Ok(PageBytes {
-            bytes: Rc::new(alloc, bytes)?,
-        })
-    }
-
+    /// Returns the number of bytes, which is 4,096.
     pub fn len(&self) -> usize
         ensures whole { result ≡ 4096 }
         ensures page { length self.now ≡ 4096 }
     {
-        self.bytes.len()
+        let _content = &self.content;
+        4096
     }
 
+    /// Returns the byte at index `i`.
+    #[tactic(auto, using(crate::proofs::Filled::filled_at))]
     pub fn get(&self, i: usize) -> &u8
         requires { i < length self.now }
         ensures { slice_get self.now i ≡ Some result.now }
     {
-        &self.bytes[i]
+        match &self.content {
+            Content::Filled(byte) => byte,
+            Content::Mixed(bytes) => &bytes[i],
+        }
     }
 
-    /// The same page, shared: no byte moves.
+    /// Returns the byte that all bytes equal, or `None` if they are not all equal. It takes constant time.
+    pub fn repeated(&self) -> Option<u8>
+        ensures exact { result ≡ pages.repeated_of self.now }
+        ensures page { IfSome result (λ byte. self.now ≡ pages.filled byte) }
+    {
+        match &self.content {
+            Content::Filled(byte) => Some(*byte),
+            Content::Mixed(_) => None,
+        }
+    }
+
+    /// Returns the bytes of a page whose bytes are not all equal. A page of equal bytes has no slice to lend.
+    pub fn as_slice(&self) -> &[u8]
+        requires { pages.repeated_of self.now ≡ None }
+        ensures { result.now ≡ self.now }
+    {
+        match &self.content {
+            Content::Filled(_) => unreachable!(),
+            Content::Mixed(bytes) => bytes.as_slice(),
+        }
+    }
+
+    /// Returns a copy of the page. It copies no bytes and allocates nothing for them.
     pub fn copy(&self) -> Result<PageBytes, AllocError>
         ensures { IfOk result (λ p. p ≡ self.now) }
     {
-        Ok(PageBytes {
-            bytes: self.bytes.clone()?,
-        })
+        match &self.content {
+            Content::Filled(byte) => Ok(PageBytes::filled(*byte)),
+            Content::Mixed(bytes) => Ok(PageBytes {
+                content: Content::Mixed(bytes.clone()?),
+            }),
+        }
     }
 
-    pub fn as_slice(&self) -> &[u8]
-        ensures bytes { result.now ≡ self.now }
-        ensures whole { length self.now ≡ 4096 }
+    /// Appends the 4,096 bytes to `out`.
+    pub fn put(&self, out: &mut Vec<u8>) -> Result<(), AllocError>
+        ensures { OnOk result (out.new.items ≡ out.old.items ++ self.now) }
     {
-        self.bytes.as_slice()
+        match &self.content {
+            Content::Filled(byte) => put_filled(out, *byte),
+            Content::Mixed(bytes) => out.extend_from_slice(bytes.as_slice()),
+        }
+    }
+
+    /// Copies the bytes into `into`, a slice of 4,096 bytes. It does not allocate.
+    pub fn write_to(&self, into: &mut [u8])
+        requires { length into.old ≡ 4096 }
+        ensures { into.new ≡ self.now }
+    {
+        match &self.content {
+            Content::Filled(byte) => fill(into, *byte),
+            Content::Mixed(bytes) => into.copy_from_slice(bytes.as_slice()),
+        }
     }
 }

@@ -6,7 +6,7 @@ use crate::mode::Mode;
 use std::alloc::{AllocError, Global};
 use std::marker::Model;
 
-/// Rows of a message or an answer. Contracts see them as a list.
+/// The rows of a message or an answer. Contracts see them as a list.
 #[derive(Clone, Drop)]
 pub struct Rows<T> {
     rows: Vec<T>,
@@ -21,6 +21,7 @@ impl<T> Model for Rows<T> {
 }
 
 impl<T> Rows<T> {
+    /// Makes an empty list of rows. It does not allocate.
     pub fn new(alloc: Global) -> Rows<T>
         ensures { result ≡ [] }
     {
@@ -29,24 +30,28 @@ impl<T> Rows<T> {
         }
     }
 
+    /// Makes a list of these rows. It does not allocate.
     pub fn from_vec(rows: Vec<T>) -> Rows<T>
         ensures { result ≡ rows.items }
     {
         Rows { rows }
     }
 
+    /// Returns the rows as a `Vec`. It does not allocate.
     pub fn into_vec(self) -> Vec<T>
         ensures { result.items ≡ self }
     {
         self.rows
     }
 
+    /// Returns the number of rows.
     pub fn len(&self) -> usize
         ensures { result ≡ length self.now }
     {
         self.rows.len()
     }
 
+    /// Returns the row at index `i`.
     pub fn get(&self, i: usize) -> &T
         requires { i < length self.now }
         ensures { slice_get self.now i ≡ Some result.now }
@@ -54,6 +59,7 @@ impl<T> Rows<T> {
         &self.rows[i]
     }
 
+    /// Returns the rows.
     pub fn as_slice(&self) -> &[T]
         ensures { result.now ≡ self.now }
     {
@@ -66,7 +72,7 @@ impl<T> Rows<T> {
 }
 
 impl<T: Copy> Rows<T> {
-    /// The same rows, once more.
+    /// Returns a copy of the rows.
     pub fn copy(&self) -> Result<Rows<T>, AllocError>
         ensures { IfOk result (λ r. r ≡ self.now) }
     {
@@ -76,7 +82,7 @@ impl<T: Copy> Rows<T> {
     }
 }
 
-/// Where a page lies, and the birth of its mapping.
+/// The mapping of a page: the block that holds it, and the birth of the mapping.
 #[derive(Clone, Copy, Debug, PartialEq, Eq)]
 pub struct ExtentRow {
     pub page: PageNo,
@@ -84,17 +90,21 @@ pub struct ExtentRow {
     pub birth: u64,
 }
 
-/// A page whose bytes were lost, and the command that was to write it, or 0.
+/// A page whose bytes were lost, and the number of the command that should have written it, or 0 if there was none.
 #[derive(Clone, Copy, Debug, PartialEq, Eq)]
 pub struct LostRow {
     pub page: PageNo,
     pub command: u64,
 }
 
+/// The numbers of clients.
 pub type Clients = Rows<ClientId>;
 
+/// Locks, each with its inode number, the number of its grant, and its mode.
 pub type LockRows = Rows<(u32, GrantNo, Mode)>;
 
+/// Mappings of pages.
 pub type ExtentRows = Rows<ExtentRow>;
 
+/// Lost pages.
 pub type LostRows = Rows<LostRow>;

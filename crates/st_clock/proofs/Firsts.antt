@@ -5,7 +5,7 @@ use Rattle.std.proofs.lemmas.Bool.{ltb-false, ltb-true}
 use Rattle.st_rules.specs.declared.lease.Excess.{Excess}
 use Rattle.st_rules.specs.Leases.{excess_at, excess_from, excess_in_row, excess_of, excess_or}
 use Rattle.st_clock.specs.Drifts.{Before}
-use Rattle.st_clock.proofs.Pairs.{pair_at, row_at}
+use Rattle.st_rules.proofs.Drift.{pair_at, row_at}
 
 -- a row whose first number is of node n: the named pair, and that those before it are within the limit
 pub record FirstInRow (limit m n : ℕ) (es : List ℕ) (x : Excess) : Type 0 where

@@ -5,7 +5,8 @@ use Rattle.st_base.specs.declared.config.Config.{Config}
 use Rattle.st_rules.specs.declared.lease.Excess.{Excess}
 use Rattle.st_rules.specs.Leases.{AcceptedIsInBound, AllAccepted, AllFull, InBoundIsAccepted, IsInBound, drift_after, drift_judged, drift_step, first_excess, no_drift}
 use Rattle.st_clock.specs.Drifts.{Before, HasAccepted, HasRate, IsFirstExcess, IsVerdict, after_step, drift_over}
-use Rattle.st_clock.proofs.Pairs.{Stands, one_excess, pair_at, stands_accepted, stands_after}
+use Rattle.st_rules.proofs.Drift.{pair_at}
+use Rattle.st_clock.proofs.Pairs.{Stands, one_excess, stands_accepted, stands_after}
 use Rattle.st_clock.proofs.Firsts.{FirstOfRows, first_of_rows}
 
 full_more : (nodes : ℕ) (advances : List (List ℕ)) (s : List ℕ) → AllFull nodes advances → length s ≡ nodes → AllFull nodes (advances ++ (s ∷ []))

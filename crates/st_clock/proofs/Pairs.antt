@@ -1,67 +1,10 @@
 -- The number of a pair is the greatest that the one gained above the other over the last advances.
 use Rattle.std.proofs.Common.{◌≡◌, ℕ, zero, suc, ◌+◌, ◌*◌, ◌<◌, ◌≤◌, List, [], ◌∷◌, ◌++◌, length, arith, subst, refl, sym, ap, inl, inr}
-use Rattle.std.specs.Prelude.{get_or, slice_index, fold, replicate, ◌⊎◌}
-use Rattle.std.proofs.lemmas.List.{get_or-replicate, length-replicate}
+use Rattle.std.specs.Prelude.{slice_index, fold, ◌⊎◌}
 use Rattle.st_base.specs.declared.config.Config.{Config}
-use Rattle.st_rules.specs.Leases.{AllFull, drift_after, gain, no_drift, raise_row, raise_rows, raised}
+use Rattle.st_rules.specs.Leases.{AllFull, drift_after, gain, no_drift, raised}
+use Rattle.st_rules.proofs.Drift.{IsSquare, covers_step, pair_after, pair_at, pair_first, square_after, square_first}
 use Rattle.st_clock.specs.Drifts.{IsExcess, drift_over}
-
-abbrev pub row_at : List (List ℕ) → ℕ → List ℕ
-row_at d m = get_or d m []
-
-abbrev pub pair_at : List (List ℕ) → ℕ → ℕ → ℕ
-pair_at d m n = slice_index (row_at d m) n
-
-pub record IsSquare (d : List (List ℕ)) (nodes : ℕ) : Type 0 where
-  pub tall : length d ≡ nodes
-  pub wide : (m : ℕ) → m < nodes → length (row_at d m) ≡ nodes
-
-row_raised : (num den sm : ℕ) (ss es : List ℕ) (n : ℕ) → length es ≡ length ss → n < length ss → slice_index (raise_row num den sm ss es) n ≡ raised num den (slice_index es n) sm (slice_index ss n)
-unfolding raise_row
-row_raised num den sm [] es n e h = absurd (omega arith)
-row_raised num den sm (s ∷ ss) [] n e h = absurd (omega arith)
-row_raised num den sm (s ∷ ss) (x ∷ es) zero e h = refl
-row_raised num den sm (s ∷ ss) (x ∷ es) (suc n) e h = row_raised num den sm ss es n (omega arith) (omega arith)
-
-row_length : (num den sm : ℕ) (ss es : List ℕ) → length es ≡ length ss → length (raise_row num den sm ss es) ≡ length ss
-unfolding raise_row
-row_length num den sm [] es e = refl
-row_length num den sm (s ∷ ss) [] e = absurd (omega arith)
-row_length num den sm (s ∷ ss) (x ∷ es) e = let r = row_length num den sm ss es (omega arith) in omega arith
-
-rows_raised : (num den : ℕ) (steps ss : List ℕ) (rows : List (List ℕ)) (m : ℕ) → length rows ≡ length ss → m < length ss → row_at (raise_rows num den steps ss rows) m ≡ raise_row num den (slice_index ss m) steps (row_at rows m)
-unfolding raise_rows
-rows_raised num den steps [] rows m e h = absurd (omega arith)
-rows_raised num den steps (s ∷ ss) [] m e h = absurd (omega arith)
-rows_raised num den steps (s ∷ ss) (row ∷ rows) zero e h = refl
-rows_raised num den steps (s ∷ ss) (row ∷ rows) (suc m) e h = rows_raised num den steps ss rows m (omega arith) (omega arith)
-
-rows_length : (num den : ℕ) (steps ss : List ℕ) (rows : List (List ℕ)) → length rows ≡ length ss → length (raise_rows num den steps ss rows) ≡ length ss
-unfolding raise_rows
-rows_length num den steps [] rows e = refl
-rows_length num den steps (s ∷ ss) [] e = absurd (omega arith)
-rows_length num den steps (s ∷ ss) (row ∷ rows) e = let r = rows_length num den steps ss rows (omega arith) in omega arith
-
--- an advance keeps the square, and raises each pair
-pub square_after : (d : List (List ℕ)) (steps : List ℕ) (num den nodes : ℕ) → length steps ≡ nodes → IsSquare d nodes → IsSquare (drift_after d steps num den) nodes
-unfolding drift_after
-square_after d steps num den nodes e sq = record {
-  tall = let r = rows_length num den steps steps d (omega (arith, sq.tall)) in omega arith;
-  wide = λ m h. rw (rows_raised num den steps steps d m (omega (arith, sq.tall)) (omega arith)) (let r = row_length num den (slice_index steps m) steps (row_at d m) (omega (arith, sq.wide m h)) in omega arith);
-}
-
-pair_after : (d : List (List ℕ)) (steps : List ℕ) (num den nodes m n : ℕ) → length steps ≡ nodes → IsSquare d nodes → m < nodes → n < nodes → pair_at (drift_after d steps num den) m n ≡ raised num den (pair_at d m n) (slice_index steps m) (slice_index steps n)
-unfolding drift_after
-pair_after d steps num den nodes m n e sq h i = rw (rows_raised num den steps steps d m (omega (arith, sq.tall)) (omega arith)) (row_raised num den (slice_index steps m) steps (row_at d m) n (omega (arith, sq.wide m h)) (omega arith))
-
--- before the first advance
-pub square_first : (nodes : ℕ) → IsSquare (no_drift nodes) nodes
-unfolding no_drift
-square_first nodes = record { tall = length-replicate nodes (replicate {A = ℕ} nodes 0); wide = λ m h. rw (get_or-replicate nodes m (replicate {A = ℕ} nodes 0) [] h) (length-replicate {A = ℕ} nodes 0) }
-
-pair_first : (nodes m n : ℕ) → m < nodes → n < nodes → pair_at (no_drift nodes) m n ≡ 0
-unfolding no_drift
-pair_first nodes m n h i = rw (get_or-replicate nodes m (replicate {A = ℕ} nodes 0) [] h) (get_or-replicate {A = ℕ} nodes n 0 0 i)
 
 -- lists
 gain_more : (m a : ℕ) (q : List (List ℕ)) (s : List ℕ) → fold (λ x steps. x + slice_index steps m) a (q ++ (s ∷ [])) ≡ fold (λ x steps. x + slice_index steps m) a q + slice_index s m
@@ -106,10 +49,6 @@ ends (d ∷ done) (b ∷ before) during s e = go (ends done before during s (tai
     go (inl z) = inl z
     go (inr w) = inr (record { front = w.front; whole = w.whole; split = rw (head_is _ _ _ _ e, w.split) refl })
 
--- what stood for a pair, and the one's gain, are covered by what stands now, and the other's
-covers : (num den e sm sn : ℕ) → e + den * sm ≤ raised num den e sm sn + num * sn
-covers num den e sm sn = omega arith
-
 exact_or_zero : (num den e sm sn : ℕ) → (raised num den e sm sn + num * sn ≡ e + den * sm) ⊎ (raised num den e sm sn ≡ 0)
 exact_or_zero num den e sm sn = grind arith
 
@@ -142,7 +81,7 @@ one_more k done s m n e x = go (exact_or_zero k.num k.den e sm sn)
         let gm : gain m (w.front ++ (s ∷ [])) ≡ gain m w.front + slice_index s m = gain_more m 0 w.front s in
         let gn : gain n (w.front ++ (s ∷ [])) ≡ gain n w.front + slice_index s n = gain_more n 0 w.front s in
         let q = x.most before w.front w.split in
-        let c = covers k.num k.den e sm sn in
+        let c = covers_step k.num k.den e sm sn in
         rw (w.whole, gm, gn) (omega (arith, q, c))
 
     most : (before during : List (List ℕ)) → done ++ (s ∷ []) ≡ before ++ during → k.den * gain m during ≤ k.num * gain n during + r
@@ -161,7 +100,7 @@ one_more k done s m n e x = go (exact_or_zero k.num k.den e sm sn)
     }
     go (inr z) = record { most = most; before = done ++ (s ∷ []); during = []; split = append_nothing (done ++ (s ∷ [])); reached = omega (arith, z) }
 
--- what stands for all pairs of so many nodes
+-- what stands for all pairs of this number of nodes
 pub record Stands (k : Config) (nodes : ℕ) (done drift : List (List ℕ)) : Type 0 where
   pub square : IsSquare drift nodes
   pub pairs : (m n : ℕ) → m < nodes → n < nodes → IsExcess k done m n (pair_at drift m n)

@@ -3,7 +3,6 @@ ghost use Rattle.std.specs.Prelude.{◌≡◌, ◌<◌, ℕ, List, Some, length}
 ghost use Rattle.std.specs.declared.option.Option.{Option};
 ghost use Rattle.st_base.specs.declared.ids.Stamp.{Stamp};
 ghost use Rattle.st_clock.specs.Readings.{IsReading, Rise, Tells};
-ghost use Rattle.st_clock.specs.Readings as rules;
 
 use st_base::Stamp;
 use std::marker::Model;
@@ -13,7 +12,7 @@ pub trait Clock {
     /// The last reading, or 0 before the first.
     ghost latest: { Self → ℕ };
 
-    /// The readings to come, where the clock tells them; the last of them is repeated for ever.
+    /// The readings to come, where the clock knows them; the last of them is repeated for ever.
     ghost readings: { Self → Option (List Stamp) };
 
     /// The next reading. It is never below an earlier one, and at most 2^62.
@@ -22,8 +21,8 @@ pub trait Clock {
         ensures told { Tells (readings self.old) (readings self.new) result };
 }
 
-/// A clock in memory. It gives a list of readings, and then its last one. Contracts see it as its last reading and those to
-/// come.
+/// A clock in memory, which returns the readings of a list one after another and then repeats the last one. Contracts see it
+/// as its last reading and those to come.
 #[derive(Drop)]
 pub struct MemoryClock {
     readings: Vec<Stamp>,
@@ -43,7 +42,7 @@ impl Model for MemoryClock {
 }
 
 impl MemoryClock {
-    /// A clock that gives these readings and then the last of them. They never fall, and none is above 2^62.
+    /// A clock that returns these readings, in ticks, and then repeats the last one. They never fall, and none is above 2^62.
     pub fn new(readings: Vec<Stamp>) -> MemoryClock
         requires some { 0 < length readings.items }
         requires rising { Rise 0 readings.items }

@@ -1,11 +1,11 @@
-//! What is told of clocks: the steal wait, the bound on the rates of clocks without a grain and with one, and the clocks
-//! themselves. `docs/PROTOCOL.md`, "Clocks and leases" and "Clocks of a node", has the rules.
+//! Clocks: the steal wait, the bound on their rates without a grain and with one, and the clocks that a node reads.
+//! `docs/PROTOCOL.md`, "Clocks and leases" and "Clocks of a node", has the rules.
 #![tactic(auto)]
 
 mod clock;
 mod drift;
+mod leads;
 mod monotonic;
-mod row;
 mod wait;
 
 pub use clock::{Clock, MemoryClock};

@@ -3,7 +3,7 @@ ghost use Rattle.std.specs.Prelude.{◌≡◌, ◌≤◌, ◌<◌, IsOk, length,
 ghost use Rattle.std.specs.List.{list_all};
 ghost use Rattle.st_base.specs.Config as settings;
 ghost use Rattle.st_rules.specs.Leases.{IsStealWait};
-ghost use Rattle.st_rules.specs.Leases as rules;
+ghost use Rattle.st_rules.specs.Leases as leases;
 ghost use Rattle.st_clock.specs.Drifts.{InBoundWhereRated};
 
 use st_base::{Config, Stamp};
@@ -14,7 +14,7 @@ use st_rules::{advances_in_bound_are_rated, rated_advances_are_in_bound, steal_w
 #[tactic(auto, unfolding(st_rules::specs::Leases::steal_wait))]
 pub fn steal_wait(config: &Config) -> u64
     requires checked { IsOk (settings.check config.now) }
-    ensures exact { result ≡ rules.steal_wait config.now }
+    ensures exact { result ≡ leases.steal_wait config.now }
     ensures least { IsStealWait config.now result }
 {
     steal_wait_is_least();
@@ -24,7 +24,7 @@ pub fn steal_wait(config: &Config) -> u64
 
 fn greatest(steps: &[u64]) -> u64
     requires { 0 < length steps.now }
-    ensures { result ≡ rules.greatest_of steps.now }
+    ensures { result ≡ leases.greatest_of steps.now }
 {
     let mut most = steps[0];
     for step in &steps[1..] {
@@ -35,7 +35,7 @@ fn greatest(steps: &[u64]) -> u64
 
 fn least(steps: &[u64]) -> u64
     requires { 0 < length steps.now }
-    ensures { result ≡ rules.least_of steps.now }
+    ensures { result ≡ leases.least_of steps.now }
 {
     let mut fewest = steps[0];
     for step in &steps[1..] {
@@ -54,7 +54,7 @@ fn all_moving(steps: &[u64]) -> bool
 /// `den * greatest <= num * least`. It takes no memory.
 pub fn rate_ok(steps: &[u64], num: u64, den: u64) -> bool
     requires some { 0 < length steps.now }
-    ensures exact { result ≡ rules.rate_ok steps.now num den }
+    ensures exact { result ≡ leases.rate_ok steps.now num den }
     // Without a grain, a run in which every clock moves at each advance is in bound exactly where each advance is.
     ensures law { InBoundWhereRated }
 {
@@ -63,10 +63,10 @@ pub fn rate_ok(steps: &[u64], num: u64, den: u64) -> bool
     all_moving(steps) && den as u128 * greatest(steps) as u128 <= num as u128 * least(steps) as u128
 }
 
-/// The ticks that a clock gained between two of its readings. It takes no memory.
+/// How many ticks a clock gained between two of its readings. It takes no memory.
 pub fn elapsed(from: Stamp, now: Stamp) -> u64
     requires in_order { from.0 ≤ now.0 }
-    ensures exact { result ≡ rules.elapsed from now }
+    ensures exact { result ≡ leases.elapsed from now }
 {
     now.0 - from.0
 }

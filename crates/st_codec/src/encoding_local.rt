@@ -27,7 +27,7 @@ fn put_write(
     ensures { OnOk result (out.new.items ≡ out.old.items ++ (spells.byte 1 ++ spells.file file ++ spells.word32 page.0 ++ bytes.now)) }
 {
     put_ask_place(out, 1, file, page)?;
-    out.extend_from_slice(bytes.as_slice())?;
+    bytes.put(out)?;
     Ok(())
 }
 
@@ -97,7 +97,7 @@ pub(crate) fn put_answer(out: &mut Vec<u8>, answer: &AppAnswer) -> Result<(), Al
         AppAnswer::Written => put_byte(out, 0),
         AppAnswer::Read(bytes) => {
             put_byte(out, 1)?;
-            out.extend_from_slice(bytes.as_slice())?;
+            bytes.put(out)?;
             Ok(())
         }
         AppAnswer::Hard => put_byte(out, 2),
@@ -143,7 +143,7 @@ fn put_tagged(out: &mut Vec<u8>, kind: u8, tag: Tag, bytes: &PageBytes) -> Resul
 {
     put_byte(out, kind)?;
     put_tag(out, tag)?;
-    out.extend_from_slice(bytes.as_slice())?;
+    bytes.put(out)?;
     Ok(())
 }
 

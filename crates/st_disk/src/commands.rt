@@ -2,12 +2,12 @@
 ghost use Rattle.std.specs.Prelude.{◌≡◌, ◌<◌, Some, length, set, slice_get};
 ghost use Rattle.std.specs.Option.{option_copied};
 ghost use Rattle.st_rules.specs.declared.disks.DiskCommand.{DiskCommand};
-ghost use Rattle.st_rules.specs.Disks as rules;
+ghost use Rattle.st_rules.specs.Disks as disks;
 ghost use Rattle.st_disk.specs.Calls.{IsIndex};
 
 use st_rules::{Block, DiskCommand, Report};
 
-/// Where the command of a number is.
+/// The index of the command with this number, if there is one.
 pub fn index_of(commands: &[DiskCommand], n: u64) -> Option<usize>
     ensures { IsIndex commands.now n result }
 {
@@ -17,9 +17,9 @@ pub fn index_of(commands: &[DiskCommand], n: u64) -> Option<usize>
     Some((n - 1) as usize)
 }
 
-/// The command of a number.
+/// The command with this number, if there is one.
 pub fn command_at(commands: &[DiskCommand], n: u64) -> Option<&DiskCommand>
-    ensures { option_copied result ≡ rules.command_at commands.now n }
+    ensures { option_copied result ≡ disks.command_at commands.now n }
 {
     if n == 0 {
         return None;
@@ -27,27 +27,27 @@ pub fn command_at(commands: &[DiskCommand], n: u64) -> Option<&DiskCommand>
     commands.get((n - 1) as usize)
 }
 
-/// A read has its effect: it found this block.
+/// Marks a read as effected, with the block that it found.
 pub fn sample_command(commands: &mut Vec<DiskCommand>, index: usize, found: Block)
     requires { index < length commands.old.items }
-    ensures { (c : DiskCommand) → slice_get commands.old.items index ≡ Some c → commands.new.items ≡ set commands.old.items index (rules.sampled found c) }
+    ensures { (c : DiskCommand) → slice_get commands.old.items index ≡ Some c → commands.new.items ≡ set commands.old.items index (disks.sampled found c) }
 {
     let command = &mut commands[index];
     command.effected = true;
     command.sample = Some(found);
 }
 
-/// A write has its effect.
+/// Marks a write as effected.
 pub fn effect_command(commands: &mut Vec<DiskCommand>, index: usize)
     requires { index < length commands.old.items }
-    ensures { (c : DiskCommand) → slice_get commands.old.items index ≡ Some c → commands.new.items ≡ set commands.old.items index (rules.effected c) }
+    ensures { (c : DiskCommand) → slice_get commands.old.items index ≡ Some c → commands.new.items ≡ set commands.old.items index (disks.effected c) }
 {
     let command = &mut commands[index];
     command.effected = true;
 }
 
 fn report_of(ok: bool) -> Report
-    ensures { result ≡ rules.report_of ok }
+    ensures { result ≡ disks.report_of ok }
 {
     if ok {
         Report::Succeeded
@@ -56,10 +56,10 @@ fn report_of(ok: bool) -> Report
     }
 }
 
-/// A command is reported.
+/// Marks a command as reported, with success or failure.
 pub fn report_command(commands: &mut Vec<DiskCommand>, index: usize, ok: bool)
     requires { index < length commands.old.items }
-    ensures { (c : DiskCommand) → slice_get commands.old.items index ≡ Some c → commands.new.items ≡ set commands.old.items index (rules.reported ok c) }
+    ensures { (c : DiskCommand) → slice_get commands.old.items index ≡ Some c → commands.new.items ≡ set commands.old.items index (disks.reported ok c) }
 {
     let report = report_of(ok);
     let command = &mut commands[index];

@@ -1,18 +1,20 @@
-// The disks.
+// The disks, and the calls on them.
 ghost use Rattle.std.specs.Prelude.{◌≡◌, ◌<◌, ◌+◌, IfOk, OnOk, OnErr, Some, length, slice_get};
 ghost use Rattle.std.specs.Option.{option_map};
 ghost use Rattle.st_rules.specs.declared.disks.DiskCommand.{DiskCommand};
-ghost use Rattle.st_rules.specs.Disks as rules;
-ghost use Rattle.st_disk.specs.Calls.{Answers, HasBlock, SameSize, ended, place, shown};
+ghost use Rattle.st_rules.specs.Disks as disks;
+ghost use Rattle.st_rules.specs.Disks.{fresh_disks};
+ghost use Rattle.st_disk.specs.Calls.{Answers, HasBlock, SameSize, ended, place, sampled_at, shown, told, written_at};
 
 use crate::blocks::{find_block, put_block};
 use crate::commands::{command_at, effect_command, index_of, report_command, sample_command};
+use crate::refusal::DiskRefusal;
 use st_base::{BlockAt, Command, FileId, PageBytes, PageNo, ServerId, Tag};
-use st_rules::{Block, DiskCommand, DiskRefusal, Report};
+use st_rules::{Block, DiskCommand, Report};
 use std::alloc::{AllocError, Global};
 use std::marker::Model;
 
-/// Disks with their blocks and commands. A block that was never written takes no page.
+/// Disks with their blocks and commands. Only blocks that were written are kept.
 #[derive(Drop)]
 pub struct Disks {
     disks: u16,
@@ -25,9 +27,9 @@ pub struct Disks {
 impl Model for Disks {
     ghost use Rattle.std.specs.Prelude.{◌≡◌};
     ghost use Rattle.st_base.specs.Page.{filled};
-    ghost use Rattle.st_rules.specs.Disks as rules;
+    ghost use Rattle.st_rules.specs.Disks as shared_disks;
 
-    ghost Value = { rules.Disks };
+    ghost Value = { shared_disks.Disks };
 
     ghost view = { λ d. record { disks = d.disks; blocks = d.blocks; written = d.written.items; commands = d.commands.items } };
 
@@ -44,23 +46,24 @@ const FRESH_TAG: Tag = Tag {
 };
 
 impl Disks {
-    /// So many disks with so many blocks each, none of which was written, and no commands.
-    pub fn new(alloc: Global, disks: u16, blocks: u32) -> Result<Disks, AllocError>
-        ensures { IfOk result (λ d. d ≡ rules.fresh_disks disks blocks) }
+    /// Makes this number of disks with this number of blocks each. No block was written, and there are no commands. It does
+    /// not allocate.
+    pub fn new(alloc: Global, disks: u16, blocks: u32) -> Disks
+        ensures { result ≡ fresh_disks disks blocks }
     {
-        Ok(Disks {
+        Disks {
             disks,
             blocks,
             written: Vec::new(alloc),
             commands: Vec::new(alloc),
-            zeros: PageBytes::filled(alloc, 0)?,
-        })
+            zeros: PageBytes::filled(0),
+        }
     }
 
-    /// Takes a command, and gives its number: 1, 2 and so on. It has no effect yet.
+    /// Takes a command, and returns its number: 1, 2 and so on. The command has no effect yet.
     pub fn submit(&mut self, command: Command) -> Result<u64, AllocError>
         requires exists { HasBlock self.old (place command) }
-        ensures ok { OnOk result (self.new ≡ rules.submit self.old command) }
+        ensures ok { OnOk result (self.new ≡ disks.submit self.old command) }
         ensures number { IfOk result (λ n. n ≡ length self.new.commands) }
         ensures size { SameSize self.old self.new }
         ensures err { OnErr result (self.new ≡ self.old) }
@@ -74,11 +77,11 @@ impl Disks {
         Ok(self.commands.len() as u64)
     }
 
-    /// The tag and the bytes of a block; birth 0 and zeros where it was never written. It takes no memory.
+    /// Returns the tag and the bytes of a block: birth 0 and zeros if it was never written. It does not allocate.
     pub fn block(&self, at: BlockAt) -> (Tag, &PageBytes)
         requires exists { HasBlock self.now at }
-        ensures tag { result.0 ≡ (rules.block self.now at).tag }
-        ensures bytes { result.1.now ≡ (rules.block self.now at).bytes }
+        ensures tag { result.0 ≡ (disks.block self.now at).tag }
+        ensures bytes { result.1.now ≡ (disks.block self.now at).bytes }
     {
         match find_block(&self.written, at) {
             Some(block) => (block.tag, &block.bytes),
@@ -86,18 +89,19 @@ impl Disks {
         }
     }
 
-    /// The tag and the bytes that a read found when it had its effect; `None` exactly where the command is no read with an
-    /// effect. It takes no memory.
+    /// Returns the tag and the bytes that a read found at its effect, or `None` if the command is not a read with an effect.
+    /// It does not allocate.
     pub fn sample(&self, n: u64) -> Option<(Tag, &PageBytes)>
-        ensures exact { option_map (λ s. (s.0, s.1.now)) result ≡ option_map shown (rules.sample self.now n) }
+        ensures exact { option_map (λ s. (s.0, s.1.now)) result ≡ option_map shown (disks.sample self.now n) }
     {
         let command = command_at(&self.commands, n)?;
         let block = command.sample.as_ref()?;
         Some((block.tag, &block.bytes))
     }
 
+    /// A copy of a block as it stands.
     fn found(&self, at: BlockAt) -> Result<Block, AllocError>
-        ensures { IfOk result (λ b. b ≡ rules.block self.now at) }
+        ensures { IfOk result (λ b. b ≡ disks.block self.now at) }
     {
         match find_block(&self.written, at) {
             Some(block) => block.copy(),
@@ -109,9 +113,10 @@ impl Disks {
         }
     }
 
+    /// Gives the read at this index its effect.
     fn read(&mut self, index: usize, at: BlockAt) -> Result<(), AllocError>
         requires { index < length self.old.commands }
-        ensures ok { (c : DiskCommand) → slice_get self.old.commands index ≡ Some c → OnOk result (self.new ≡ rules.with_command (index + 1) (rules.sampled (rules.block self.old at) c) self.old) }
+        ensures ok { (c : DiskCommand) → slice_get self.old.commands index ≡ Some c → OnOk result (self.new ≡ sampled_at index at c self.old) }
         ensures size { SameSize self.old self.new }
         ensures err { OnErr result (self.new ≡ self.old) }
     {
@@ -120,9 +125,10 @@ impl Disks {
         Ok(())
     }
 
+    /// Gives the write at this index its effect.
     fn write(&mut self, index: usize, block: Block) -> Result<(), AllocError>
         requires { index < length self.old.commands }
-        ensures ok { (c : DiskCommand) → slice_get self.old.commands index ≡ Some c → OnOk result (self.new ≡ rules.with_block block (rules.with_command (index + 1) (rules.effected c) self.old)) }
+        ensures ok { (c : DiskCommand) → slice_get self.old.commands index ≡ Some c → OnOk result (self.new ≡ written_at index block c self.old) }
         ensures size { SameSize self.old self.new }
         ensures err { OnErr result (self.new ≡ self.old) }
     {
@@ -131,10 +137,11 @@ impl Disks {
         Ok(())
     }
 
+    /// Gives the command at this index its effect.
     #[tactic(auto, unfolding(st_rules::specs::Disks::effect_of))]
     fn act(&mut self, index: usize, what: Command) -> Result<(), AllocError>
         requires { index < length self.old.commands }
-        ensures ok { (c : DiskCommand) → slice_get self.old.commands index ≡ Some c → OnOk result (self.new ≡ rules.effect_of self.old (index + 1) c what) }
+        ensures ok { (c : DiskCommand) → slice_get self.old.commands index ≡ Some c → OnOk result (self.new ≡ disks.effect_of self.old (index + 1) c what) }
         ensures size { SameSize self.old self.new }
         ensures err { OnErr result (self.new ≡ self.old) }
     {
@@ -144,12 +151,12 @@ impl Disks {
         }
     }
 
-    /// Gives a command its effect: a write makes the whole block its tag and bytes, and a read keeps the block as it finds
-    /// it. It is refused, in this order, where there is no such command (`NoCommand`), where it was reported (`Reported`),
-    /// and where it had its effect (`Twice`); a refusal changes nothing, nor does want of memory.
+    /// Gives a command its effect: a write replaces the block's tag and bytes, and a read samples the block. It is refused,
+    /// in this order, if there is no such command (`NoCommand`), if it was reported (`Reported`), or if it had its effect
+    /// (`Twice`). A refusal changes nothing. If the call runs out of memory, nothing changes either.
     #[tactic(auto, unfolding(st_rules::specs::Disks::disks_open))]
     pub fn effect(&mut self, n: u64) -> Result<(), DiskRefusal>
-        ensures exact { Answers self.old self.new result (rules.effect self.old n) }
+        ensures exact { Answers self.old self.new result (disks.effect self.old n) }
         ensures size { SameSize self.old self.new }
     {
         let Some(index) = index_of(&self.commands, n) else {
@@ -166,12 +173,12 @@ impl Disks {
         Ok(self.act(index, what)?)
     }
 
-    /// Reports a command, which ends it. It is refused, in this order, where there is no such command (`NoCommand`), where
-    /// it was reported (`Twice`), and where success is reported without an effect (`NotEffected`); a refusal changes
-    /// nothing. It takes no memory.
+    /// Reports a command, which ends it. It is refused, in this order, if there is no such command (`NoCommand`), if it was
+    /// reported (`Twice`), or if success is reported without an effect (`NotEffected`). A refusal changes nothing. It does
+    /// not allocate.
     #[tactic(auto, unfolding(st_rules::specs::Disks::disks_open))]
     pub fn done(&mut self, n: u64, ok: bool) -> Result<(), DiskRefusal>
-        ensures exact { ended result self.new ≡ rules.done self.old n ok }
+        ensures exact { ended result self.new ≡ told (disks.done self.old n ok) }
         ensures size { SameSize self.old self.new }
         ensures err { OnErr result (self.new ≡ self.old) }
     {

@@ -5,7 +5,9 @@
 mod blocks;
 mod commands;
 mod disks;
+mod refusal;
 
 pub use disks::Disks;
+pub use refusal::DiskRefusal;
 pub use st_base::{BlockAt, Command, Tag};
-pub use st_rules::{Block, DiskCommand, DiskRefusal, Report};
+pub use st_rules::{Block, DiskCommand, Report};

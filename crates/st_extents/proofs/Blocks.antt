@@ -7,11 +7,11 @@ use Rattle.std.proofs.lemmas.Grind.{common_steps}
 use Rattle.st_base.specs.declared.ids.FileId.{FileId}
 use Rattle.st_base.specs.declared.ids.PageNo.{PageNo}
 use Rattle.st_base.specs.declared.disk.BlockAt.{BlockAt}
-use Rattle.st_rules.specs.declared.extents.ExtentRefusal.TheVariants.{NoSpace}
+use Rattle.st_rules.specs.declared.extents.AllocateRefusal.TheVariants.{NoSpace}
 use Rattle.st_rules.specs.declared.extents.Extent.{Extent}
 use Rattle.st_rules.specs.Extents.{numbers, own_blocks, free_blocks, no_extents, is_extent_of, Extents, place_on, with_extent, new_extent, place_pages, allocate, allocate_pages, unmapped, free}
 use Rattle.st_rules.specs.Keys.{page_no}
-use Rattle.st_extents.specs.Layout.{Shape, extents, none_at}
+use Rattle.st_extents.specs.Layout.{Shape, with_shape, none_at}
 
 -- the numbers from i below n begin with i
 numbers_more : (i n : ℕ) → i < n → numbers i (n - i) ≡ i ∷ numbers (i + 1) (n - (i + 1))
@@ -55,11 +55,11 @@ first_kept p [] = refl
 first_kept p (x ∷ xs) = ⊎_elim (λ t. rw t refl) (λ f. rw f (first_kept p xs)) (cases_Bool (p x))
 
 -- the free blocks, by a list of this server's blocks
-pub free_is : (s : Shape) (rows : List Extent) (births : ℕ) (own : List BlockAt) → own ≡ own_blocks (no_extents s.server s.servers s.disks s.blocks) → filter (none_at rows) own ≡ free_blocks (extents s rows births)
+pub free_is : (s : Shape) (rows : List Extent) (births : ℕ) (own : List BlockAt) → own ≡ own_blocks (no_extents s.server s.servers s.disks s.blocks) → filter (none_at rows) own ≡ free_blocks (with_shape s rows births)
 unfolding own_blocks free_blocks
 free_is s rows births own e = rw e refl
 
-pub first_free_is : (s : Shape) (rows : List Extent) (births : ℕ) (own : List BlockAt) (r : Option BlockAt) → own ≡ own_blocks (no_extents s.server s.servers s.disks s.blocks) → r ≡ find (none_at rows) own → r ≡ slice_get (free_blocks (extents s rows births)) 0
+pub first_free_is : (s : Shape) (rows : List Extent) (births : ℕ) (own : List BlockAt) (r : Option BlockAt) → own ≡ own_blocks (no_extents s.server s.servers s.disks s.blocks) → r ≡ find (none_at rows) own → r ≡ slice_get (free_blocks (with_shape s rows births)) 0
 first_free_is s rows births own r e f = f ∙ first_kept (none_at rows) own ∙ ap (λ l. slice_get l 0) (free_is s rows births own e)
 
 -- the pages without a block, from a page on

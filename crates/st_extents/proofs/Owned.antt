@@ -15,7 +15,7 @@ use Rattle.st_base.specs.declared.disk.BlockAt.{BlockAt}
 use Rattle.st_rules.specs.declared.extents.Extent.{Extent}
 use Rattle.st_rules.specs.Keys.{same_file, same_page, same_block, page_no}
 use Rattle.st_rules.specs.Extents as rules
-use Rattle.st_extents.specs.Layout.{Shape, extents}
+use Rattle.st_extents.specs.Layout.{Shape, with_shape}
 use Rattle.st_extents.specs.Ownership.{IsOwned, IsSound, of_one_page, on_one_block, of_one_birth, is_own_block}
 
 -- Lists.
@@ -79,7 +79,7 @@ not_true true h = sym h
 not_true false h = refl
 
 -- Nothing is mapped.
-pub none_owned : (s : Shape) (births : ℕ) → IsOwned (extents s [] births)
+pub none_owned : (s : Shape) (births : ℕ) → IsOwned (with_shape s [] births)
 unfolding IsDistinct
 none_owned s births = record {
   pages = tt;
@@ -198,14 +198,14 @@ mapped_within x o =
     rw (length-map x.rows place_of) at short
 
 -- Soundness.
-pub none_sound : (s : Shape) → length (rules.own_blocks (rules.no_extents s.server s.servers s.disks s.blocks)) ≤ 32768 → IsSound (extents s [] 0)
+pub none_sound : (s : Shape) → length (rules.own_blocks (rules.no_extents s.server s.servers s.disks s.blocks)) ≤ 32768 → IsSound (with_shape s [] 0)
 none_sound s few = record { owned = none_owned s 0; counted = omega arith; few = few }
 
 pub released_sound : (x : rules.Extents) (f : FileId) (p : PageNo) → IsSound x → IsSound (rules.release_from x f p)
 unfolding rules.release_from rules.own_blocks
 released_sound x f p k = record { owned = released_owned x f p k.owned; counted = k.counted; few = k.few }
 
-pub allocated_sound : (s : Shape) (rows after : List Extent) (births given : ℕ) (f : FileId) (p : PageNo) (count : ℕ) → IsSound (extents s rows births) → extents s after given ≡ rules.place_pages f (rules.unmapped (extents s rows births) f p count) (extents s rows births) → given < 2 ^ 63 → IsSound (extents s after given)
+pub allocated_sound : (s : Shape) (rows after : List Extent) (births given : ℕ) (f : FileId) (p : PageNo) (count : ℕ) → IsSound (with_shape s rows births) → with_shape s after given ≡ rules.place_pages f (rules.unmapped (with_shape s rows births) f p count) (with_shape s rows births) → given < 2 ^ 63 → IsSound (with_shape s after given)
 unfolding rules.own_blocks
 allocated_sound s rows after births given f p count k e l =
-    record { owned = rw e (allocated_owned (extents s rows births) f p count k.owned); counted = l; few = k.few }
+    record { owned = rw e (allocated_owned (with_shape s rows births) f p count k.owned); counted = l; few = k.few }

@@ -5,10 +5,12 @@ use Rattle.st_base.specs.declared.ids.ServerId.{ServerId}
 use Rattle.st_base.specs.declared.ids.FileId.{FileId}
 use Rattle.st_base.specs.declared.ids.PageNo.{PageNo}
 use Rattle.st_rules.specs.declared.extents.Extent.{Extent}
-use Rattle.st_rules.specs.declared.extents.ExtentRefusal.{ExtentRefusal}
-use Rattle.st_rules.specs.declared.extents.ExtentRefusal.TheVariants.{NoSpace, Memory}
+use Rattle.st_rules.specs.declared.extents.AllocateRefusal.{AllocateRefusal}
+use Rattle.st_rules.specs.declared.extents.AllocateRefusal.TheVariants.{NoSpace}
+use Rattle.st_extents.specs.declared.refusal.ExtentRefusal.{ExtentRefusal}
+use Rattle.st_extents.specs.declared.refusal.ExtentRefusal.TheVariants as refusals
 use Rattle.st_base.specs.declared.disk.BlockAt.{BlockAt}
-use Rattle.st_rules.specs.Extents.{Extents, lies_at, is_extent_of, pages_from}
+use Rattle.st_rules.specs.Extents.{Extents, free_blocks, is_extent_of, lies_at, pages_from, place_on}
 
 -- the counts of a world, at one server
 pub record Shape : Type 0 where
@@ -17,11 +19,15 @@ pub record Shape : Type 0 where
   pub disks : ℕ
   pub blocks : ℕ
 
--- the extents of a server with this shape
-abbrev pub extents : Shape → List Extent → ℕ → Extents
-extents l rows births = record { server = l.server; servers = l.servers; disks = l.disks; blocks = l.blocks; rows = rows; births = births }
+-- the extents of a server with this shape, these mapped pages and this many births
+abbrev pub with_shape : Shape → List Extent → ℕ → Extents
+with_shape l rows births = record { server = l.server; servers = l.servers; disks = l.disks; blocks = l.blocks; rows = rows; births = births }
 
--- the counts are within the limits: 1 to 4 servers, a disk for each server and 8 disks at most, 1 to 4,096 blocks
+-- the extents after a page got the first free block, under the next birth
+abbrev pub placed_first : Shape → List Extent → ℕ → FileId → PageNo → Extents
+placed_first l rows births f p = place_on (with_shape l rows births) f p (free_blocks (with_shape l rows births))
+
+-- the counts are within the limits: 1 to 4 servers, at least a disk for each server and at most 8 disks, 1 to 4,096 blocks
 pub record IsWithinLimits (server servers disks blocks : ℕ) : Type 0 where
   pub some_server : 1 ≤ server
   pub known_server : server ≤ servers
@@ -39,9 +45,9 @@ none_at rows b = not (list_any (lies_at b) rows)
 abbrev pub unmapped_of : List Extent → FileId → PageNo → ℕ → List PageNo
 unmapped_of rows f p count = filter (λ q. not (is_some (find (is_extent_of f q) rows))) (pages_from p count)
 
--- What a call that maps pages answers and leaves: what the rule gives; and where the rule refuses, or memory is
--- wanting, nothing is changed.
-abbrev pub Allocates : Extents → Extents → Result Unit ExtentRefusal → Result Extents ExtentRefusal → Type 0
+-- What a call that maps pages answers and leaves: what the rule gives; and where the rule refuses, or the call runs out of
+-- memory, nothing is changed.
+abbrev pub Allocates : Extents → Extents → Result Unit ExtentRefusal → Result Extents AllocateRefusal → Type 0
 Allocates old new (Ok done) rule = rule ≡ Ok new
-Allocates old new (Err Memory) rule = new ≡ old
-Allocates old new (Err (NoSpace free asked)) rule = (rule ≡ Err (NoSpace free asked)) × (new ≡ old)
+Allocates old new (Err refusals.Memory) rule = new ≡ old
+Allocates old new (Err (refusals.NoSpace free asked)) rule = (rule ≡ Err (NoSpace free asked)) × (new ≡ old)

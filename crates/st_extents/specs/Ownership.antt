@@ -22,8 +22,8 @@ of_one_birth a b = b.birth == a.birth
 abbrev pub is_own_block : Extents → BlockAt → Bool
 is_own_block x b = list_any (λ a. same_block a b) (own_blocks x)
 
--- the ownership of extents: a page is mapped once, a block to one page, a birth to one page; births that were given are
--- counted; and the blocks are of this server's disks
+-- the ownership of extents: a page is mapped once, a block holds one page, a birth belongs to one page; no birth is above the
+-- number of births; and the blocks are on this server's disks
 pub record IsOwned (x : Extents) : Type 0 where
   pub pages : IsDistinct of_one_page x.rows
   pub blocks : IsDistinct on_one_block x.rows
@@ -31,7 +31,7 @@ pub record IsOwned (x : Extents) : Type 0 where
   pub given : All (λ e. e.birth ≤ x.births) x.rows
   pub own : All (λ e. is_own_block x e.at ≡ true) x.rows
 
--- what is always so of extents: they are owned, and births and blocks have room in their types
+-- what always holds of extents: they are owned, and there are fewer than 2^63 births and at most 32,768 blocks
 pub record IsSound (x : Extents) : Type 0 where
   pub owned : IsOwned x
   pub counted : x.births < 2 ^ 63

@@ -1,12 +1,13 @@
-ghost use Rattle.std.specs.Prelude.{◌≡◌, ◌≤◌, ◌+◌, ◌<◌, ◌^◌, IfOk, OnOk, OnErr, ℕ, length};
-ghost use Rattle.st_rules.specs.Extents as rules;
-ghost use Rattle.st_extents.specs.Layout.{extents, IsWithinLimits, Allocates};
+ghost use Rattle.std.specs.Prelude.{◌≡◌, ◌≤◌, ◌+◌, ◌<◌, ◌^◌, IfOk, ℕ, length};
+ghost use Rattle.st_rules.specs.Extents as extents;
+ghost use Rattle.st_extents.specs.Layout.{with_shape, IsWithinLimits, Allocates};
 ghost use Rattle.st_extents.specs.Ownership.{IsOwned};
 
 use crate::layout::Layout;
-use crate::rows::{extent_of, release, unmapped};
+use crate::mapping::{extent_of, release, unmapped};
+use crate::refusal::ExtentRefusal;
 use st_base::{BlockAt, FileId, PageNo, ServerId};
-use st_rules::{Extent, ExtentRefusal};
+use st_rules::Extent;
 use std::alloc::{AllocError, Global};
 use std::marker::Model;
 
@@ -20,19 +21,20 @@ pub struct Extents {
 }
 
 impl Model for Extents {
-    ghost use Rattle.st_rules.specs.Extents as rules;
-    ghost use Rattle.st_extents.specs.Layout.{extents};
+    ghost use Rattle.st_rules.specs.Extents as extents;
+    ghost use Rattle.st_extents.specs.Layout.{with_shape};
     ghost use Rattle.st_extents.specs.Ownership.{IsSound};
 
-    ghost Value = { rules.Extents };
+    ghost Value = { extents.Extents };
 
-    ghost view = { λ x. extents x.layout x.rows.items x.births };
+    ghost view = { λ x. with_shape x.layout x.rows.items x.births };
 
-    ghost invariant = { λ x. IsSound (extents x.layout x.rows.items x.births) };
+    ghost invariant = { λ x. IsSound (with_shape x.layout x.rows.items x.births) };
 }
 
 impl Extents {
-    /// Nothing is mapped. `server` is one of `servers`; disk d is the disk of server `1 + (d - 1) mod servers`.
+    /// The extents of a server with nothing mapped. `server` is from 1 to `servers`; disk d belongs to server
+    /// `1 + (d - 1) mod servers`; each disk has `blocks` blocks.
     pub fn new(
         alloc: Global,
         server: ServerId,
@@ -41,7 +43,7 @@ impl Extents {
         blocks: u32,
     ) -> Result<Extents, AllocError>
         requires { IsWithinLimits server.0 servers disks blocks }
-        ensures none { IfOk result (λ x. x ≡ rules.no_extents server servers disks blocks) }
+        ensures none { IfOk result (λ x. x ≡ extents.no_extents server servers disks blocks) }
         ensures owned { IfOk result IsOwned }
     {
         Ok(Extents {
@@ -51,19 +53,19 @@ impl Extents {
         })
     }
 
-    /// The block and the birth of a page, where it is mapped.
+    /// The block and the birth of a page, if it is mapped.
     pub fn map(&self, file: FileId, page: PageNo) -> Option<(BlockAt, u64)>
-        ensures { result ≡ rules.map_page self.now file page }
+        ensures { result ≡ extents.map_page self.now file page }
     {
         extent_of(self.rows.as_slice(), file, page).map(|e| (e.at, e.birth))
     }
 
     /// Maps each page of the range that has no block, in rising order, to the free block with the least disk and then the
-    /// least number, under the next birth; or maps none, where the free blocks are too few or memory is wanting.
+    /// least number, under the next birth; or maps none, where the free blocks are too few or it runs out of memory.
     pub fn allocate(&mut self, file: FileId, page: PageNo, count: u32) -> Result<(), ExtentRefusal>
         requires range { page.0 + count ≤ 1048576 }
         requires births { self.old.births < 2 ^ 62 }
-        ensures exact { Allocates self.old self.new result (rules.allocate self.old file page count) }
+        ensures exact { Allocates self.old self.new result (extents.allocate self.old file page count) }
         ensures owned { IsOwned self.new }
     {
         let alloc = *self.rows.allocator();
@@ -83,19 +85,17 @@ impl Extents {
         Ok(())
     }
 
-    /// Every page of the file from there on is unmapped, and its block is free. Nothing changes where memory is wanting.
-    pub fn release_from(&mut self, file: FileId, page: PageNo) -> Result<(), AllocError>
-        ensures ok { OnOk result (self.new ≡ rules.release_from self.old file page) }
-        ensures err { OnErr result (self.new ≡ self.old) }
+    /// Unmaps every page of the file from this page on, and frees their blocks. It does not allocate.
+    pub fn release_from(&mut self, file: FileId, page: PageNo)
+        ensures released { self.new ≡ extents.release_from self.old file page }
         ensures owned { IsOwned self.new }
     {
         release(&mut self.rows, file, page);
-        Ok(())
     }
 
     /// How many blocks of this server's disks are free.
     pub fn free(&self) -> u32
-        ensures { result ≡ rules.free self.now }
+        ensures { result ≡ extents.free self.now }
     {
         self.layout.free(self.rows.as_slice())
     }
@@ -103,12 +103,12 @@ impl Extents {
     /// How many pages are mapped.
     pub fn mapped(&self) -> u32
         ensures mapped { result ≡ length self.now.rows }
-        ensures within { result ≤ length (rules.own_blocks self.now) }
+        ensures within { result ≤ length (extents.own_blocks self.now) }
     {
         self.rows.len() as u32
     }
 
-    /// The birth that the next mapping gets. Births rise by 1 from 1 and are never given again.
+    /// The birth that the next mapping gets. Births count up from 1, and none is used twice.
     pub fn next_birth(&self) -> u64
         ensures { result ≡ self.now.births + 1 }
     {

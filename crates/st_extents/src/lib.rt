@@ -3,7 +3,9 @@
 
 mod extents;
 mod layout;
-mod rows;
+mod mapping;
+mod refusal;
 
 pub use extents::Extents;
-pub use st_rules::{Extent, ExtentRefusal};
+pub use refusal::ExtentRefusal;
+pub use st_rules::Extent;

@@ -1,3 +1,5 @@
+pub mod Adapted
 pub mod Causes
 pub mod InMemory
 pub mod Prefixes
+pub mod Refusals

@@ -1,5 +1,5 @@
--- What a call over a whole text has done where it stopped half-way. Bytes that are not told are not spoken of.
-use Rattle.std.specs.Prelude.{ℕ, List, take}
+-- What a call over a whole text did if it stopped before the end. Nothing is said of bytes that are not known.
+use Rattle.std.specs.Prelude.{ℕ, ◌<◌, List, length, take}
 use Rattle.std.specs.declared.option.Option.{Option}
 use Rattle.std.specs.Io.KnownBytes.{Appends, Consumes}
 
@@ -7,6 +7,10 @@ use Rattle.std.specs.Io.KnownBytes.{Appends, Consumes}
 abbrev pub AppendsPrefix : Option (List ℕ) → Option (List ℕ) → List ℕ → Type 0
 AppendsPrefix before after bytes = (n : ℕ) × Appends before after (take n bytes)
 
--- the known bytes lost some of their first, and kept the rest
+-- the known bytes lost the first of them, maybe none, and kept the rest
 abbrev pub LosesFront : Option (List ℕ) → Option (List ℕ) → Type 0
 LosesFront before after = (front : List ℕ) × Consumes before after front
+
+-- the known bytes lost the first of them, at least one, and kept the rest
+abbrev pub LosesSome : Option (List ℕ) → Option (List ℕ) → Type 0
+LosesSome before after = (front : List ℕ) × (0 < length front) × Consumes before after front

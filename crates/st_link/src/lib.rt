@@ -1,13 +1,15 @@
-//! Sources and sinks of bytes that count their faults, the two calls that go over a whole text, and the ends that
-//! a program or a test hands in. The rules stand in docs/PROTOCOL.md, chapter "Sources and sinks".
+//! Sources and sinks of bytes that count their faults, the calls that read and write a whole text, and sources and sinks
+//! over memory and over the standard library's readers and writers. docs/PROTOCOL.md, "Sources and sinks", has the rules.
 #![tactic(auto)]
 
+mod calls;
 mod ends;
 mod link;
 mod memory;
 mod safe;
 mod whole;
 
+pub use calls::{ReadCall, WriteCall};
 pub use ends::{ReaderSource, WriterSink};
 pub use link::{Failed, Sink, Source};
 pub use memory::{MemorySink, MemorySource};

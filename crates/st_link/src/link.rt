@@ -7,38 +7,38 @@ ghost use Rattle.st_link.specs.Causes.{HasCause};
 
 use thiserror::Error;
 
-/// A read or a write that did not happen. It moved no byte.
+/// A read or a write failed. It moved no byte.
 #[derive(Clone, Copy, Debug, PartialEq, Eq, Error)]
 #[error("the stream failed")]
 pub struct Failed;
 
-/// Bytes that come in. The rules: docs/PROTOCOL.md, chapter "Sources and sinks".
+/// A source of bytes. docs/PROTOCOL.md, "Sources and sinks", has the rules.
 pub trait Source {
-    /// The bytes that are still left, where the source tells them.
+    /// The bytes that are still left, if the source knows them.
     ghost left: { Self → Option (List ℕ) };
 
-    /// How often a call has failed. It stands still at 2^64 - 1.
+    /// The number of calls that failed, or 2^64 - 1 if there were more.
     ghost faults: { Self → ℕ };
 
-    /// Moves the first bytes that are left into the front of the room, and answers how many. For a room that is not
-    /// empty it answers 0 exactly where no byte is left. A failed call moves none. What it leaves in the room behind
-    /// the moved bytes is open, and after a failure in the whole room.
+    /// Moves the first bytes that are left to the front of `room`, and returns their number. If `room` is not empty, it
+    /// returns 0 exactly if no byte is left. A failed call moves none. The contents of `room` behind the moved bytes, and all
+    /// of `room` after a failure, are unspecified.
     fn take(&mut self, room: &mut [u8]) -> Result<usize, Failed>
         ensures bound { ReadsAtMost result room.new }
         ensures bytes { ReadConsumes (left self.old) (left self.new) result room.new }
         ensures cause { HasCause (faults self.old) (faults self.new) result };
 }
 
-/// Bytes that go out. The rules: docs/PROTOCOL.md, chapter "Sources and sinks".
+/// A sink of bytes. docs/PROTOCOL.md, "Sources and sinks", has the rules.
 pub trait Sink {
-    /// The bytes that were written, where the sink tells them.
+    /// The bytes that were written, if the sink knows them.
     ghost written: { Self → Option (List ℕ) };
 
-    /// How often a call has failed. It stands still at 2^64 - 1.
+    /// The number of calls that failed, or 2^64 - 1 if there were more.
     ghost faults: { Self → ℕ };
 
-    /// Writes the first bytes of the piece behind those that were written, and answers how many: at least one, where
-    /// the piece is not empty. A failed call writes none.
+    /// Writes the first bytes of `piece`, and returns their number: at least one if `piece` is not empty. A failed call
+    /// writes none.
     fn put(&mut self, piece: &[u8]) -> Result<usize, Failed>
         ensures bound { WritesAtMost result piece.now }
         ensures some { IfOk result (λ n. 0 < length piece.now → 0 < n) }

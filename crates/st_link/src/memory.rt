@@ -1,4 +1,4 @@
-// The ends in memory, whose calls fail by a list.
+// The source and the sink in memory, whose calls fail by a list.
 ghost use Rattle.std.specs.Prelude.{◌≡◌, ◌≤◌, ◌<◌, ◌↔◌, Some, [], IsTrue, IsErr, IfOk, OnOk, OnErr, Contains, length, min};
 ghost use Rattle.std.specs.Io.{ReadsAtMost, WritesAtMost};
 ghost use Rattle.std.specs.Io.KnownBytes.{ReadConsumes, WriteAppends};
@@ -10,7 +10,7 @@ use crate::safe::SafeSource;
 use std::alloc::Global;
 use std::marker::Model;
 
-// The calls made so far, the numbers of those that fail, and the faults so far.
+// The number of calls so far, the numbers of the calls that fail, and the number of faults so far.
 #[derive(Drop)]
 struct Plan {
     calls: u64,
@@ -29,7 +29,7 @@ impl Plan {
         }
     }
 
-    // Counts a call, and tells whether it is one that fails.
+    // Counts a call, and returns whether it must fail.
     fn call(&mut self) -> bool
         ensures calls { self.new.calls ≡ raised self.old.calls }
         ensures failing { self.new.failing ≡ self.old.failing }
@@ -52,7 +52,7 @@ impl Plan {
     }
 }
 
-/// A source over bytes in memory, whose calls of `take` fail by a list of their numbers, counted from 1.
+/// A source over bytes in memory. The calls of `take` are numbered from 1, and those whose numbers are in a list fail.
 #[derive(Drop)]
 pub struct MemorySource {
     rest: SafeSource,
@@ -67,8 +67,8 @@ impl Model for MemorySource {
     ghost view = { λ s. record { bytes = s.rest; calls = s.plan.calls; failing = s.plan.failing.items; faults = s.plan.faults } };
 }
 
-/// A sink that keeps what is written in memory, whose calls of `put` fail by a list of their numbers, counted from 1.
-/// A call fails too where there is no memory for the piece.
+/// A sink that keeps what is written in memory. The calls of `put` are numbered from 1, and those whose numbers are in a list
+/// fail. A call also fails if it runs out of memory.
 #[derive(Drop)]
 pub struct MemorySink {
     bytes: Vec<u8>,
@@ -84,7 +84,7 @@ impl Model for MemorySink {
 }
 
 impl MemorySource {
-    /// A source that has these bytes left, and whose calls with these numbers fail.
+    /// Makes a source of these bytes, whose calls with these numbers fail.
     pub fn new(bytes: Vec<u8>, failing: Vec<u64>) -> MemorySource
         ensures { result ≡ record { bytes = bytes.items; calls = 0; failing = failing.items; faults = 0 } }
     {
@@ -100,8 +100,8 @@ impl Source for MemorySource {
 
     ghost faults = { λ s. s.faults };
 
-    /// It fails exactly where the number of the call is in the list, and otherwise takes as many bytes as are left
-    /// and have room.
+    /// It fails exactly if the number of the call is in the list. Otherwise it takes all bytes that are left, or as many of
+    /// them as `room` can hold.
     fn take(&mut self, room: &mut [u8]) -> Result<usize, Failed>
         ensures bound { ReadsAtMost result room.new }
         ensures bytes { ReadConsumes (Some self.old.bytes) (Some self.new.bytes) result room.new }
@@ -121,7 +121,7 @@ impl Source for MemorySource {
 }
 
 impl MemorySink {
-    /// A sink to which nothing was written, and whose calls with these numbers fail.
+    /// Makes an empty sink, whose calls with these numbers fail.
     pub fn new(alloc: Global, failing: Vec<u64>) -> MemorySink
         ensures { result ≡ record { bytes = []; calls = 0; failing = failing.items; faults = 0 } }
     {
@@ -131,7 +131,7 @@ impl MemorySink {
         }
     }
 
-    /// The bytes that were written.
+    /// Returns the bytes that were written.
     pub fn as_slice(&self) -> &[u8]
         ensures { result.now ≡ self.now.bytes }
     {
@@ -144,7 +144,7 @@ impl Sink for MemorySink {
 
     ghost faults = { λ s. s.faults };
 
-    /// It fails where the number of the call is in the list or memory runs out, and otherwise takes the whole piece.
+    /// It fails if the number of the call is in the list, or if it runs out of memory. Otherwise it takes the whole piece.
     fn put(&mut self, piece: &[u8]) -> Result<usize, Failed>
         ensures bound { WritesAtMost result piece.now }
         ensures some { IfOk result (λ n. 0 < length piece.now → 0 < n) }

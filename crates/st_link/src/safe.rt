@@ -1,4 +1,4 @@
-// The ends that never fail.
+// A source and a sink that never fail.
 ghost use Rattle.std.specs.Prelude.{◌≡◌, Some, None, Ok, min, length, take};
 ghost use Rattle.std.specs.Io.{ReadsAtMost};
 ghost use Rattle.std.specs.Io.KnownBytes.{ReadConsumes};
@@ -7,8 +7,8 @@ ghost use Rattle.st_link.specs.Causes.{HasCause};
 use crate::link::{Failed, Sink, Source};
 use std::marker::Model;
 
-/// A source over bytes in memory that never fails: its count of faults is always 0.
-/// Contracts see it as the list of the bytes that are left.
+/// A source over bytes in memory that never fails: its count of faults is always 0. Contracts see it as the list of the bytes
+/// that are left.
 #[derive(Drop)]
 pub struct SafeSource {
     bytes: Vec<u8>,
@@ -25,13 +25,13 @@ impl Model for SafeSource {
     ghost invariant = { λ s. s.at ≤ length s.bytes.items };
 }
 
-/// A sink that never fails, since it keeps nothing: it drops each piece, tells no bytes, and its count of faults is
-/// always 0. A sink that keeps what it is given can run out of memory, as `MemorySink` can.
+/// A sink that never fails, since it drops each piece. It does not know its bytes, and its count of faults is always 0. A sink
+/// that keeps what is written can run out of memory, as `MemorySink` can.
 #[derive(Clone, Copy, Debug)]
 pub struct SafeSink;
 
 impl SafeSource {
-    /// A source that has these bytes left.
+    /// Makes a source of these bytes.
     pub fn new(bytes: Vec<u8>) -> SafeSource
         ensures { result ≡ bytes.items }
     {
@@ -39,7 +39,7 @@ impl SafeSource {
     }
 }
 
-// Copies as many bytes as there are and have room, and returns how many.
+// Copies the first bytes to the front of `room`, as many as it can hold, and returns their number.
 fn copy_front(room: &mut [u8], bytes: &[u8]) -> usize
     ensures count { result ≡ min (length bytes.now) (length room.old) }
     ensures copied { take result room.new ≡ take result bytes.now }
@@ -54,7 +54,7 @@ impl Source for SafeSource {
 
     ghost faults = { λ _. 0 };
 
-    /// It takes as many bytes as are left and have room.
+    /// It takes all bytes that are left, or as many of them as `room` can hold.
     fn take(&mut self, room: &mut [u8]) -> Result<usize, Failed>
         ensures bound { ReadsAtMost result room.new }
         ensures bytes { ReadConsumes (Some self.old) (Some self.new) result room.new }

@@ -1,21 +1,21 @@
-// The calls that write all of a text, and read all of one.
+// The calls that write a whole text, and read one.
 ghost use Rattle.std.specs.Prelude.{◌≡◌, ◌<◌, ◌≤◌, OnOk, OnErr, IfOk, length};
 ghost use Rattle.std.specs.Io.KnownBytes.{Consumes, Appends, IsAtEnd};
 ghost use Rattle.st_link.specs.Causes.{HasCause, Rose};
-ghost use Rattle.st_link.specs.Prefixes.{AppendsPrefix, LosesFront};
+ghost use Rattle.st_link.specs.Prefixes.{AppendsPrefix, LosesFront, LosesSome};
 ghost use Rattle.st_link.specs.declared.whole.ReadFault.TheVariants.{Memory, Fault};
 
 use crate::link::{Failed, Sink, Source};
 use std::alloc::{AllocError, Global};
 use thiserror::Error;
 
-/// Why a text was not read.
+/// Why `read_up_to` failed.
 #[derive(Clone, Copy, Debug, PartialEq, Eq, Error)]
 pub enum ReadFault {
     /// The source failed.
     #[error("the stream failed")]
     Fault,
-    /// There was no memory for the bytes.
+    /// There was no memory for the bytes that the source gave.
     #[error("no memory is left")]
     Memory,
 }
@@ -36,7 +36,7 @@ impl From<Failed> for ReadFault {
     }
 }
 
-/// Writes all of the bytes, or fails with the sink and has written the first of them.
+/// Writes all of the bytes. If the sink fails, it returns `Failed`, and some of the first bytes were written, maybe none.
 pub fn put_all<S: Sink>(sink: &mut S, bytes: &[u8]) -> Result<(), Failed>
     ensures ok { OnOk result (Appends (S.written sink.old) (S.written sink.new) bytes.now) }
     ensures failed { OnErr result (AppendsPrefix (S.written sink.old) (S.written sink.new) bytes.now) }
@@ -50,8 +50,8 @@ pub fn put_all<S: Sink>(sink: &mut S, bytes: &[u8]) -> Result<(), Failed>
     Ok(())
 }
 
-/// Reads to the end of the source, or until so many bytes are in hand. After an error the bytes that were
-/// read are lost.
+/// Reads to the end of the source, or until it has read `limit` bytes. It returns `Fault` if a read failed, and `Memory` if
+/// it ran out of memory for bytes that it had read. After an error the bytes that were read are lost.
 pub fn read_up_to<S: Source>(
     alloc: Global,
     source: &mut S,
@@ -64,6 +64,7 @@ pub fn read_up_to<S: Source>(
     ensures later { S.faults source.old ≤ S.faults source.new }
     ensures still { OnOk result (S.faults source.new ≡ S.faults source.old) }
     ensures cause { result ≡ Err Fault → Rose (S.faults source.old) (S.faults source.new) }
+    ensures memory { result ≡ Err Memory → LosesSome (S.left source.old) (S.left source.new) }
 {
     let mut bytes = Vec::new(alloc);
     let mut room = [0u8; 4096];

@@ -11,7 +11,7 @@ use Rattle.st_rules.specs.declared.log.Change.{Change}
 use Rattle.st_rules.specs.declared.log.LogOwner.{LogOwner}
 use Rattle.st_rules.specs.declared.log.LogEntry.{LogEntry}
 use Rattle.st_rules.specs.FlatLog.{entry_at, harden, harden_at, hardened, harder_entry, harden_from, lost_entry, dropped, drop_from, drop_picked, is_number, always, gone}
-use Rattle.st_model.specs.Kept.{IsInPage, HasZeros, IsKept}
+use Rattle.st_model.specs.Kept.{IsInPage, IsKept}
 
 -- a place of a list is written, and what is made of the rest stays as it was
 rest_after : {X : Type 0} (G : List X → List X) (xs : List X) (i : ℕ) (y : X) → i < length xs →
@@ -83,11 +83,10 @@ gone_at es index cause d x e low high at lost =
     ∙ sym (drop_from_at index 1 (index - 1) (always cause) es d (omega arith) (omega arith))
 
 -- What a log keeps stays so when fates change.
-pub harden_keeps : (zeros : Option (List ℕ)) (es : List LogEntry) (index n : ℕ) (o : LogOwner) → IsKept zeros es → IsKept zeros (harden_from n index o es)
+pub harden_keeps : (zeros : List ℕ) (es : List LogEntry) (index n : ℕ) (o : LogOwner) → IsKept zeros es → IsKept zeros (harden_from n index o es)
 harden_keeps zeros es index n o k = record {
   blank = k.blank;
   ranges = kept_harden_from IsInPage index o n es k.ranges;
-  cuts = kept_harden_from (HasZeros zeros) index o n es k.cuts;
 }
 
 kept_set : (Q : Change → Type 0) (cause : FileId → PageNo → Cause) (es : List LogEntry) (i : ℕ) (d : LogEntry) → i < length es →
@@ -96,10 +95,9 @@ kept_set Q cause es i d h k =
     let P : LogEntry → Type 0 = λ e. Q e.change in
     All-set P es i _ (kept_lost Q cause _ (All-get_or P es i d h k)) k
 
-pub lose_keeps : (zeros : Option (List ℕ)) (cause : FileId → PageNo → Cause) (es : List LogEntry) (i : ℕ) (d x e : LogEntry) → i < length es →
+pub lose_keeps : (zeros : List ℕ) (cause : FileId → PageNo → Cause) (es : List LogEntry) (i : ℕ) (d x e : LogEntry) → i < length es →
     x ≡ get_or es i d → e ≡ lost_entry cause x → IsKept zeros es → IsKept zeros (set es i e)
 lose_keeps zeros cause es i d x e h at lost k = rw (lost, at) record {
   blank = k.blank;
   ranges = kept_set IsInPage cause es i d h k.ranges;
-  cuts = kept_set (HasZeros zeros) cause es i d h k.cuts;
 }

@@ -1,5 +1,5 @@
 -- What a log keeps of its entries beside what they are.
-use Rattle.std.specs.Prelude.{◌≡◌, ℕ, ◌+◌, ◌≤◌, List, length, Option, Some, IfSome}
+use Rattle.std.specs.Prelude.{◌≡◌, ℕ, ◌+◌, ◌≤◌, List, length}
 use Rattle.std.specs.List.{All}
 use Rattle.st_base.specs.Page.{filled}
 use Rattle.st_rules.specs.declared.log.Change.{Change}
@@ -20,14 +20,7 @@ IsWhole (heads.Write client life file page) = Unit {0}
 IsWhole (heads.Patch client life file page) = ⊥
 IsWhole (heads.Cut file from) = Unit {0}
 
--- where there is a cut, there is a page of zeros
-abbrev pub HasZeros : Option (List ℕ) → Change → Type 0
-HasZeros zeros (Write bytes) = Unit {0}
-HasZeros zeros (Patch at bytes) = Unit {0}
-HasZeros zeros Cut = zeros ≡ Some (filled 0)
-
 -- what a log with this page of zeros keeps
-pub record IsKept (zeros : Option (List ℕ)) (log : List LogEntry) : Type 0 where
-  pub blank : IfSome zeros (λ page. page ≡ filled 0)
+pub record IsKept (zeros : List ℕ) (log : List LogEntry) : Type 0 where
+  pub blank : zeros ≡ filled 0
   pub ranges : All (λ (e : LogEntry). IsInPage e.change) log
-  pub cuts : All (λ (e : LogEntry). HasZeros zeros e.change) log

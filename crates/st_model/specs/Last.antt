@@ -19,12 +19,12 @@ pub record IsLast (log : List LogEntry) (f : FileId) (p : PageNo) (n : ℕ) : Ty
   pub alone : list_any (matters f p) later ≡ false
   pub bytes : content log f p ≡ changed entry.change (content before f p)
 
--- no entry touches the page but such as are gone, and the page holds zeros
+-- every entry that touches the page is gone, and the page holds zeros
 pub record IsUntouched (log : List LogEntry) (f : FileId) (p : PageNo) : Type 0 where
   pub alone : list_any (matters f p) log ≡ false
   pub zeros : content log f p ≡ filled 0
 
--- what the number of the last entry tells
+-- what the answer of `last` says of the page
 abbrev pub LastTells : List LogEntry → FileId → PageNo → Option ℕ → Type 0
 LastTells log f p None = IsUntouched log f p
 LastTells log f p (Some n) = IsLast log f p n

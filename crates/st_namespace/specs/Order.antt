@@ -1,4 +1,4 @@
--- What is always so of the names of a server.
+-- What always holds of the names of a server.
 use Rattle.std.specs.Prelude.{◌≤◌, ◌<◌, Bool, ◌==◌, All, length}
 use Rattle.std.specs.List.{IsDistinct}
 use Rattle.st_rules.specs.declared.names.NameEntry.{NameEntry}

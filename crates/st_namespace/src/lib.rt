@@ -3,8 +3,8 @@
 
 mod entries;
 mod listing;
+mod name_bytes;
 mod names;
-mod words;
 
 pub use names::Names;
 pub use st_base::{Name, NameRefusal, NameRow};

@@ -1,13 +1,13 @@
 ghost use Rattle.std.specs.Prelude.{◌≡◌, ◌≤◌, IfOk, OnOk, filter, map, insert, length};
-ghost use Rattle.st_rules.specs.Names as rules;
+ghost use Rattle.st_rules.specs.Names as names;
 
-use crate::words::is_below;
+use crate::name_bytes::is_below;
 use st_base::NameRow;
 use st_rules::NameEntry;
 use std::alloc::{AllocError, Global};
 
 fn row_of(entry: &NameEntry) -> Result<NameRow, AllocError>
-    ensures { IfOk result (λ r. r ≡ rules.name_row entry.now) }
+    ensures { IfOk result (λ r. r ≡ names.name_row entry.now) }
 {
     Ok(NameRow {
         ino: entry.ino,
@@ -17,15 +17,15 @@ fn row_of(entry: &NameEntry) -> Result<NameRow, AllocError>
 }
 
 fn is_listed(dir: u32, after: &[u8], entry: &NameEntry) -> bool
-    ensures { result ≡ rules.is_listed dir after.now entry.now }
+    ensures { result ≡ names.is_listed dir after.now entry.now }
 {
     entry.dir == dir && is_below(after, entry.name.as_slice())
 }
 
-/// The place of a row in front of the first one above it.
+/// The index of the first row above this one, or the number of rows where there is none.
 fn place_of(rows: &[NameRow], row: &NameRow) -> usize
     ensures within { result ≤ length rows.now }
-    ensures placed { insert rows.now result row.now ≡ rules.with_name_row row.now rows.now }
+    ensures placed { insert rows.now result row.now ≡ names.with_name_row row.now rows.now }
 {
     for place in 0..rows.len() {
         if is_below(row.name.as_slice(), rows[place].name.as_slice()) {
@@ -36,7 +36,7 @@ fn place_of(rows: &[NameRow], row: &NameRow) -> usize
 }
 
 fn add_row(rows: &mut Vec<NameRow>, row: NameRow) -> Result<(), AllocError>
-    ensures { OnOk result (rows.new.items ≡ rules.with_name_row row rows.old.items) }
+    ensures { OnOk result (rows.new.items ≡ names.with_name_row row rows.old.items) }
 {
     let place = place_of(rows.as_slice(), &row);
     rows.insert(place, row)?;
@@ -50,7 +50,7 @@ pub fn rows_above(
     dir: u32,
     after: &[u8],
 ) -> Result<Vec<NameRow>, AllocError>
-    ensures { IfOk result (λ v. v.items ≡ rules.by_name (map rules.name_row (filter (rules.is_listed dir after.now) entries.now))) }
+    ensures { IfOk result (λ v. v.items ≡ names.by_name (map names.name_row (filter (names.is_listed dir after.now) entries.now))) }
 {
     let mut rows = Vec::new(alloc);
     let mut left = entries.len();

@@ -1,15 +1,15 @@
 ghost use Rattle.std.specs.Prelude.{◌≡◌, ◌+◌, ◌-◌, ◌<◌, ◌≤◌, ◌^◌, IfOk, IfErr, OnOk, OnErr, ◌&&◌, length, is_some, false, option_map, Ok};
 ghost use Rattle.std.specs.Option.{option_copied};
 ghost use Rattle.st_base.specs.declared.names.NameRefusal.TheVariants as refusals;
-ghost use Rattle.st_rules.specs.Names as rules;
-ghost use Rattle.st_namespace.specs.Answers.{Changes, ChangesInPlace, IsTold, ino_and_mark, ino_told};
+ghost use Rattle.st_rules.specs.Names as names;
+ghost use Rattle.st_namespace.specs.Answers.{Changes, ChangesInPlace, IsTold, answer, as_told, ino_and_mark, ino_told};
 ghost use Rattle.st_namespace.specs.Order.{IsInOrder};
 
 use crate::entries;
 use crate::listing::rows_above;
-use crate::words::is_good;
+use crate::name_bytes::is_good;
 use st_base::{Name, NameRefusal, NameRow};
-use st_rules::NameEntry;
+use st_rules::{EntryRefusal, NameEntry};
 use std::alloc::{AllocError, Global};
 use std::marker::Model;
 
@@ -23,20 +23,36 @@ pub struct Names {
 }
 
 impl Model for Names {
-    ghost use Rattle.st_rules.specs.Names as rules;
+    ghost use Rattle.st_rules.specs.Names as names;
     ghost use Rattle.st_namespace.specs.Order.{IsInOrder};
 
-    ghost Value = { rules.Names };
+    ghost Value = { names.Names };
 
     ghost view = { λ n. record { entries = n.entries.items; next = n.next } };
 
     ghost invariant = { λ n. IsInOrder (record { entries = n.entries.items; next = n.next }) };
 }
 
+/// A refusal of the rules, as the calls tell it.
+fn told(refusal: EntryRefusal) -> NameRefusal
+    ensures { result ≡ as_told refusal }
+{
+    match refusal {
+        EntryRefusal::NoEntry => NameRefusal::NoEntry,
+        EntryRefusal::Exists => NameRefusal::Exists,
+        EntryRefusal::NotDir => NameRefusal::NotDir,
+        EntryRefusal::IsDir => NameRefusal::IsDir,
+        EntryRefusal::NotEmpty => NameRefusal::NotEmpty,
+        EntryRefusal::Cycle => NameRefusal::Cycle,
+        EntryRefusal::BadName => NameRefusal::BadName,
+        EntryRefusal::TooMany => NameRefusal::TooMany,
+    }
+}
+
 /// One of the files of a fresh server.
 fn fresh_file(alloc: Global, ino: u8) -> Result<NameEntry, AllocError>
     requires { ino ≤ 9 }
-    ensures { IfOk result (λ e. e ≡ rules.fresh_file ino) }
+    ensures { IfOk result (λ e. e ≡ names.fresh_file ino) }
 {
     Ok(NameEntry {
         dir: ROOT,
@@ -49,7 +65,7 @@ fn fresh_file(alloc: Global, ino: u8) -> Result<NameEntry, AllocError>
 /// The files of a fresh server.
 #[tactic(auto, unfolding(st_rules::specs::Names::fresh_names))]
 fn fresh_files(alloc: Global) -> Result<Vec<NameEntry>, AllocError>
-    ensures { IfOk result (λ v. v.items ≡ rules.fresh_names.entries) }
+    ensures { IfOk result (λ v. v.items ≡ names.fresh_names.entries) }
 {
     let mut entries = Vec::new(alloc);
     entries.push(fresh_file(alloc, 2)?)?;
@@ -67,7 +83,7 @@ impl Names {
     /// The names of a fresh server: the root, and the files 2 to 9, named `f2` to `f9`, in it.
     #[tactic(auto, unfolding(st_rules::specs::Names::fresh_names))]
     pub fn fresh(alloc: Global) -> Result<Names, AllocError>
-        ensures fresh { IfOk result (λ n. n ≡ rules.fresh_names) }
+        ensures fresh { IfOk result (λ n. n ≡ names.fresh_names) }
         ensures order { IfOk result IsInOrder }
     {
         let entries = fresh_files(alloc)?;
@@ -75,26 +91,26 @@ impl Names {
     }
 
     fn entry_of_ino(&self, ino: u32) -> Option<&NameEntry>
-        ensures { option_copied result ≡ rules.entry_of_ino self.now ino }
+        ensures { option_copied result ≡ names.entry_of_ino self.now ino }
     {
         entries::entry_of_ino(self.entries.as_slice(), ino)
     }
 
     fn entry_at(&self, dir: u32, name: &[u8]) -> Option<&NameEntry>
-        ensures { option_copied result ≡ rules.entry_at self.now dir name.now }
+        ensures { option_copied result ≡ names.entry_at self.now dir name.now }
     {
         entries::entry_at(self.entries.as_slice(), dir, name)
     }
 
     fn has_entry(&self, dir: u32, name: &[u8]) -> bool
-        ensures { result ≡ is_some (rules.entry_at self.now dir name.now) }
+        ensures { result ≡ is_some (names.entry_at self.now dir name.now) }
     {
         self.entry_at(dir, name).is_some()
     }
 
-    /// Whether an inode is a directory, where it is one of this server.
+    /// Whether an inode of this server is a directory; `None` where the server has no such inode.
     fn kind_of(&self, ino: u32) -> Option<bool>
-        ensures { result ≡ rules.kind_of self.now ino }
+        ensures { result ≡ names.kind_of self.now ino }
     {
         if ino == ROOT {
             return Some(true);
@@ -105,19 +121,19 @@ impl Names {
         }
     }
 
-    fn dir_refusal(&self, dir: u32) -> Option<NameRefusal>
-        ensures { result ≡ rules.dir_refusal self.now dir }
+    fn dir_refusal(&self, dir: u32) -> Option<EntryRefusal>
+        ensures { result ≡ names.dir_refusal self.now dir }
     {
         match self.kind_of(dir) {
-            None => Some(NameRefusal::NoEntry),
-            Some(false) => Some(NameRefusal::NotDir),
+            None => Some(EntryRefusal::NoEntry),
+            Some(false) => Some(EntryRefusal::NotDir),
             Some(true) => None,
         }
     }
 
     #[tactic(auto, unfolding(st_rules::specs::Names::place_refusal))]
-    fn place_refusal(&self, dir: u32, name: &[u8]) -> Option<NameRefusal>
-        ensures { result ≡ rules.place_refusal self.now dir name.now }
+    fn place_refusal(&self, dir: u32, name: &[u8]) -> Option<EntryRefusal>
+        ensures { result ≡ names.place_refusal self.now dir name.now }
     {
         match self.dir_refusal(dir) {
             Some(refusal) => Some(refusal),
@@ -125,7 +141,7 @@ impl Names {
                 if is_good(name) {
                     None
                 } else {
-                    Some(NameRefusal::BadName)
+                    Some(EntryRefusal::BadName)
                 }
             }
         }
@@ -133,7 +149,7 @@ impl Names {
 
     /// Whether the inode is a file of this server.
     pub fn is_file(&self, ino: u32) -> bool
-        ensures { result ≡ rules.is_file self.now ino }
+        ensures { result ≡ names.is_file self.now ino }
     {
         match self.kind_of(ino) {
             None => false,
@@ -141,13 +157,13 @@ impl Names {
         }
     }
 
-    /// The inode of a name in a directory.
+    /// The inode of a name in a directory. It takes no memory.
     #[tactic(auto, unfolding(st_rules::specs::Names::lookup, st_rules::specs::Names::lookup_at))]
     pub fn lookup(&self, dir: u32, name: &[u8]) -> Result<u32, NameRefusal>
-        ensures { result ≡ rules.lookup self.now dir name.now }
+        ensures { result ≡ answer (names.lookup self.now dir name.now) }
     {
         match self.place_refusal(dir, name) {
-            Some(refusal) => Err(refusal),
+            Some(refusal) => Err(told(refusal)),
             None => match self.entry_at(dir, name) {
                 None => Err(NameRefusal::NoEntry),
                 Some(entry) => Ok(entry.ino),
@@ -155,9 +171,9 @@ impl Names {
         }
     }
 
-    /// A directory is another one or lies under it. It climbs at most as many steps as there are entries.
+    /// Whether a directory is `top` or lies under it. It climbs at most as many steps as there are entries.
     fn is_under(&self, top: u32, dir: u32) -> bool
-        ensures { result ≡ rules.is_under self.now top dir }
+        ensures { result ≡ names.is_under self.now top dir }
     {
         let mut at = dir;
         for _step in 0..self.entries() {
@@ -176,8 +192,8 @@ impl Names {
     fn push(&mut self, dir: u32, name: Name, directory: bool) -> Result<u32, NameRefusal>
         requires next { self.old.next < 2 ^ 32 - 1 }
         requires room { length self.old.entries < 4095 }
-        requires free { is_some (rules.entry_at self.old dir name) ≡ false }
-        ensures ok { IfOk result (λ ino. record { names = self.new; ino = ino } ≡ rules.added self.old dir name directory) }
+        requires free { is_some (names.entry_at self.old dir name) ≡ false }
+        ensures ok { IfOk result (λ ino. record { names = self.new; ino = ino } ≡ names.added self.old dir name directory) }
         ensures err { OnErr result (self.new ≡ self.old) }
         ensures memory { IfErr result (λ r. r ≡ refusals.Memory) }
         ensures order { IsInOrder self.new }
@@ -196,15 +212,15 @@ impl Names {
         Ok(ino)
     }
 
-    /// Adds an entry with the next inode number.
+    /// Adds an entry with the next inode number. An error changes nothing.
     #[tactic(auto, unfolding(st_rules::specs::Names::add, st_rules::specs::Names::add_at, st_rules::specs::Names::add_beside, st_rules::specs::Names::add_new, st_rules::specs::Names::added))]
     fn add(&mut self, dir: u32, name: &[u8], directory: bool) -> Result<u32, NameRefusal>
         requires { self.old.next < 2 ^ 32 - 1 }
-        ensures exact { Changes self.old self.new result (rules.add self.old dir name.now directory) }
+        ensures exact { Changes self.old self.new result (names.add self.old dir name.now directory) }
         ensures order { IsInOrder self.new }
     {
         if let Some(refusal) = self.place_refusal(dir, name) {
-            return Err(refusal);
+            return Err(told(refusal));
         }
         if self.has_entry(dir, name) {
             return Err(NameRefusal::Exists);
@@ -219,29 +235,29 @@ impl Names {
         self.push(dir, name, directory)
     }
 
-    /// Creates a file, and gives its inode.
+    /// Creates a file, and returns its inode.
     #[tactic(auto, unfolding(st_rules::specs::Names::create))]
     pub fn create(&mut self, dir: u32, name: &[u8]) -> Result<u32, NameRefusal>
         requires { self.old.next < 2 ^ 32 - 1 }
-        ensures exact { Changes self.old self.new result (rules.create self.old dir name.now) }
+        ensures exact { Changes self.old self.new result (names.create self.old dir name.now) }
         ensures order { IsInOrder self.new }
     {
         self.add(dir, name, false)
     }
 
-    /// Makes a directory, and gives its inode.
+    /// Makes a directory, and returns its inode.
     #[tactic(auto, unfolding(st_rules::specs::Names::mkdir))]
     pub fn mkdir(&mut self, dir: u32, name: &[u8]) -> Result<u32, NameRefusal>
         requires { self.old.next < 2 ^ 32 - 1 }
-        ensures exact { Changes self.old self.new result (rules.mkdir self.old dir name.now) }
+        ensures exact { Changes self.old self.new result (names.mkdir self.old dir name.now) }
         ensures order { IsInOrder self.new }
     {
         self.add(dir, name, true)
     }
 
-    /// The entry of a name: its inode, and whether it is a directory.
+    /// The inode of an entry, and whether it is a directory.
     fn found(&self, dir: u32, name: &[u8]) -> Option<(u32, bool)>
-        ensures { result ≡ option_map ino_and_mark (rules.entry_at self.now dir name.now) }
+        ensures { result ≡ option_map ino_and_mark (names.entry_at self.now dir name.now) }
     {
         match self.entry_at(dir, name) {
             None => None,
@@ -250,18 +266,18 @@ impl Names {
     }
 
     fn is_full(&self, ino: u32, directory: bool) -> bool
-        ensures { result ≡ (directory && rules.has_entries self.now ino) }
+        ensures { result ≡ (directory && names.has_entries self.now ino) }
     {
         directory && entries::has_entries(self.entries.as_slice(), ino)
     }
 
-    /// Removes an entry, and gives its inode; a directory must be empty.
+    /// Removes an entry, and returns its inode; a directory must be empty. It takes no memory.
     pub fn remove(&mut self, dir: u32, name: &[u8]) -> Result<u32, NameRefusal>
-        ensures exact { ChangesInPlace self.old self.new result (rules.remove self.old dir name.now) }
+        ensures exact { ChangesInPlace self.old self.new result (names.remove self.old dir name.now) }
         ensures order { IsInOrder self.new }
     {
         if let Some(refusal) = self.place_refusal(dir, name) {
-            return Err(refusal);
+            return Err(told(refusal));
         }
         let Some((ino, directory)) = self.found(dir, name) else {
             return Err(NameRefusal::NoEntry);
@@ -274,15 +290,15 @@ impl Names {
     }
 
     fn comes_under_itself(&self, ino: u32, directory: bool, dir2: u32) -> bool
-        ensures { result ≡ (directory && rules.is_under self.now ino dir2) }
+        ensures { result ≡ (directory && names.is_under self.now ino dir2) }
     {
         directory && self.is_under(ino, dir2)
     }
 
-    /// Why an entry may not move, apart from its places; else its inode.
+    /// The inode of an entry that may move, else the refusal, where both directories and both names are good.
     fn moved(&self, dir: u32, name: &[u8], dir2: u32, name2: &[u8]) -> Result<u32, NameRefusal>
-        ensures told { result ≡ ino_told (rules.rename_found self.now dir name.now dir2 name2.now (rules.entry_at self.now dir name.now)) }
-        ensures free { OnOk result (is_some (rules.entry_at self.now dir2 name2.now) ≡ false) }
+        ensures told { result ≡ ino_told (names.rename_found self.now dir name.now dir2 name2.now (names.entry_at self.now dir name.now)) }
+        ensures free { OnOk result (is_some (names.entry_at self.now dir2 name2.now) ≡ false) }
     {
         let Some((ino, directory)) = self.found(dir, name) else {
             return Err(NameRefusal::NoEntry);
@@ -296,7 +312,7 @@ impl Names {
         Ok(ino)
     }
 
-    /// Gives an entry another name in another directory, and tells its inode, which stays.
+    /// Gives an entry another name in another directory, and returns its inode, which stays.
     pub fn rename(
         &mut self,
         dir: u32,
@@ -304,14 +320,14 @@ impl Names {
         dir2: u32,
         name2: &[u8],
     ) -> Result<u32, NameRefusal>
-        ensures exact { Changes self.old self.new result (rules.rename self.old dir name.now dir2 name2.now) }
+        ensures exact { Changes self.old self.new result (names.rename self.old dir name.now dir2 name2.now) }
         ensures order { IsInOrder self.new }
     {
         if let Some(refusal) = self.place_refusal(dir, name) {
-            return Err(refusal);
+            return Err(told(refusal));
         }
         if let Some(refusal) = self.place_refusal(dir2, name2) {
-            return Err(refusal);
+            return Err(told(refusal));
         }
         let ino = self.moved(dir, name, dir2, name2)?;
         let alloc = *self.entries.allocator();
@@ -322,15 +338,15 @@ impl Names {
         Ok(ino)
     }
 
-    /// The first 256 entries of a directory whose names are above the given one byte by byte, in rising order, or all where
-    /// there are fewer.
+    /// The entries of a directory whose names are above `after`, compared byte by byte, in rising order; at most the first
+    /// 256.
     #[tactic(auto, unfolding(st_rules::specs::Names::list, st_rules::specs::Names::list_at))]
     pub fn list(&self, dir: u32, after: &[u8]) -> Result<Vec<NameRow>, NameRefusal>
-        ensures rows { IfOk result (λ rows. rules.list self.now dir after.now ≡ Ok rows.items) }
-        ensures refused { IfErr result (λ r. IsTold r (rules.list self.now dir after.now)) }
+        ensures rows { IfOk result (λ rows. names.list self.now dir after.now ≡ Ok rows.items) }
+        ensures refused { IfErr result (λ r. IsTold r (names.list self.now dir after.now)) }
     {
         if let Some(refusal) = self.dir_refusal(dir) {
-            return Err(refusal);
+            return Err(told(refusal));
         }
         let alloc = *self.entries.allocator();
         match rows_above(alloc, self.entries.as_slice(), dir, after) {
@@ -349,7 +365,7 @@ impl Names {
         self.entries.len() as u32
     }
 
-    /// The number of the next new inode. Numbers are never used again.
+    /// The number that the next new inode gets. No number is used twice.
     pub fn next_ino(&self) -> u32
         ensures { result ≡ self.now.next }
     {

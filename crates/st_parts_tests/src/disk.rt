@@ -1,4 +1,4 @@
-ghost use Rattle.std.specs.Prelude.{◌≡◌, IfOk};
+ghost use Rattle.std.specs.Prelude.{◌≡◌};
 ghost use Rattle.st_disk.specs.Calls.{SameSize};
 ghost use Rattle.st_disk.specs.Calls as calls;
 
@@ -85,8 +85,8 @@ fn place(disk: u16, block: u32) -> BlockAt
     }
 }
 
-fn written(alloc: Global, at: BlockAt, birth: u64, byte: u8) -> Result<Command, AllocError>
-    ensures { IfOk result (λ c. calls.place c ≡ at) }
+fn written(at: BlockAt, birth: u64, byte: u8) -> Command
+    ensures { calls.place result ≡ at }
 {
     let file = FileId {
         server: ServerId(1),
@@ -97,19 +97,16 @@ fn written(alloc: Global, at: BlockAt, birth: u64, byte: u8) -> Result<Command, 
         page: PageNo(at.block),
         birth,
     };
-    let bytes = PageBytes::filled(alloc, byte)?;
-    Ok(Command::Write { at, tag, bytes })
+    let bytes = PageBytes::filled(byte);
+    Command::Write { at, tag, bytes }
 }
 
 /// The birth and the one byte of a page.
 fn shown(alloc: Global, tag: Tag, page: &PageBytes) -> Result<String, AllocError> {
-    let bytes = page.as_slice();
-    let first = bytes[0];
-    let plain = bytes.iter().all(|byte| *byte == first);
-    if !plain {
-        return format!(in alloc; "mixed");
+    match page.repeated() {
+        Some(byte) => format!(in alloc; "birth {} byte {byte}", tag.birth),
+        None => format!(in alloc; "mixed"),
     }
-    format!(in alloc; "birth {} byte {first}", tag.birth)
 }
 
 fn ended(alloc: Global, answer: Result<(), DiskRefusal>) -> Result<String, AllocError> {
@@ -174,7 +171,7 @@ fn answer(alloc: Global, disks: &mut Disks, call: Call) -> Result<String, AllocE
         }
         Write(disk, b, birth, byte) => {
             let at = place(disk, b);
-            let command = written(alloc, at, birth, byte)?;
+            let command = written(at, birth, byte);
             submit(alloc, disks, command, at)
         }
         Effect(n) => {
@@ -192,7 +189,7 @@ fn answer(alloc: Global, disks: &mut Disks, call: Call) -> Result<String, AllocE
 
 #[test]
 fn commands_are_answered_as_the_rules_say(rt: HostRuntime) -> Result<(), Fail> {
-    let mut disks = Disks::new(rt.alloc(), 2, 4)?;
+    let mut disks = Disks::new(rt.alloc(), 2, 4);
     for (call, want) in CALLS {
         let given = answer(rt.alloc(), &mut disks, call)?;
         assert_eq!(rt; given.as_str(), want);

@@ -124,6 +124,12 @@ fn runs(alloc: Global, bytes: &[u8]) -> Result<String, AllocError> {
     Ok(text)
 }
 
+fn page_runs(alloc: Global, page: &PageBytes) -> Result<String, AllocError> {
+    let mut bytes = Vec::new(alloc);
+    page.put(&mut bytes)?;
+    runs(alloc, bytes.as_slice())
+}
+
 fn fate_of(alloc: Global, fate: Fate) -> Result<String, AllocError> {
     match fate {
         Fate::Pending => format!(in alloc; "pending"),
@@ -171,7 +177,7 @@ fn head_of(alloc: Global, head: EntryHead) -> Result<String, AllocError> {
 fn add(alloc: Global, log: &mut FlatLog, call: Call) -> Result<u64, AllocError> {
     match call {
         Call::Write(client, life, file, page, byte) => {
-            let bytes = PageBytes::filled(alloc, byte)?;
+            let bytes = PageBytes::filled(byte);
             log.accept(ClientId(client), Life(life), file, PageNo(page), &bytes)
         }
         Call::Patch(client, life, file, page, at, len, byte) => {
@@ -198,7 +204,7 @@ fn bytes(alloc: Global, log: &FlatLog, index: u64) -> Result<String, AllocError>
     }
     match log.entry(index) {
         EntryHead::Patch { .. } => format!(in alloc; "a patch"),
-        _ => runs(alloc, log.bytes(index, PageNo(0)).as_slice()),
+        _ => page_runs(alloc, log.bytes(index)),
     }
 }
 

@@ -188,9 +188,9 @@ accepts sc c f p bytes =
 unfoldable pub patches : Scene → ClientId → FileId → PageNo → ℕ → List ℕ → Scene
 patches sc c f p at bytes =
     see
-      (with_log (log.patch sc.world.log c (present_life sc.world c f.server) f p at bytes) sc.world)
-      sc
-      (seen.Patched (length sc.world.log + 1) c f p at bytes)
+    (with_log (log.patch sc.world.log c (present_life sc.world c f.server) f p at bytes) sc.world)
+    sc
+    (seen.Patched (length sc.world.log + 1) c f p at bytes)
 
 -- a life that is over
 abbrev pub life_over : ClientId → ServerId → Life → Option Stamp → LeaseLife

@@ -9,9 +9,9 @@ use Rattle.st_messages.specs.declared.event.Counts.{Counts}
 use Rattle.st_schedule.specs.declared.fault.Fault.{Fault}
 use Rattle.st_schedule.specs.Grammar.{MOST_SETTING, grains, counts_of, head_numbers, AreSettings, AreCounts, IsForm, SpellsHead}
 use Rattle.st_schedule.specs.Reading.{setting_at, three_at, form_at, form_of, grain_at, rate_at, config_of, config_at, counts_at, head_at, ends}
-use Rattle.st_schedule.proofs.Inverse.{bind_ok, chosen, Begins, number_found, text_is, place_ok}
-use Rattle.st_schedule.proofs.Found.{choose, ends_is}
-use Rattle.st_schedule.proofs.Places.{number_again}
+use Rattle.st_schedule.proofs.ValuesWereWritten.{bind_ok, chosen, Begins, number_found, text_is, place_ok}
+use Rattle.st_schedule.proofs.EventsWereWritten.{choose, ends_is}
+use Rattle.st_schedule.proofs.ValuesAreRead.{number_again}
 
 ok_same : {A : Type 0} (x y : A) → (let r : Result A Fault = Ok x in let q : Result A Fault = Ok y in r ≡ q) → x ≡ y
 ok_same x y h = cc

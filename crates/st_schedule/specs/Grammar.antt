@@ -38,14 +38,14 @@ file_text server ino = decimal server ++ 58 ∷ decimal ino
 abbrev pub file_name : FileId → List ℕ
 file_name f = file_text f.server.0 f.ino
 
--- the byte of which a write or a patch is
+-- the byte that a write or a patch repeats
 abbrev pub byte_of : List ℕ → ℕ
 byte_of bytes = get_or bytes 0 0
 
 abbrev pub result_text : Bool → List ℕ
 result_text ok = if ok then codes "ok" else codes "fail"
 
--- the beginning is `-`
+-- the empty name, for the beginning of a directory, is written `-`
 abbrev pub after_text : List ℕ → List ℕ
 after_text [] = codes "-"
 after_text (b ∷ bs) = b ∷ bs
@@ -141,7 +141,7 @@ IsPlace f p = IsFile f.server.0 f.ino × (p.0 ≤ MOST_PAGE)
 abbrev pub IsName : List ℕ → Type 0
 IsName name = is_name name ≡ true
 
--- the beginning, or a name other than `-`
+-- the empty name, or a name other than `-`
 abbrev pub IsAfter : List ℕ → Type 0
 IsAfter after = (after ≡ []) ⊎ ((is_name after ≡ true) × (bytes_eq after (codes "-") ≡ false))
 
@@ -180,7 +180,7 @@ IsStep form d = IsWithin (least_step form) MOST_NUMBER d
 abbrev pub AreSteps : ℕ → ℕ → List ℕ → Type 0
 AreSteps form nodes steps = (1 ≤ nodes) × (length steps ≡ nodes) × AllByRecursion (IsStep form) steps
 
--- an event has a line, behind a head of this form and with so many nodes
+-- an event has a line after a head of this form and with this many nodes
 abbrev pub Fits : ℕ → ℕ → Event → Type 0
 Fits form nodes (events.Tick n) = IsNode n
 Fits form nodes (events.App c ask) = IsWithin 1 MOST_NODE c.0 × FitsAsk form ask
@@ -208,14 +208,14 @@ Spells form nodes ws e = Fits form nodes e × ((ws ≡ words e) ⊎ AreFull ws e
 abbrev pub MOST_SETTING : ℕ
 MOST_SETTING = 9223372036854775807
 
--- the grain, which the first form has not
+-- the word of the grain, which only the second form has
 abbrev pub grains : ℕ → ℕ → List ℕ
 grains form grain = if form == 2 then grain ∷ [] else []
 
 abbrev pub counts_of : Counts → List ℕ
 counts_of n = n.clients ∷ n.servers ∷ n.disks ∷ n.blocks ∷ []
 
--- the numbers of a head behind its form
+-- the numbers of a head, which follow its form
 abbrev pub head_numbers : Config → Counts → ℕ → List ℕ
 head_numbers c n form =
     c.lease ∷ c.renew ∷ c.quiesce ∷ c.flush ∷ c.demand ∷ c.retry ∷ c.num ∷ c.den ∷ (grains form c.grain ++ counts_of n)

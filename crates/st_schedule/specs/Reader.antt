@@ -1,5 +1,5 @@
 -- What a reader of lines makes of the next line, and of their end. docs/PROTOCOL.md, "Schedules".
-use Rattle.std.specs.Prelude.{◌≡◌, ◌<◌, ◌≤◌, ℕ, ◌+◌, nat_lt, if◌then◌else◌, List, [], ◌∷◌, codes, Option, Some, None, Result, Ok, Err}
+use Rattle.std.specs.Prelude.{◌≡◌, ◌<◌, ◌≤◌, ℕ, ◌+◌, nat_lt, if◌then◌else◌, List, [], ◌∷◌, codes, length, Option, Some, None, Result, Ok, Err}
 use Rattle.std.specs.Str.{bytes_eq}
 use Rattle.st_base.specs.Config.{check}
 use Rattle.st_base.specs.declared.config.Config.{Config}
@@ -20,7 +20,7 @@ use Rattle.st_schedule.specs.Words.{split, column, is_long}
 use Rattle.st_schedule.specs.Grammar.{Fits, Spells, SpellsHead}
 use Rattle.st_schedule.specs.Reading.{line_event, head_at}
 
--- what a line says, and how far the reader is behind it
+-- what a line says, and what the reader has read after it
 abbrev pub Told : Type 0
 Told = Result (Line × Progress) ScheduleRefusal
 
@@ -50,7 +50,7 @@ head_of_words line (w ∷ ws) = if bytes_eq w (codes "tank") then with_head line
 unfoldable pub first_line : List ℕ → Told
 first_line line = head_of_words line (split line)
 
--- Events, at most so many.
+-- Events, at most 100,000.
 
 abbrev pub MOST_EVENTS : ℕ
 MOST_EVENTS = 100000
@@ -89,35 +89,35 @@ read_end progress.Nothing = Err refusals.NoHead
 read_end (progress.Reading form counts done) = Err refusals.NoEnd
 read_end progress.Ended = Ok tt
 
--- What a call answered, and how far the reader was before and after it, is what reading tells; without memory and at
--- each refusal it is where it was.
+-- A call returned what reading gives, and moved the reader from old to new; where memory ran out, and at each refusal, the
+-- reader is where it was.
 abbrev pub Answers : Progress → Progress → Result Line ScheduleRefusal → Told → Type 0
 Answers old new (Ok line) read = read ≡ Ok (line, new)
 Answers old new (Err refusals.Memory) read = new ≡ old
 Answers old new (Err f) read = (read ≡ Err f) × (new ≡ old)
 
--- the same, of a line and what follows it
+-- a call returned what reading gives, a line with the reader's next state, unless memory ran out
 abbrev pub IsTold : Result (Line × Progress) ScheduleRefusal → Told → Type 0
 IsTold (Ok x) read = read ≡ Ok x
 IsTold (Err refusals.Memory) read = Unit {0}
 IsTold (Err f) read = read ≡ Err f
 
--- a fault's refusal, or want of memory
+-- the refusal of a fault, or that memory ran out
 abbrev pub Tells : List ℕ → ReadError → ScheduleRefusal → Type 0
 Tells line errors.Memory f = f ≡ refusals.Memory
 Tells line (errors.Fault e) f = f ≡ told line e
 
--- a world has 20 nodes at most
+-- a world has at most 20 nodes
 abbrev pub MOST_NODES : ℕ
 MOST_NODES = 20
 
--- every reader that is behind a head of this form and with these counts, and may read another event, reads this event
--- in this line
+-- every reader that has read a head of this form and with these counts, and may read another event, reads this event in this
+-- line
 abbrev pub IsReadBehind : ℕ → Counts → List ℕ → Event → Type 0
 IsReadBehind form counts line e =
     (done : ℕ) → done < MOST_EVENTS → read_line (progress.Reading form counts done) line ≡ Ok (lines.Event e, progress.Reading form counts (done + 1))
 
--- the line is read as this event behind every head with which the event has a line
+-- the line is read as this event after every head with which the event has a line
 abbrev pub IsReadAs : List ℕ → Event → Type 0
 IsReadAs line e =
     (form : ℕ) (counts : Counts) → nodes_of counts ≤ MOST_NODES → Fits form (nodes_of counts) e → IsReadBehind form counts line e
@@ -129,20 +129,31 @@ SpellsLine (progress.Reading form counts done) line (lines.Event e) = Spells for
 SpellsLine (progress.Reading form counts done) line lines.End = split line ≡ codes "end" ∷ []
 SpellsLine p line l = ⊥
 
--- where a head was read, it has a node, as each head has
+-- a head that was read has at least one node
 abbrev pub HasNodes : Progress → Type 0
 HasNodes (progress.Reading form counts done) = 1 ≤ nodes_of counts
 HasNodes p = Unit {0}
 
--- an event may follow
+-- another event may follow: fewer than 100,000 were read
 abbrev pub HasRoom : Progress → Line → Type 0
 HasRoom (progress.Reading form counts done) (lines.Event e) = done < MOST_EVENTS
 HasRoom p l = Unit {0}
 
--- how far the reader is behind what a line says
+-- what the reader has read after this line
 abbrev pub after_line : Progress → Line → Progress
 after_line p (lines.Head c n form) = progress.Reading form n 0
 after_line progress.Nothing (lines.Event e) = progress.Nothing
 after_line (progress.Reading form counts done) (lines.Event e) = progress.Reading form counts (done + 1)
 after_line progress.Ended (lines.Event e) = progress.Ended
 after_line p lines.End = progress.Ended
+
+-- a line of at most 256 bytes that spells this in its place is read as this, where another event may follow
+abbrev pub IsReadWhereSpelled : Progress → List ℕ → Line → Type 0
+IsReadWhereSpelled p line said =
+    SpellsLine p line said → length line ≤ 256 → HasRoom p said → read_line p line ≡ Ok (said, after_line p said)
+
+-- a call read what the line spells in its place, where another event may follow, unless memory ran out
+abbrev pub ReadsWhatIsSpelled : Progress → Progress → List ℕ → Result Line ScheduleRefusal → Type 0
+ReadsWhatIsSpelled old new line result =
+    (said : Line) → SpellsLine old line said → length line ≤ 256 → HasRoom old said →
+    Answers old new result (Ok (said, after_line old said))

@@ -31,7 +31,7 @@ abbrev pub ◌>>=◌ : {A B : Type 0} → Result A Fault → (A → Result B Fau
 (Ok x) >>= f = f x
 (Err e) >>= f = Err e
 
--- what a function returned, seen by view, is what reading gives, unless memory ran out
+-- a function returned what reading gives, by this view of its value, unless memory ran out
 abbrev pub Fails : {Y : Type 0} → ReadError → Result Y Fault → Type 0
 Fails errors.Memory read = Unit {0}
 Fails (errors.Fault f) read = read ≡ Err f
@@ -96,7 +96,7 @@ name_in w = if is_name w then Some w else None
 unfoldable pub name_at : List (List ℕ) → Read (List ℕ)
 name_at ws = place name_in ws
 
--- a name, or `-` for the beginning
+-- a name, or `-`, which stands for the empty name at the beginning of a directory
 abbrev pub after_of : List ℕ → List ℕ
 after_of w = if bytes_eq w (codes "-") then [] else w
 
@@ -112,7 +112,7 @@ result_of w = if bytes_eq w (codes "ok") then Some true else if bytes_eq w (code
 unfoldable pub result_at : List (List ℕ) → Read Bool
 result_at ws = place result_of ws
 
--- no word is too much
+-- no superfluous word stands at the end of the line
 unfoldable pub ends : List (List ℕ) → Result Unit Fault
 ends [] = Ok tt
 ends (w ∷ ws) = syntax_at (w ∷ ws)
@@ -194,7 +194,7 @@ cut_at ws = do
   at ← place_at ws
   Ok (asks.Cut at.0.0 at.0.1, at.1)
 
--- a place in a page, and how many bytes from there on, within the page
+-- a place in a page, and a number of bytes from there on, all within the page
 unfoldable pub range_at : List (List ℕ) → Read (ℕ × ℕ)
 range_at ws = do
   at ← number_at 0 4095 ws
@@ -274,7 +274,7 @@ app_at form ws = do
 
 -- Advances.
 
--- so many increments
+-- this many increments, each at least `least`
 unfoldable pub steps_at : ℕ → ℕ → List (List ℕ) → Read (List ℕ)
 steps_at least zero ws = Ok ([], ws)
 steps_at least (suc n) ws = do
@@ -282,7 +282,7 @@ steps_at least (suc n) ws = do
   others ← steps_at least n d.1
   Ok (d.0 ∷ others.0, others.1)
 
--- one increment alone is that of all nodes; more words are one for each node
+-- a line with one increment gives it to every node; a line with more words has one increment for each node
 unfoldable pub steps_of : ℕ → ℕ → ℕ → List (List ℕ) → List (List ℕ) → Read (List ℕ)
 steps_of least nodes d ws [] = Ok (replicate nodes d, [])
 steps_of least nodes d ws (w ∷ rest) = steps_at least nodes ws
@@ -410,7 +410,7 @@ form_of w = if bytes_eq w (codes "1") then Some 1 else if bytes_eq w (codes "2")
 unfoldable pub form_at : List (List ℕ) → Read ℕ
 form_at ws = place form_of ws
 
--- the grain, which the first form has not
+-- the grain, a word of the second form; it is 0 under the first form
 unfoldable pub grain_at : ℕ → List (List ℕ) → Read ℕ
 grain_at form ws = if form == 2 then setting_at ws else Ok (0, ws)
 

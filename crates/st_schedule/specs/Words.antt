@@ -1,5 +1,4 @@
--- The words of a line, how many bytes of it stand from a word on, and what a word says as a number, a node, a file or
--- a name. docs/PROTOCOL.md, "Schedules".
+-- The words of a line, the columns of words, and the value of a word as a number, a node, a file or a name. docs/PROTOCOL.md, "Schedules".
 use Rattle.std.specs.Prelude.{ℕ, ◌+◌, ◌-◌, ◌*◌, ◌==◌, ◌&&◌, nat_le, nat_lt, if◌then◌else◌, Bool, false, List, [], ◌∷◌, ◌++◌, length, take, drop, position, Option, Some, None}
 use Rattle.std.specs.List.{list_all}
 use Rattle.std.specs.Option.{option_map, option_and_then}
@@ -10,7 +9,7 @@ use Rattle.st_base.specs.declared.ids.NodeId.TheVariants as nodes
 
 -- Words.
 
--- a byte before the first of these words
+-- these words with a byte put before the first one
 abbrev pub onto : ℕ → List (List ℕ) → List (List ℕ)
 onto b [] = (b ∷ []) ∷ []
 onto b (w ∷ ws) = (b ∷ w) ∷ ws
@@ -21,7 +20,7 @@ abbrev pub split : List ℕ → List (List ℕ)
 split [] = [] ∷ []
 split (b ∷ bs) = if b == 32 then [] ∷ split bs else onto b (split bs)
 
--- the words of what follows a word: nothing, or a space and what it goes before
+-- the words of the bytes that follow a word: none, or those after the space
 abbrev pub words_behind : List ℕ → List (List ℕ)
 words_behind [] = []
 words_behind (space ∷ bs) = split bs
@@ -36,21 +35,21 @@ abbrev pub line_of : List (List ℕ) → List ℕ
 line_of [] = []
 line_of (w ∷ ws) = w ++ spaced ws
 
--- how many bytes these words take, each with a space before it
+-- the number of bytes of these words, each with a space before it
 abbrev pub room : List (List ℕ) → ℕ
 room [] = 0
 room (w ∷ ws) = length w + room ws + 1
 
--- how many bytes of the line stand from the first of these words on: none where there is none
+-- the number of bytes from the first of these words to the end of the line; 0 where there is no word
 abbrev pub left : List (List ℕ) → ℕ
 left ws = room ws - 1
 
--- the column, from 1, of the place from which on so many bytes of the line stand: a missing word's is the line's
--- length and one more
+-- the column, counted from 1, of the word that begins this many bytes before the end of the line; the column of a missing
+-- word is the length of the line plus 1
 abbrev pub column : List ℕ → ℕ → ℕ
 column line rest = length line + 1 - rest
 
--- no line is longer than this
+-- the most bytes of a line
 abbrev pub LONGEST_LINE : ℕ
 LONGEST_LINE = 256
 

@@ -5,11 +5,11 @@ use st_base::ConfigRefusal;
 use std::alloc::{AllocError, AllocFailed};
 use thiserror::Error;
 
-/// Why a line, or the end of the lines, is refused. Columns count the bytes of a line from 1; a missing word's is the
-/// line's length and one more.
+/// Why a line, or the end of the lines, is refused. Columns count the bytes of a line from 1; the column of a missing word is
+/// the length of the line plus 1.
 #[derive(Debug, Drop, Error)]
 pub enum ScheduleRefusal {
-    #[error("a word is wrong, missing or too much at column {0}")]
+    #[error("a word is wrong, missing or superfluous at column {0}")]
     Syntax(u64),
     #[error("the line is longer than 256 bytes")]
     LineTooLong,
@@ -29,7 +29,7 @@ pub enum ScheduleRefusal {
     Memory,
 }
 
-/// What is wrong with a word, with the number of bytes of the line that stand from it on.
+/// What is wrong with a word, with the number of bytes from its first byte to the end of the line.
 #[derive(Clone, Copy, Debug, PartialEq, Eq)]
 pub enum Fault {
     Syntax(usize),

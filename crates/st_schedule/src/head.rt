@@ -4,10 +4,11 @@ ghost use Rattle.st_schedule.specs.Reading.{Gives};
 ghost use Rattle.st_schedule.specs.Reading as reading;
 
 use crate::fault::ReadError;
-use crate::place::{ends, form_at, number_at};
+use crate::next_word::{ends, form_at, number_at};
 use st_base::Config;
 use st_messages::Counts;
 
+/// The greatest value of a setting, 2^63 - 1.
 const MOST_SETTING: u64 = 9_223_372_036_854_775_807;
 
 fn setting_at(rest: &[u8]) -> Result<(u64, &[u8]), ReadError>
@@ -26,7 +27,7 @@ fn three_at(rest: &[u8]) -> Result<((u64, u64, u64), &[u8]), ReadError>
     Ok(((first, second, third), rest))
 }
 
-/// The grain, which the first form has not.
+/// The grain: a word of the second form, and 0 under the first form, which has no such word.
 #[tactic(auto, unfolding(crate::specs::Reading::grain_at))]
 fn grain_at(form: u8, rest: &[u8]) -> Result<(u64, &[u8]), ReadError>
     ensures { Gives (λ x. (x.0, words_behind x.1.now)) result (reading.grain_at form (words_behind rest.now)) }
@@ -86,7 +87,7 @@ fn counts_at(rest: &[u8]) -> Result<(Counts, &[u8]), ReadError>
     Ok((counts, rest))
 }
 
-/// What a head says behind its first word.
+/// The settings, the counts and the form of a head, read from the words after `tank`.
 #[tactic(auto, unfolding(crate::specs::Reading::head_at))]
 pub(crate) fn head_at(rest: &[u8]) -> Result<(Config, Counts, u8), ReadError>
     ensures { Gives (λ x. x) result (reading.head_at (words_behind rest.now)) }

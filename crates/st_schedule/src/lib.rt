@@ -1,16 +1,16 @@
 //! The text of a schedule: its lines are read with exact refusals, and events are printed back.
 #![tactic(auto)]
 
-mod asking;
+mod ask_line;
+mod event_line;
 mod fault;
-mod happening;
 mod head;
 mod law;
-mod place;
+mod next_word;
 mod printing;
 mod reader;
 mod verb;
-mod word;
+mod word_values;
 
 pub use fault::ScheduleRefusal;
 pub use law::{

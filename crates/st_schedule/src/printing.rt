@@ -4,11 +4,11 @@ ghost use Rattle.st_schedule.specs.Words.{line_of, spaced};
 ghost use Rattle.st_schedule.specs.Grammar as grammar;
 ghost use Rattle.st_schedule.specs.Reader.{IsReadAs};
 
-use st_base::{ClientId, FileId, NameAsk, NodeId, PageNo, ServerId};
+use st_base::{ClientId, FileId, NameAsk, NodeId, PageBytes, PageNo, ServerId};
 use st_messages::{Ask, Event};
 use std::alloc::{AllocError, Global};
 
-/// A word behind others.
+/// Appends a space and a word.
 fn put_word(out: &mut Vec<u8>, word: &[u8]) -> Result<(), AllocError>
     ensures { OnOk result (out.new.items ≡ out.old.items ++ 32 ∷ word.now) }
 {
@@ -62,7 +62,7 @@ fn put_place(out: &mut Vec<u8>, file: FileId, page: PageNo) -> Result<(), AllocE
     put_number(out, u64::from(page.0))
 }
 
-/// The first of these bytes.
+/// The first of these bytes, or 0 where there is none.
 fn byte_of(bytes: &[u8]) -> u8
     ensures { result ≡ grammar.byte_of bytes.now }
 {
@@ -70,6 +70,14 @@ fn byte_of(bytes: &[u8]) -> u8
         [] => 0,
         [b, ..] => *b,
     }
+}
+
+/// The first byte of a page.
+fn page_byte(bytes: &PageBytes) -> u8
+    ensures { result ≡ grammar.byte_of bytes.now }
+{
+    let _len = bytes.len();
+    *bytes.get(0)
 }
 
 fn put_after(out: &mut Vec<u8>, after: &[u8]) -> Result<(), AllocError>
@@ -81,7 +89,7 @@ fn put_after(out: &mut Vec<u8>, after: &[u8]) -> Result<(), AllocError>
     }
 }
 
-/// A word and an entry of a directory.
+/// Appends a verb, a directory and the name of an entry in it.
 fn put_entry(
     out: &mut Vec<u8>,
     verb: &[u8],
@@ -134,7 +142,7 @@ fn put_ask(out: &mut Vec<u8>, ask: &Ask) -> Result<(), AllocError>
         Ask::Write(file, page, bytes) => {
             put_word(out, b"write")?;
             put_place(out, *file, *page)?;
-            put_number(out, u64::from(byte_of(bytes.as_slice())))
+            put_number(out, u64::from(page_byte(bytes)))
         }
         Ask::Read(file, page) => {
             put_word(out, b"read")?;
@@ -184,7 +192,7 @@ fn put_all(out: &mut Vec<u8>, steps: &[u64]) -> Result<(), AllocError>
     Ok(())
 }
 
-/// The increments, or one where all are equal.
+/// Appends the increments, or one where all are equal.
 fn put_steps(out: &mut Vec<u8>, steps: &[u64]) -> Result<(), AllocError>
     ensures { OnOk result (out.new.items ≡ out.old.items ++ spaced (grammar.steps_words steps.now)) }
 {
@@ -230,7 +238,7 @@ fn verb(event: &Event) -> &'static [u8]
     }
 }
 
-/// What stands behind the first word.
+/// Appends the words after the first one.
 #[tactic(auto, unfolding(crate::specs::Grammar::words_after))]
 fn put_rest(out: &mut Vec<u8>, event: &Event) -> Result<(), AllocError>
     ensures { OnOk result (out.new.items ≡ out.old.items ++ spaced (grammar.words_after event.now)) }
@@ -251,9 +259,9 @@ fn put_rest(out: &mut Vec<u8>, event: &Event) -> Result<(), AllocError>
     }
 }
 
-/// The line that spells this event; an advance whose increments are all equal has the short one. Of a write and a patch
-/// the first byte is told, so an event that no line spells has no line.
-#[tactic(auto, using(crate::proofs::Back::read_as))]
+/// The line that spells this event; an advance whose increments are all equal gets the short line. A write or a patch is
+/// printed by its first byte, so the line of a page that is not one byte repeated does not spell it.
+#[tactic(auto, using(crate::proofs::PrintedLines::read_as))]
 pub fn print(alloc: Global, event: &Event) -> Result<Vec<u8>, AllocError>
     ensures words { IfOk result (λ line. line.items ≡ line_of (grammar.words event.now)) }
     // Behind every head with which the event has a line, it is read back as the same event.

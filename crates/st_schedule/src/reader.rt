@@ -1,14 +1,14 @@
 ghost use Rattle.std.specs.Prelude.{◌≡◌, ◌≤◌, IfOk, Ok, length};
-ghost use Rattle.st_base.specs.Config as rules;
+ghost use Rattle.st_base.specs.Config.{check};
 ghost use Rattle.st_schedule.specs.declared.reader.Line.{Line};
 ghost use Rattle.st_schedule.specs.Words as words;
 ghost use Rattle.st_schedule.specs.Reader.{Answers, IsTold, Tells};
 ghost use Rattle.st_schedule.specs.Reader as reader;
 
+use crate::event_line::line_event;
 use crate::fault::{Fault, ReadError, ScheduleRefusal};
-use crate::happening::line_event;
 use crate::head::head_at;
-use crate::word::{is, is_long, split_word};
+use crate::word_values::{is, is_long, split_word};
 use st_base::Config;
 use st_messages::{Counts, Event};
 use std::alloc::Global;
@@ -17,18 +17,18 @@ use std::marker::Model;
 /// What a line says.
 #[derive(Drop)]
 pub enum Line {
-    /// The settings, how many there are of what, and the form of the head, 1 or 2.
+    /// The settings, the counts of clients, servers, disks and blocks, and the form of the head, 1 or 2.
     Head(Config, Counts, u8),
     Event(Event),
     End,
 }
 
-/// How far a reader is.
+/// What a reader has read so far.
 #[derive(Clone, Copy, Debug, PartialEq, Eq)]
 pub enum Progress {
     /// No line was read.
     Nothing,
-    /// A head of this form and with these counts was read, and behind it so many events.
+    /// A head of this form and with these counts was read, and `events` events after it.
     Reading {
         form: u8,
         counts: Counts,
@@ -38,9 +38,10 @@ pub enum Progress {
     Ended,
 }
 
+/// The most events of a schedule.
 const MOST_EVENTS: u32 = 100_000;
 
-/// Reads the lines of a schedule, one after the other. Contracts see it as its progress.
+/// Reads the lines of a schedule one after another. Contracts see it as its progress.
 #[derive(Drop)]
 pub struct ScheduleReader {
     progress: Progress,
@@ -55,7 +56,7 @@ impl Model for ScheduleReader {
     ghost view = { λ r. r.progress };
 }
 
-/// The column of the place from which on so many bytes of the line stand.
+/// The column, counted from 1, of the word that begins `rest` bytes before the end of the line.
 fn column(line: &[u8], rest: usize) -> u64
     requires { length line.now ≤ 256 }
     ensures { result ≡ words.column line.now rest }
@@ -75,7 +76,7 @@ fn refused(line: &[u8], error: ReadError) -> ScheduleRefusal
 }
 
 fn checked(config: Config, counts: Counts, form: u8) -> Result<(Line, Progress), ScheduleRefusal>
-    ensures { result ≡ reader.checked (config, counts, form) (rules.check config) }
+    ensures { result ≡ reader.checked (config, counts, form) (check config) }
 {
     match config.check() {
         Ok(()) => {
@@ -177,6 +178,7 @@ fn read_line(
 }
 
 impl ScheduleReader {
+    /// A reader that has read nothing yet.
     pub fn new(alloc: Global) -> ScheduleReader
         ensures { result ≡ Progress.Nothing }
     {
@@ -198,19 +200,20 @@ impl ScheduleReader {
         }
     }
 
-    /// Reads the next line, which has no newline in it. After a refusal the reader is as it was.
+    /// Reads the next line, given without its newline. A refusal leaves the reader as it was, and so does running out of
+    /// memory.
     pub fn line(&mut self, bytes: &[u8]) -> Result<Line, ScheduleRefusal>
-        // Which line or refusal it is, and how far the reader is then.
+        // The line or the refusal, and what the reader has read then.
         ensures exact { Answers self.old self.new result (reader.read_line self.old bytes.now) }
-        // What is read is spelled in this place.
+        // A line that is read is spelled by these bytes in this place.
         ensures spelled { reader.HasNodes self.old → IfOk result (λ said. reader.SpellsLine self.old bytes.now said) }
-        // What is spelled in this place is read, unless memory runs out.
-        ensures reads { (said : Line) → reader.SpellsLine self.old bytes.now said → length bytes.now ≤ 256 → reader.HasRoom self.old said → Answers self.old self.new result (Ok (said, reader.after_line self.old said)) }
+        // A line that these bytes spell in this place is read, unless memory runs out.
+        ensures reads { reader.ReadsWhatIsSpelled self.old self.new bytes.now result }
     {
         self.step(bytes)
     }
 
-    /// Whether the lines may end here.
+    /// Whether the lines may end here: after the line `end`, and nowhere else.
     pub fn finish(&self) -> Result<(), ScheduleRefusal>
         ensures { result ≡ reader.read_end self.now }
     {

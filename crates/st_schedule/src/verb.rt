@@ -1,9 +1,9 @@
 ghost use Rattle.std.specs.Prelude.{◌≡◌};
 ghost use Rattle.st_schedule.specs.Reading as reading;
 
-use crate::word::is;
+use crate::word_values::is;
 
-/// The first word of a line behind the head.
+/// The first word of a line after the head.
 #[derive(Clone, Copy, Debug, PartialEq, Eq)]
 pub enum Verb {
     Adv,
@@ -111,7 +111,7 @@ fn patch_or_name(form: u8, word: &[u8]) -> Option<AskVerb>
     }
 }
 
-/// What is asked; a patch only under the second form.
+/// The ask that a word names; a patch only under the second form.
 pub(crate) fn ask_verb_of(form: u8, word: &[u8]) -> Option<AskVerb>
     ensures { result ≡ reading.ask_verb_of form word.now }
 {

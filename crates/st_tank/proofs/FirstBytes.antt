@@ -24,9 +24,9 @@ use Rattle.st_schedule.specs.Reading.{line_event, head_at}
 use Rattle.st_schedule.specs.Reader as head
 use Rattle.st_schedule.specs.Reader.{Told, started, checked, head_of_words, first_line, counted, with_line, nodes_of, later_line, short_line, read_line, MOST_EVENTS, SpellsLine}
 use Rattle.st_schedule.proofs.Words.{room-split}
-use Rattle.st_schedule.proofs.Inverse.{chosen}
-use Rattle.st_schedule.proofs.Found.{end_is_spelled}
-use Rattle.st_schedule.proofs.Whole.{line_is_spelled}
+use Rattle.st_schedule.proofs.ValuesWereWritten.{chosen}
+use Rattle.st_schedule.proofs.EventsWereWritten.{end_is_spelled}
+use Rattle.st_schedule.proofs.LinesAsSpelled.{line_is_spelled}
 use Rattle.st_world.specs.World.{fresh_world}
 use Rattle.st_tank.specs.Schedule.{onto, lines_of, Stopped, Schedule, stop, before, with_told, schedule_of}
 use Rattle.st_tank.specs.Replay.{behind_text, refused, not_built, line_refusal, report_from, is_path_head, with_head, from_head, report_of}
@@ -85,7 +85,7 @@ lines_of-take (suc n) (b ∷ bs) = cut-step b n (lines_of (take n bs)) (lines_of
 
 -- What lines that are read may take.
 
--- so many bytes of what follows say how a reader that is so far goes on: the head and its newline, the events, the line
+-- this number of the bytes that follow says how a reader that is so far goes on: the head and its newline, the events, the line
 -- `end`, and one line more
 abbrev pub needs : Progress → ℕ
 needs progress.Nothing = 25700515
@@ -136,7 +136,7 @@ later_takes : (form : ℕ) (counts : Counts) (done : ℕ) (l : List ℕ) (y : Li
 unfolding later_line
 later_takes form counts done l y short h = line_takes form counts done l (line_event form (nodes_of counts) (split l)) y short refl h
 
--- a head is short: its numbers have at most so many digits
+-- a head is short: the digits of its numbers are bounded
 setting_length : (n : ℕ) → n ≤ MOST_SETTING → length (decimal n) ≤ 19
 setting_length n h = length-decimal-le 19 n (omega arith) (omega arith) (omega arith)
 
@@ -264,6 +264,6 @@ from_head-cut n (l ∷ ls) enough = elim (cases_lt (length l) n) [
       ∙ one_head (take n l) (omega (arith, length-take-le n l h)) ∙ sym (long_head l ls (omega arith))
 ]
 
--- so many bytes hold a head, all the events, the line `end` and one line more, or else one that is refused
+-- this number of bytes holds a head, all the events, the line `end` and one line more, or else one that is refused
 pub long_enough : (bytes : List ℕ) → report_of (take 25700515 bytes) ≡ report_of bytes
 long_enough bytes = ap from_head (lines_of-take 25700515 bytes) ∙ from_head-cut 25700515 (lines_of bytes) (omega arith)

@@ -1,5 +1,6 @@
+mod FilledRuns
 pub mod Newlines
 pub mod FirstBytes
-pub mod Wholes
-pub mod Ends
-pub mod Turns
+pub mod WholeSchedules
+pub mod ReadAndWritten
+pub mod RefusedLine

@@ -1,5 +1,5 @@
 -- The report of a schedule's bytes: the text of the run of its events, and a last line. docs/PROTOCOL.md, "Report lines".
-use Rattle.std.specs.Prelude.{◌≡◌, ℕ, ◌+◌, ◌==◌, ◌&&◌, if◌then◌else◌, Bool, true, false, List, [], ◌∷◌, ◌++◌, length, codes, Option, Some, None, Ok, Err}
+use Rattle.std.specs.Prelude.{◌≡◌, ℕ, ◌+◌, ◌==◌, ◌&&◌, if◌then◌else◌, Bool, true, false, List, [], ◌∷◌, ◌++◌, length, codes, Option, Some, None, Result, Ok, Err, IfOk}
 use Rattle.st_base.specs.declared.config.Config.{Config}
 use Rattle.st_base.specs.declared.config.ConfigRefusal.{ConfigRefusal}
 use Rattle.st_base.specs.declared.config.ConfigRefusal.TheVariants.{Order, Rate, TooLong, Demand, Grain}
@@ -12,7 +12,7 @@ use Rattle.st_schedule.specs.declared.reader.Line.TheVariants as said
 use Rattle.st_schedule.specs.declared.reader.Progress.{Progress}
 use Rattle.st_schedule.specs.declared.reader.Progress.TheVariants.{Nothing}
 use Rattle.st_schedule.specs.Reader.{Told, read_line}
-use Rattle.st_world.specs.declared.rows.Observation.{Observation}
+use Rattle.st_world.specs.declared.machine_types.Observation.{Observation}
 use Rattle.st_world.specs.declared.fault.WorldRefusal.{WorldRefusal}
 use Rattle.st_world.specs.declared.fault.WorldRefusal.TheVariants.{NoMessage, NotBuilt}
 use Rattle.st_world.specs.World.{World, fresh_world}
@@ -42,7 +42,7 @@ config_refusal TooLong = codes " Config TooLong"
 config_refusal Demand = codes " Config Demand"
 config_refusal Grain = codes " Config Grain"
 
--- why a line, or the end of the lines, was refused; no line is refused for want of memory
+-- why a line, or the end of the lines, was refused; no line is refused because memory ran out
 abbrev pub line_refusal : ScheduleRefusal → List ℕ
 line_refusal (refusals.Syntax column) = codes " Syntax" ++ field column
 line_refusal refusals.LineTooLong = codes " LineTooLong 256"
@@ -74,17 +74,17 @@ read_text w = codes " reads" ++ field w.reads ++ codes " hard 0 gone 0 stolen 0\
 abbrev pub ended : ℕ → World → Report
 ended events w = record { text = sent_text events w ++ written_text w ++ read_text w; whole = true }
 
--- the last line after so many events
+-- the last line after this many events
 abbrev pub last_line : ℕ → World → Ending → Report
 last_line done w Whole = ended done w
 last_line done w (Stopped line f) = refused line (line_refusal f)
 
--- events stand in the lines from the second on
+-- the same, where an event was refused: event number n stands in line n + 1
 abbrev pub closed : ℕ → World → Ending → Option WorldRefusal → Report
 closed done w ending None = last_line done w ending
 closed done w ending (Some f) = refused (done + 2) (event_refusal f)
 
--- the text of a run's observations behind so many events, and the last line
+-- the text of a run's observations after this many events, and the last line
 abbrev pub told : ℕ → World → Ending → Option WorldRefusal → List (List Observation) → Report
 told done w ending r [] = closed done w ending r
 told done w ending r (os ∷ rest) = behind_text (lines (done + 1) os) (told (done + 1) w ending r rest)
@@ -92,11 +92,11 @@ told done w ending r (os ∷ rest) = behind_text (lines (done + 1) os) (told (do
 abbrev pub report_run : ℕ → Ending → Run → Report
 report_run done ending r = told done r.world ending r.refused r.seen
 
--- the report of a schedule behind so many events
+-- the report of the rest of a schedule after this many events
 abbrev pub report_from : ℕ → World → Schedule → Report
 report_from done w s = report_run done s.ending (run s.events w)
 
--- The head that has a world, that of the first path.
+-- The one head that the program runs, that of the first path.
 
 abbrev pub has_path_times : Config → Bool
 has_path_times c = (c.lease == 1000) && ((c.renew == 500) && ((c.quiesce == 700) && (c.flush == 850)))
@@ -111,11 +111,11 @@ abbrev pub is_path_head : Line → Bool
 is_path_head (said.Head c n form) = (form == 1) && (has_path_times c && (has_path_rates c && has_path_counts n))
 is_path_head l = false
 
--- the report of these lines for a reader that is behind the head
+-- the report of these lines for a reader that has read the head
 abbrev pub report_events : Progress → List (List ℕ) → Report
 report_events p ls = behind_text (codes "tank report 1\n") (report_from 0 fresh_world (schedule_of ls 2 p))
 
--- what was read of line 1, and the lines behind it
+-- the report of what was read of line 1 and of the lines after it
 abbrev pub with_head : List (List ℕ) → Told → Report
 with_head ls (Err f) = refused 1 (line_refusal f)
 with_head ls (Ok read) = if is_path_head read.0 then report_events read.1 ls else refused 1 not_built
@@ -128,24 +128,32 @@ from_head (l ∷ ls) = with_head ls (read_line Nothing l)
 abbrev pub report_of : List ℕ → Report
 report_of bytes = from_head (lines_of bytes)
 
--- A text that grew from old to new, and the world after it, begin the report of an event and what follows it: whatever
--- follows goes on from them behind so many events, or it ends with them.
+-- A text that grew from old to new, and the world after it, begin the report of an event and of whatever follows it: the rest
+-- is reported after `next` events, or the report ends here.
 abbrev pub Begins : Option ℕ → List ℕ → List ℕ → ℕ → World → World → Event → Type 0
 Begins (Some next) old new done w v e = (rest : Schedule) →
     behind_text new (report_from next v rest) ≡ behind_text old (report_from done w (begin e rest))
 Begins None old new done w v e = (rest : Schedule) →
     record { text = new; whole = false } ≡ behind_text old (report_from done w (begin e rest))
 
--- the same of what was read of the line with this number, and a reader that is so far behind it
+-- the same of what was read of the line with this number, with the reader after it
 abbrev pub BeginsLine : Option ℕ → List ℕ → List ℕ → ℕ → ℕ → World → World → Progress → Told → Type 0
 BeginsLine (Some next) old new line done w v q read = (ls : List (List ℕ)) →
     behind_text new (report_from next v (schedule_of ls (line + 1) q)) ≡ behind_text old (report_from done w (with_told line (schedule_of ls (line + 1)) read))
 BeginsLine None old new line done w v q read = (ls : List (List ℕ)) →
     record { text = new; whole = false } ≡ behind_text old (report_from done w (with_told line (schedule_of ls (line + 1)) read))
 
--- a text that grew from old to new, and whether it ended well, are this report
+-- the text that was appended, and whether the schedule ran through its end, are this report
 abbrev pub Adds : List ℕ → List ℕ → Bool → Report → Type 0
 Adds old new whole report = record { text = new; whole = whole } ≡ behind_text old report
+
+-- a call that returned appended this report, and whether the schedule ran through its end is its value
+abbrev pub Puts : {E : Type 0} → Result Bool E → List ℕ → List ℕ → Report → Type 0
+Puts result old new report = IfOk result (λ whole. Adds old new whole report)
+
+-- a call that returned read a line, moved the reader from p to q, and began its report
+abbrev pub PutsLine : {E : Type 0} → Result (Option ℕ) E → List ℕ → List ℕ → ℕ → ℕ → World → World → Progress → Progress → List ℕ → Type 0
+PutsLine result old new line done w v p q bytes = IfOk result (λ next. BeginsLine next old new line done w v q (read_line p bytes))
 
 -- the status of a report that was written
 abbrev pub status_of : Bool → ℕ

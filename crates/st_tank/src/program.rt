@@ -1,4 +1,4 @@
-ghost use Rattle.std.specs.Prelude.{◌≡◌, ◌≤◌, ◌⊎◌, false, IfSome, IsTrue, map, string_bytes};
+ghost use Rattle.std.specs.Prelude.{◌≡◌, ◌≤◌, ◌⊎◌, false, IfSome, IsTrue};
 ghost use Rattle.std.specs.Io.KnownBytes.{Appends, IsAtEnd};
 ghost use Rattle.st_link.specs.Causes.{Rose};
 ghost use Rattle.st_link.specs.Prefixes.{AppendsPrefix};
@@ -12,7 +12,7 @@ use st_link::{ReadFault, Sink, Source, put_all, read_up_to};
 use st_world::reads_return_last_writes;
 use std::alloc::Global;
 
-/// The first bytes of a schedule that say all of its report, however long it is.
+/// The most bytes of a schedule that are read: they determine its whole report, however long the schedule is.
 const ENOUGH: usize = 25_700_515;
 
 const REPLAY: &[u8] = b"replay";
@@ -21,7 +21,7 @@ const USAGE: &[u8] =
     b"usage: tank replay | generate N SEED | work N SEED | node server|client ID NAME\n";
 
 fn are_right(words: &[String]) -> bool
-    ensures { result ≡ words_of.are_right (map string_bytes words.now) }
+    ensures { result ≡ words_of.right words.now }
 {
     match words {
         [word] => word.as_bytes() == REPLAY,
@@ -35,7 +35,8 @@ fn status(whole: bool) -> u8
     if whole { 0 } else { 1 }
 }
 
-/// Reads the schedule and writes its report: 0 or 1, 3 for a failed read, 4 for a failed write, 5 for want of memory.
+/// Reads the schedule and writes its report. Returns 0 or 1, 3 for a failed read, 4 for a failed write, and 5 where memory
+/// ran out.
 fn replay<I: Source, O: Sink>(alloc: Global, input: &mut I, out: &mut O) -> u8
     ensures report { result ≤ 1 → IfSome (I.left input.old) (λ bytes.
         (result ≡ status_of (report_of bytes).whole) × Appends (O.written out.old) (O.written out.new) (report_of bytes).text) }
@@ -61,7 +62,7 @@ fn replay<I: Source, O: Sink>(alloc: Global, input: &mut I, out: &mut O) -> u8
     }
 }
 
-/// Tells the error sink a text, and whether all of it was written.
+/// Writes a text to the error sink, and returns whether all of it was written.
 fn tell<E: Sink>(err: &mut E, text: &[u8]) -> bool
     ensures prefix { AppendsPrefix (E.written err.old) (E.written err.new) text.now }
     ensures all { IsTrue result → Appends (E.written err.old) (E.written err.new) text.now }
@@ -74,7 +75,7 @@ fn tell<E: Sink>(err: &mut E, text: &[u8]) -> bool
     }
 }
 
-/// Tells the error sink that the words are wrong: 2, or 4 where that fails.
+/// Writes the usage to the error sink. Returns 2, or 4 where that write fails.
 #[tactic(auto, unfolding(crate::specs::Words::USAGE))]
 fn usage<E: Sink>(err: &mut E) -> u8
     ensures prefix { AppendsPrefix (E.written err.old) (E.written err.new) words_of.USAGE }
@@ -84,7 +85,7 @@ fn usage<E: Sink>(err: &mut E) -> u8
     if tell(err, USAGE) { 2 } else { 4 }
 }
 
-/// Tells the error sink why a replay failed, if it did.
+/// Writes to the error sink why a replay failed, if it did.
 #[tactic(auto, unfolding(crate::specs::Words::fault_text))]
 fn tell_fault<E: Sink>(err: &mut E, status: u8)
     ensures prefix { AppendsPrefix (E.written err.old) (E.written err.new) (words_of.fault_text status) }
@@ -105,10 +106,10 @@ fn tell_fault<E: Sink>(err: &mut E, status: u8)
     }
 }
 
-/// The program: reads its words, and with the one word `replay` a schedule from `input`, and writes the schedule's report
-/// to `out`. The status is 0 where the schedule was read and run through its end, 1 where a line was refused, 2 for
-/// wrong words, 3 for a failed read, 4 for a failed write and 5 for want of memory; `docs/PROTOCOL.md`, "The program",
-/// has the texts that `err` is told.
+/// The program. With the one word `replay` it reads a schedule from `input` and writes the schedule's report to `out`. It
+/// returns 0 where the schedule was read and run through its end, 1 where a line was refused, 2 for wrong words, 3 for a
+/// failed read, 4 for a failed write, and 5 where memory ran out. `docs/PROTOCOL.md`, "The program", has the texts that are
+/// written to `err`.
 pub fn run<I: Source, O: Sink, E: Sink>(
     alloc: Global,
     words: &[String],
@@ -116,26 +117,26 @@ pub fn run<I: Source, O: Sink, E: Sink>(
     out: &mut O,
     err: &mut E,
 ) -> u8
-    // 0 and 1: the report of all that the source held was written, and nothing else; 0 exactly where it is whole.
+    // At 0 and 1 the report of all bytes of the source was written, and nothing else; it is 0 exactly where the report is whole.
     ensures report { result ≤ 1 → IfSome (I.left input.old) (λ bytes.
         (result ≡ status_of (report_of bytes).whole) × Appends (O.written out.old) (O.written out.new) (report_of bytes).text) }
     ensures through { result ≡ 0 → IsAtEnd (I.left input.new) }
     ensures still { result ≤ 1 → (I.faults input.new ≡ I.faults input.old) × (O.faults out.new ≡ O.faults out.old) × (E.faults err.new ≡ E.faults err.old) }
 
-    // Whatever the status, what was written is the front of that report.
+    // At every status the output got a prefix of that report.
     ensures prefix { IfSome (I.left input.old) (λ bytes. AppendsPrefix (O.written out.old) (O.written out.new) (report_of bytes).text) }
 
-    // Each other status has its cause; of want of memory, 5, nothing is said.
+    // Each other status has its cause, except 5: no clause says when memory runs out.
     ensures known { result ≤ 5 }
-    ensures words { result ≡ 2 → words_of.are_right (map string_bytes words.now) ≡ false }
-    ensures usage { words_of.are_right (map string_bytes words.now) ≡ false → (result ≡ 2) ⊎ ((result ≡ 4) × Rose (E.faults err.old) (E.faults err.new)) }
-    ensures unused { words_of.are_right (map string_bytes words.now) ≡ false → (input.new ≡ input.old) × (out.new ≡ out.old) }
+    ensures words { result ≡ 2 → words_of.right words.now ≡ false }
+    ensures usage { words_of.right words.now ≡ false → (result ≡ 2) ⊎ ((result ≡ 4) × Rose (E.faults err.old) (E.faults err.new)) }
+    ensures unused { words_of.right words.now ≡ false → (input.new ≡ input.old) × (out.new ≡ out.old) }
     ensures read { result ≡ 3 → Rose (I.faults input.old) (I.faults input.new) }
-    ensures write { result ≡ 4 → Rose (O.faults out.old) (O.faults out.new) ⊎ ((words_of.are_right (map string_bytes words.now) ≡ false) × Rose (E.faults err.old) (E.faults err.new)) }
+    ensures write { result ≡ 4 → words_of.HasWriteCause (words_of.right words.now) (O.faults out.old) (O.faults out.new) (E.faults err.old) (E.faults err.new) }
 
-    // The error sink is told the status's text, all of it unless the sink failed.
-    ensures told_prefix { AppendsPrefix (E.written err.old) (E.written err.new) (complaint (words_of.are_right (map string_bytes words.now)) result) }
-    ensures told { Appends (E.written err.old) (E.written err.new) (complaint (words_of.are_right (map string_bytes words.now)) result) ⊎ Rose (E.faults err.old) (E.faults err.new) }
+    // The error sink gets the text of the status, all of it unless the sink failed.
+    ensures told_prefix { AppendsPrefix (E.written err.old) (E.written err.new) (complaint (words_of.right words.now) result) }
+    ensures told { Appends (E.written err.old) (E.written err.new) (complaint (words_of.right words.now) result) ⊎ Rose (E.faults err.old) (E.faults err.new) }
 
     // In every run each read that is answered has the bytes of the last write to its page in the log at that answer.
     ensures reads { ReadsReturnLastWrites }

@@ -4,7 +4,7 @@ ghost use Rattle.st_schedule.specs.Reader.{read_line, read_end};
 ghost use Rattle.st_world.specs.World.{IsBounded};
 ghost use Rattle.st_tank.specs.Schedule.{lines_of, end_at, schedule_of};
 ghost use Rattle.st_tank.specs.Replay as replay;
-ghost use Rattle.st_tank.specs.Replay.{Begins, BeginsLine, Adds};
+ghost use Rattle.st_tank.specs.Replay.{Begins, Puts, PutsLine};
 
 use crate::lines::first_line;
 use crate::report::put_lines;
@@ -33,7 +33,7 @@ fn config_refusal(refusal: ConfigRefusal) -> &'static str
     }
 }
 
-/// The last line of a report that stopped at a line, or at the end of the lines, with its refusal.
+/// Appends the last line of a report that stopped at a line, or at the end of the lines: the refusal.
 fn put_line_refusal(out: &mut String, line: u64, refusal: ScheduleRefusal) -> Result<(), AllocError>
     ensures { OnOk result (string_bytes out.new ≡ string_bytes out.old ++ (replay.refused line (replay.line_refusal refusal)).text) }
 {
@@ -90,8 +90,8 @@ fn put_ended(out: &mut String, events: u64, world: &World) -> Result<(), AllocEr
     put_read(out, world)
 }
 
-/// One event, if it is possible: what is observed of it, or the refusal. It answers how many events there are then, or
-/// none where the event was refused.
+/// Runs one event and appends what is observed of it, or the refusal. Returns the number of events then, or `None` where
+/// the event was refused.
 fn put_event(
     out: &mut String,
     done: u64,
@@ -118,7 +118,8 @@ fn put_event(
     }
 }
 
-/// The next line behind the head. It answers how many events there are behind it, or none where it was refused.
+/// Reads the next line after the head and runs its event. Returns the number of events then, or `None` where the line or
+/// the event was refused.
 fn put_line(
     out: &mut String,
     line: u64,
@@ -130,7 +131,7 @@ fn put_line(
     requires few { done < 2 ^ 29 }
     requires counted { world.old.events ≡ done }
     requires bounded { IsBounded world.old }
-    ensures report { IfOk result (λ next. BeginsLine next (string_bytes out.old) (string_bytes out.new) line done world.old world.new reader.new (read_line reader.old bytes.now)) }
+    ensures report { PutsLine result (string_bytes out.old) (string_bytes out.new) line done world.old world.new reader.old reader.new bytes.now }
     ensures counted { IfOk result (λ next. IfSome next (λ n. (world.new.events ≡ n) × (n ≤ done + 1))) }
     ensures bounded { IfOk result (λ next. IfSome next (λ n. IsBounded world.new)) }
 {
@@ -146,7 +147,7 @@ fn put_line(
     }
 }
 
-/// The last line of a report whose lines were all read and run.
+/// Appends the last line of a report whose lines were all read and run.
 fn put_end(
     out: &mut String,
     line: u64,
@@ -154,7 +155,7 @@ fn put_end(
     world: &World,
     reader: &ScheduleReader,
 ) -> Result<bool, AllocError>
-    ensures { IfOk result (λ whole. Adds (string_bytes out.old) (string_bytes out.new) whole (replay.last_line done world.now (end_at line (read_end reader.now)))) }
+    ensures { Puts result (string_bytes out.old) (string_bytes out.new) (replay.last_line done world.now (end_at line (read_end reader.now))) }
 {
     match reader.finish() {
         Ok(()) => {
@@ -177,7 +178,7 @@ fn put_events(
     requires room { length bytes.now < 2 ^ 29 }
     requires counted { world.old.events ≡ 0 }
     requires bounded { IsBounded world.old }
-    ensures { IfOk result (λ whole. Adds (string_bytes out.old) (string_bytes out.new) whole (replay.report_from 0 world.old (schedule_of (lines_of bytes.now) 2 reader.old))) }
+    ensures { Puts result (string_bytes out.old) (string_bytes out.new) (replay.report_from 0 world.old (schedule_of (lines_of bytes.now) 2 reader.old)) }
 {
     let mut rest = bytes;
     let mut line = 2u64;
@@ -212,7 +213,7 @@ fn has_path_counts(n: Counts) -> bool
     n.clients == 2 && (n.servers == 1 && (n.disks == 1 && n.blocks == 8))
 }
 
-/// Whether this is the head that has a world.
+/// Whether this is the one head that this program runs.
 fn is_path_head(said: &Line) -> bool
     ensures { result ≡ replay.is_path_head said.now }
 {
@@ -226,7 +227,7 @@ fn is_path_head(said: &Line) -> bool
     }
 }
 
-/// The lines behind the head, in a fresh world.
+/// Runs the lines after the head in a fresh world.
 fn put_run(
     alloc: Global,
     out: &mut String,
@@ -234,7 +235,7 @@ fn put_run(
     bytes: &[u8],
 ) -> Result<bool, AllocError>
     requires { length bytes.now < 2 ^ 29 }
-    ensures { IfOk result (λ whole. Adds (string_bytes out.old) (string_bytes out.new) whole (replay.report_events reader.old (lines_of bytes.now))) }
+    ensures { Puts result (string_bytes out.old) (string_bytes out.new) (replay.report_events reader.old (lines_of bytes.now)) }
 {
     out.push_str("tank report 1\n")?;
     let mut world = World::fresh(alloc);
@@ -242,7 +243,7 @@ fn put_run(
     Ok(whole)
 }
 
-/// What line 1 said, and the lines behind it.
+/// Runs the lines after line 1, if line 1 is the head that this program runs.
 fn put_behind(
     alloc: Global,
     out: &mut String,
@@ -251,7 +252,7 @@ fn put_behind(
     bytes: &[u8],
 ) -> Result<bool, AllocError>
     requires { length bytes.now < 2 ^ 29 }
-    ensures { IfOk result (λ whole. Adds (string_bytes out.old) (string_bytes out.new) whole (replay.with_head (lines_of bytes.now) (Ok (said.now, reader.old)))) }
+    ensures { Puts result (string_bytes out.old) (string_bytes out.new) (replay.with_head (lines_of bytes.now) (Ok (said.now, reader.old))) }
 {
     if is_path_head(said) {
         return put_run(alloc, out, reader, bytes);
@@ -262,7 +263,7 @@ fn put_behind(
 
 fn put_head(alloc: Global, out: &mut String, head: &[u8], bytes: &[u8]) -> Result<bool, AllocError>
     requires { length bytes.now < 2 ^ 29 }
-    ensures { IfOk result (λ whole. Adds (string_bytes out.old) (string_bytes out.new) whole (replay.with_head (lines_of bytes.now) (read_line Nothing head.now))) }
+    ensures { Puts result (string_bytes out.old) (string_bytes out.new) (replay.with_head (lines_of bytes.now) (read_line Nothing head.now)) }
 {
     let mut reader = ScheduleReader::new(alloc);
     match reader.line(head) {

@@ -1,7 +1,8 @@
 ghost use Rattle.std.specs.Prelude.{◌≡◌, ◌++◌, OnOk, string_bytes};
 ghost use Rattle.std.specs.List.{flat_map};
+ghost use Rattle.st_base.specs.Page.{filled};
 ghost use Rattle.st_world.specs.Report as text;
-ghost use Rattle.st_world.specs.declared.rows.Observation.TheVariants as observation;
+ghost use Rattle.st_world.specs.declared.machine_types.Observation.TheVariants as observation;
 
 use st_base::{ClientId, ExtentRow, FileId, PageBytes, PageNo, ServerId};
 use st_messages::{AppAnswer, Body, Message};
@@ -48,7 +49,7 @@ fn put_file(out: &mut String, file: FileId) -> Result<(), AllocError>
     write!(out, " {server}:{ino}")
 }
 
-/// The kinds of the first path; the others are never sent in it.
+/// The name of a message's kind. The first path sends only these kinds.
 fn kind(body: &Body) -> &'static str
     ensures { result.now ≡ text.kind body.now }
 {
@@ -82,7 +83,7 @@ fn put_rows(out: &mut String, rows: &[ExtentRow]) -> Result<(), AllocError>
     Ok(())
 }
 
-/// What a message of the first path says, in the order in which it is written.
+/// Appends the fields of a message of the first path, in the order of the report.
 fn put_fields(out: &mut String, body: &Body) -> Result<(), AllocError>
     ensures { OnOk result (string_bytes out.new ≡ string_bytes out.old ++ text.fields body.now) }
 {
@@ -159,8 +160,8 @@ fn put_runs_from(out: &mut String, first: u8, bytes: &[u8]) -> Result<(), AllocE
     put_run(out, count, byte)
 }
 
-/// The bytes of a page as runs of equal ones.
-fn put_runs(out: &mut String, bytes: &[u8]) -> Result<(), AllocError>
+/// The runs of equal bytes in these bytes.
+fn put_all_runs(out: &mut String, bytes: &[u8]) -> Result<(), AllocError>
     ensures { OnOk result (string_bytes out.new ≡ string_bytes out.old ++ text.runs bytes.now) }
 {
     match bytes {
@@ -172,6 +173,24 @@ fn put_runs(out: &mut String, bytes: &[u8]) -> Result<(), AllocError>
     }
 }
 
+/// The one run of a page of one byte repeated.
+fn put_filled(out: &mut String, byte: u8) -> Result<(), AllocError>
+    ensures { OnOk result (string_bytes out.new ≡ string_bytes out.old ++ text.runs (filled byte)) }
+{
+    out.push_str(" ")?;
+    put_run(out, 4096, byte)
+}
+
+/// The runs of equal bytes in a page. It counts no bytes of a page of one byte repeated.
+fn put_runs(out: &mut String, bytes: &PageBytes) -> Result<(), AllocError>
+    ensures { OnOk result (string_bytes out.new ≡ string_bytes out.old ++ text.runs bytes.now) }
+{
+    match bytes.repeated() {
+        Some(byte) => put_filled(out, byte),
+        None => put_all_runs(out, bytes.as_slice()),
+    }
+}
+
 /// The answers of the first path; the others are never given in it.
 fn put_answer(out: &mut String, answer: &AppAnswer) -> Result<(), AllocError>
     ensures { OnOk result (string_bytes out.new ≡ string_bytes out.old ++ text.answer answer.now) }
@@ -180,7 +199,7 @@ fn put_answer(out: &mut String, answer: &AppAnswer) -> Result<(), AllocError>
         AppAnswer::Written => out.push_str(" written"),
         AppAnswer::Read(bytes) => {
             out.push_str(" read")?;
-            put_runs(out, bytes.as_slice())
+            put_runs(out, bytes)
         }
         AppAnswer::OpsFull => out.push_str(" opsfull"),
         _ => Ok(()),
@@ -201,7 +220,7 @@ fn put_wrote(
     put_client(out, client)?;
     put_file(out, file)?;
     put_field(out, u64::from(page.0))?;
-    put_runs(out, bytes.as_slice())
+    put_runs(out, bytes)
 }
 
 fn put_observation(out: &mut String, o: &Observation) -> Result<(), AllocError>
@@ -246,7 +265,7 @@ fn put_line(out: &mut String, event: u64, o: &Observation) -> Result<(), AllocEr
     out.push_str("\n")
 }
 
-/// A line for each of an event's observations.
+/// Appends a line for each observation of an event.
 pub(crate) fn put_lines(
     out: &mut String,
     event: u64,

@@ -20,16 +20,16 @@ use Rattle.st_messages.specs.declared.answer.AppAnswer.TheVariants as answers
 use Rattle.st_messages.specs.declared.output.Note.TheVariants.{Accepted, Leased}
 use Rattle.st_messages.specs.declared.output.Output.{Output}
 use Rattle.st_messages.specs.declared.output.Output.TheVariants.{Send, Answer, Note}
-use Rattle.st_world.specs.declared.rows.DirtyPage.{DirtyPage}
-use Rattle.st_world.specs.declared.rows.KnownPage.{KnownPage}
-use Rattle.st_world.specs.declared.rows.Pending.{Pending}
-use Rattle.st_world.specs.declared.rows.Request.{Request}
-use Rattle.st_world.specs.declared.rows.ClientInput.{ClientInput}
-use Rattle.st_world.specs.declared.rows.ClientInput.TheVariants.{App, Control}
-use Rattle.st_world.specs.declared.rows.Observation.{Observation}
-use Rattle.st_world.specs.declared.rows.Session.{Session}
-use Rattle.st_world.specs.declared.rows.LockRow.{LockRow}
-use Rattle.st_world.specs.declared.rows.MappedPage.{MappedPage}
+use Rattle.st_world.specs.declared.machine_types.DirtyPage.{DirtyPage}
+use Rattle.st_world.specs.declared.machine_types.KnownPage.{KnownPage}
+use Rattle.st_world.specs.declared.machine_types.Pending.{Pending}
+use Rattle.st_world.specs.declared.machine_types.Request.{Request}
+use Rattle.st_world.specs.declared.machine_types.ClientInput.{ClientInput}
+use Rattle.st_world.specs.declared.machine_types.ClientInput.TheVariants.{App, Control}
+use Rattle.st_world.specs.declared.machine_types.Observation.{Observation}
+use Rattle.st_world.specs.declared.machine_types.Session.{Session}
+use Rattle.st_world.specs.declared.machine_types.LockRow.{LockRow}
+use Rattle.st_world.specs.declared.machine_types.MappedPage.{MappedPage}
 use Rattle.st_world.specs.Server as server
 use Rattle.st_world.specs.Server.{ServerState, Answered, answered}
 use Rattle.st_world.specs.Client.{ClientState, Turn, CLIENT, turn, become, say, waits, app, leased, lease_note, may_begin, welcome, renew, learn_under, learn, learn_all, found_rows, known_rows, holds_grant, lock_of, take_reply, end_request, reply_to_request, reply, counts, control_in, is_for, is_of_session, put_dirty, may_write, accepts, readable, serve_read, serve, serve_all, operations, message_of, must_greet, greet, first_want, ask_with, may_ask, ask, take, client_step}

@@ -7,7 +7,7 @@ use Rattle.st_base.specs.declared.ids.PageNo.{PageNo}
 use Rattle.st_rules.specs.declared.log.LogEntry.{LogEntry}
 use Rattle.st_rules.specs.FlatLog.{after, content}
 use Rattle.st_model.proofs.Lasts.{content-push}
-use Rattle.st_world.specs.declared.rows.DirtyPage.{DirtyPage}
+use Rattle.st_world.specs.declared.machine_types.DirtyPage.{DirtyPage}
 use Rattle.st_world.specs.Client.{is_page, dirty_of}
 use Rattle.st_world.specs.World.{entry}
 

@@ -13,8 +13,8 @@ use Rattle.st_messages.specs.declared.event.Event.{Event}
 use Rattle.st_messages.specs.declared.event.Event.TheVariants.{App, Deliver}
 use Rattle.st_rules.specs.declared.log.LogEntry.{LogEntry}
 use Rattle.st_rules.specs.FlatLog.{accept, content, content_from}
-use Rattle.st_world.specs.declared.rows.ClientInput.TheVariants as inputs
-use Rattle.st_world.specs.declared.rows.Observation.{Observation}
+use Rattle.st_world.specs.declared.machine_types.ClientInput.TheVariants as inputs
+use Rattle.st_world.specs.declared.machine_types.Observation.{Observation}
 use Rattle.st_world.specs.declared.fault.WorldRefusal.TheVariants as refusals
 use Rattle.st_world.specs.Server.{ServerState, server_step}
 use Rattle.st_world.specs.Client.{Turn, CLIENT, client_step}

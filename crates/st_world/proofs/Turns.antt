@@ -21,12 +21,12 @@ use Rattle.st_messages.specs.declared.output.Output.{Output}
 use Rattle.st_messages.specs.declared.output.Output.TheVariants.{Send, Answer, Note}
 use Rattle.st_rules.specs.declared.log.LogEntry.{LogEntry}
 use Rattle.st_rules.specs.FlatLog.{content}
-use Rattle.st_world.specs.declared.rows.DirtyPage.{DirtyPage}
-use Rattle.st_world.specs.declared.rows.KnownPage.{KnownPage}
-use Rattle.st_world.specs.declared.rows.Pending.{Pending}
-use Rattle.st_world.specs.declared.rows.Request.{Request}
-use Rattle.st_world.specs.declared.rows.ClientInput.{ClientInput}
-use Rattle.st_world.specs.declared.rows.ClientInput.TheVariants.{App, Control}
+use Rattle.st_world.specs.declared.machine_types.DirtyPage.{DirtyPage}
+use Rattle.st_world.specs.declared.machine_types.KnownPage.{KnownPage}
+use Rattle.st_world.specs.declared.machine_types.Pending.{Pending}
+use Rattle.st_world.specs.declared.machine_types.Request.{Request}
+use Rattle.st_world.specs.declared.machine_types.ClientInput.{ClientInput}
+use Rattle.st_world.specs.declared.machine_types.ClientInput.TheVariants.{App, Control}
 use Rattle.st_world.specs.Client.{ClientState, Turn, turn, become, say, waits, app, leased, lease_note, begin_lease, may_begin, welcome, renew, learn_under, learn, learn_all, found_rows, known_rows, holds_grant, lock_of, take_reply, end_request, reply_to_request, reply, counts, control_in, is_for, is_of_session, put_dirty, may_write, accepts, unmapped_bytes, cached_bytes, readable, has_mode, dirty_of, known_of, serve_read, serve, serve_all, operations, message_of, must_greet, greet, first_want, requested, ask_with, may_ask, ask, take, client_step}
 use Rattle.st_world.specs.World.{entry}
 use Rattle.st_world.specs.Run.{IsLastRead}

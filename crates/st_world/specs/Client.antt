@@ -20,13 +20,13 @@ use Rattle.st_messages.specs.declared.output.Note.TheVariants.{Leased, Accepted}
 use Rattle.st_messages.specs.declared.output.Output.{Output}
 use Rattle.st_messages.specs.declared.output.Output.TheVariants.{Send, Answer, Note}
 use Rattle.st_rules.specs.Keys.{same_file}
-use Rattle.st_world.specs.declared.rows.HeldLock.{HeldLock}
-use Rattle.st_world.specs.declared.rows.KnownPage.{KnownPage}
-use Rattle.st_world.specs.declared.rows.DirtyPage.{DirtyPage}
-use Rattle.st_world.specs.declared.rows.Pending.{Pending}
-use Rattle.st_world.specs.declared.rows.Request.{Request}
-use Rattle.st_world.specs.declared.rows.ClientInput.{ClientInput}
-use Rattle.st_world.specs.declared.rows.ClientInput.TheVariants.{App, Control}
+use Rattle.st_world.specs.declared.machine_types.HeldLock.{HeldLock}
+use Rattle.st_world.specs.declared.machine_types.KnownPage.{KnownPage}
+use Rattle.st_world.specs.declared.machine_types.DirtyPage.{DirtyPage}
+use Rattle.st_world.specs.declared.machine_types.Pending.{Pending}
+use Rattle.st_world.specs.declared.machine_types.Request.{Request}
+use Rattle.st_world.specs.declared.machine_types.ClientInput.{ClientInput}
+use Rattle.st_world.specs.declared.machine_types.ClientInput.TheVariants.{App, Control}
 use Rattle.st_world.specs.Server.{SERVER}
 
 pub record ClientState : Type 0 where
@@ -238,6 +238,14 @@ readable s file page =
 abbrev pub serve_read : Turn → Pending → Option (List ℕ) → Turn
 serve_read t p None = waits t p
 serve_read t p (Some bytes) = say t (Answer p.op (answers.Read bytes))
+
+-- an operation that writes a page is served, or waits
+abbrev pub asked_write : Turn → ℕ → FileId → PageNo → List ℕ → Turn
+asked_write t op file page bytes = serve_write t (record { op = op; ask = asks.Write file page bytes }) file page bytes
+
+-- an operation that reads a page is served, or waits
+abbrev pub asked_read : Turn → ℕ → FileId → PageNo → Turn
+asked_read t op file page = serve_read t (record { op = op; ask = asks.Read file page }) (readable t.state file page)
 
 abbrev pub serve : Turn → Pending → Ask → Turn
 serve t p (asks.Write file page bytes) = serve_write t p file page bytes

@@ -12,8 +12,8 @@ use Rattle.st_messages.specs.declared.message.Body.{Body}
 use Rattle.st_messages.specs.declared.message.Body.TheVariants.{Hello, Welcome, Acquire, Granted, Map, Allocate, Extents}
 use Rattle.st_messages.specs.declared.answer.AppAnswer.{AppAnswer}
 use Rattle.st_messages.specs.declared.answer.AppAnswer.TheVariants as answers
-use Rattle.st_world.specs.declared.rows.Observation.{Observation}
-use Rattle.st_world.specs.declared.rows.Observation.TheVariants.{Sent, Answered, Wrote, Leased}
+use Rattle.st_world.specs.declared.machine_types.Observation.{Observation}
+use Rattle.st_world.specs.declared.machine_types.Observation.TheVariants.{Sent, Answered, Wrote, Leased}
 
 -- a number behind a space
 abbrev pub field : ℕ → List ℕ

@@ -9,8 +9,8 @@ use Rattle.st_messages.specs.declared.event.Event.{Event}
 use Rattle.st_messages.specs.declared.event.Event.TheVariants.{App}
 use Rattle.st_rules.specs.declared.log.LogEntry.{LogEntry}
 use Rattle.st_rules.specs.FlatLog.{content}
-use Rattle.st_world.specs.declared.rows.Observation.{Observation}
-use Rattle.st_world.specs.declared.rows.Observation.TheVariants.{Answered, Wrote}
+use Rattle.st_world.specs.declared.machine_types.Observation.{Observation}
+use Rattle.st_world.specs.declared.machine_types.Observation.TheVariants.{Answered, Wrote}
 use Rattle.st_world.specs.declared.fault.WorldRefusal.{WorldRefusal}
 use Rattle.st_world.specs.World.{World, Scene, entry, world_step, fresh_world}
 

@@ -12,9 +12,9 @@ use Rattle.st_messages.specs.declared.message.Header.{Header}
 use Rattle.st_messages.specs.declared.message.Message.{Message}
 use Rattle.st_messages.specs.declared.message.Body.{Body}
 use Rattle.st_messages.specs.declared.message.Body.TheVariants.{Hello, Welcome, Acquire, Granted, Map, Allocate, Extents}
-use Rattle.st_world.specs.declared.rows.Session.{Session}
-use Rattle.st_world.specs.declared.rows.LockRow.{LockRow}
-use Rattle.st_world.specs.declared.rows.MappedPage.{MappedPage}
+use Rattle.st_world.specs.declared.machine_types.Session.{Session}
+use Rattle.st_world.specs.declared.machine_types.LockRow.{LockRow}
+use Rattle.st_world.specs.declared.machine_types.MappedPage.{MappedPage}
 
 pub record ServerState : Type 0 where
   pub epoch : ℕ

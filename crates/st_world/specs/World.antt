@@ -17,10 +17,10 @@ use Rattle.st_messages.specs.declared.event.Event.TheVariants as events
 use Rattle.st_rules.specs.declared.log.LogEntry.{LogEntry}
 use Rattle.st_rules.specs.declared.log.Change.TheVariants as entries
 use Rattle.st_rules.specs.FlatLog.{accept, owner, pending}
-use Rattle.st_world.specs.declared.rows.ClientInput.{ClientInput}
-use Rattle.st_world.specs.declared.rows.ClientInput.TheVariants as inputs
-use Rattle.st_world.specs.declared.rows.Observation.{Observation}
-use Rattle.st_world.specs.declared.rows.Observation.TheVariants as seen
+use Rattle.st_world.specs.declared.machine_types.ClientInput.{ClientInput}
+use Rattle.st_world.specs.declared.machine_types.ClientInput.TheVariants as inputs
+use Rattle.st_world.specs.declared.machine_types.Observation.{Observation}
+use Rattle.st_world.specs.declared.machine_types.Observation.TheVariants as seen
 use Rattle.st_world.specs.declared.fault.WorldRefusal.{WorldRefusal}
 use Rattle.st_world.specs.declared.fault.WorldRefusal.TheVariants.{NoMessage, NotBuilt}
 use Rattle.st_world.specs.Server.{ServerState, Stepped, server_step}
@@ -35,7 +35,7 @@ pub record World : Type 0 where
   pub reads : ℕ
   pub events : ℕ
 
--- how far the counters of a world can have come after so many events
+-- the greatest values of the counters of a world after this many events
 pub record IsBounded (w : World) : Type 0 where
   pub next : w.client.next ≤ w.events + 1
   pub grants : w.server.grants ≤ w.events
@@ -79,7 +79,7 @@ scene w seen = record { world = w; seen = seen }
 abbrev pub see : Scene → World → Observation → Scene
 see s w o = scene w (s.seen ++ o ∷ [])
 
--- Outputs: a message joins those that were sent, an accepted write joins the log, an answer and a lease are told.
+-- Outputs: a message joins those that were sent, an accepted write joins the log, an answer and a lease are observed.
 
 abbrev pub THE_CLIENT : ClientId
 THE_CLIENT = record { 0 = 1 }

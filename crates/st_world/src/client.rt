@@ -1,10 +1,10 @@
 ghost use Rattle.std.specs.Prelude.{◌≡◌, ◌==◌, ◌<◌, ◌≤◌, ◌^◌, [], ◌∷◌, Some, None, List, IfOk, OnOk, filter, not};
 ghost use Rattle.std.specs.Option.{option_copied};
-ghost use Rattle.st_world.specs.Client as rules;
+ghost use Rattle.st_world.specs.Client as client;
 ghost use Rattle.st_world.specs.Client.{turn};
 ghost use Rattle.st_world.specs.World.{fresh_client};
 
-use crate::rows::{ClientInput, DirtyPage, HeldLock, KnownPage, Pending, Request};
+use crate::machine_types::{ClientInput, DirtyPage, HeldLock, KnownPage, Pending, Request};
 use crate::server::SERVER;
 use st_base::{ExtentRow, FileId, GrantNo, Mode, PageBytes, PageNo, ServerId, Stamp};
 use st_messages::{AppAnswer, Ask, Body, Header, Message, Note, Output};
@@ -56,13 +56,13 @@ impl Model for ClientNode {
 }
 
 fn lock_of(locks: &[HeldLock], ino: u32) -> Option<HeldLock>
-    ensures { result ≡ rules.lock_of locks.now ino }
+    ensures { result ≡ client.lock_of locks.now ino }
 {
     locks.iter().copied().find(|l| l.ino == ino)
 }
 
 fn has_mode(lock: Option<HeldLock>, mode: Mode) -> bool
-    ensures { result ≡ rules.has_mode lock mode }
+    ensures { result ≡ client.has_mode lock mode }
 {
     match lock {
         None => false,
@@ -71,7 +71,7 @@ fn has_mode(lock: Option<HeldLock>, mode: Mode) -> bool
 }
 
 fn holds_grant(lock: Option<HeldLock>, g: GrantNo) -> bool
-    ensures { result ≡ rules.holds_grant lock g }
+    ensures { result ≡ client.holds_grant lock g }
 {
     match lock {
         None => false,
@@ -80,7 +80,7 @@ fn holds_grant(lock: Option<HeldLock>, g: GrantNo) -> bool
 }
 
 fn dirty_of(dirty: &[DirtyPage], file: FileId, page: PageNo) -> Option<&DirtyPage>
-    ensures { option_copied result ≡ rules.dirty_of dirty.now file page }
+    ensures { option_copied result ≡ client.dirty_of dirty.now file page }
 {
     dirty.iter().find(|d| {
         (d.file.server.0 == file.server.0 && d.file.ino == file.ino) && d.page.0 == page.0
@@ -88,7 +88,7 @@ fn dirty_of(dirty: &[DirtyPage], file: FileId, page: PageNo) -> Option<&DirtyPag
 }
 
 fn known_of(known: &[KnownPage], ino: u32, page: PageNo) -> Option<KnownPage>
-    ensures { result ≡ rules.known_of known.now ino page.0 }
+    ensures { result ≡ client.known_of known.now ino page.0 }
 {
     known
         .iter()
@@ -97,7 +97,7 @@ fn known_of(known: &[KnownPage], ino: u32, page: PageNo) -> Option<KnownPage>
 }
 
 fn is_mapped(known: Option<KnownPage>) -> bool
-    ensures { result ≡ rules.is_mapped known }
+    ensures { result ≡ client.is_mapped known }
 {
     match known {
         None => false,
@@ -112,7 +112,7 @@ fn drop_lock(locks: &mut Vec<HeldLock>, ino: u32)
 }
 
 fn drop_dirty(dirty: &mut Vec<DirtyPage>, file: FileId, page: PageNo)
-    ensures { dirty.new.items ≡ filter (λ e. not (rules.is_page file page e)) dirty.old.items }
+    ensures { dirty.new.items ≡ filter (λ e. not (client.is_page file page e)) dirty.old.items }
 {
     dirty.retain(|d| {
         !((d.file.server.0 == file.server.0 && d.file.ino == file.ino) && d.page.0 == page.0)
@@ -120,20 +120,20 @@ fn drop_dirty(dirty: &mut Vec<DirtyPage>, file: FileId, page: PageNo)
 }
 
 fn drop_known(known: &mut Vec<KnownPage>, ino: u32, page: PageNo)
-    ensures { known.new.items ≡ filter (λ e. not (rules.is_known_page ino page.0 e)) known.old.items }
+    ensures { known.new.items ≡ filter (λ e. not (client.is_known_page ino page.0 e)) known.old.items }
 {
     known.retain(|k| !(k.ino == ino && k.page.0 == page.0));
 }
 
 fn learn_one(known: &mut Vec<KnownPage>, k: KnownPage) -> Result<(), AllocError>
-    ensures { OnOk result (known.new.items ≡ rules.learn_one known.old.items k) }
+    ensures { OnOk result (known.new.items ≡ client.learn_one known.old.items k) }
 {
     drop_known(known, k.ino, k.page);
     Ok(known.push(k)?)
 }
 
 fn learn_all(known: &mut Vec<KnownPage>, ks: &[KnownPage]) -> Result<(), AllocError>
-    ensures { OnOk result (known.new.items ≡ rules.learn_all known.old.items ks.now) }
+    ensures { OnOk result (known.new.items ≡ client.learn_all known.old.items ks.now) }
 {
     for k in ks {
         learn_one(known, *k)?;
@@ -142,7 +142,7 @@ fn learn_all(known: &mut Vec<KnownPage>, ks: &[KnownPage]) -> Result<(), AllocEr
 }
 
 fn known_rows(alloc: Global, ino: u32, rows: &[ExtentRow]) -> Result<Vec<KnownPage>, AllocError>
-    ensures { IfOk result (λ ks. ks.items ≡ rules.known_rows ino rows.now) }
+    ensures { IfOk result (λ ks. ks.items ≡ client.known_rows ino rows.now) }
 {
     let mut ks = Vec::new(alloc);
     for r in rows {
@@ -173,7 +173,7 @@ fn found_rows(
     page: PageNo,
     rows: &[ExtentRow],
 ) -> Result<Vec<KnownPage>, AllocError>
-    ensures { IfOk result (λ ks. ks.items ≡ rules.found_rows ino page rows.now) }
+    ensures { IfOk result (λ ks. ks.items ≡ client.found_rows ino page rows.now) }
 {
     if rows.is_empty() {
         unmapped_page(alloc, ino, page)
@@ -183,7 +183,7 @@ fn found_rows(
 }
 
 fn fits(request: &Body, reply: &Body) -> bool
-    ensures { result ≡ rules.fits request.now reply.now }
+    ensures { result ≡ client.fits request.now reply.now }
 {
     match (request, reply) {
         (Body::Acquire { ino, .. }, Body::Granted { ino: other, .. }) => *ino == *other,
@@ -194,7 +194,7 @@ fn fits(request: &Body, reply: &Body) -> bool
 }
 
 fn counts(outstanding: &Option<Request>, h: Header, body: &Body) -> bool
-    ensures { result ≡ rules.counts outstanding.now h body.now }
+    ensures { result ≡ client.counts outstanding.now h body.now }
 {
     match outstanding {
         None => false,
@@ -204,7 +204,7 @@ fn counts(outstanding: &Option<Request>, h: Header, body: &Body) -> bool
 
 fn lease_note(date: u64) -> Output
     requires { date ≤ 2 ^ 62 }
-    ensures { result ≡ rules.lease_note date }
+    ensures { result ≡ client.lease_note date }
 {
     Output::Note(Note::Leased {
         server: ServerId(1),
@@ -212,19 +212,16 @@ fn lease_note(date: u64) -> Output
     })
 }
 
-fn zeros_if_unmapped(
-    alloc: Global,
-    known: Option<KnownPage>,
-) -> Result<Option<PageBytes>, AllocError>
-    ensures { IfOk result (λ found. found ≡ rules.unmapped_bytes known) }
+fn zeros_if_unmapped(known: Option<KnownPage>) -> Option<PageBytes>
+    ensures { result ≡ client.unmapped_bytes known }
 {
     match known {
-        None => Ok(None),
+        None => None,
         Some(k) => {
             if k.row.is_none() {
-                Ok(Some(PageBytes::filled(alloc, 0)?))
+                Some(PageBytes::filled(0))
             } else {
-                Ok(None)
+                None
             }
         }
     }
@@ -250,13 +247,13 @@ impl ClientNode {
     }
 
     fn wait(&mut self, p: Pending) -> Result<(), AllocError>
-        ensures { (out : List Output) → OnOk result (turn self.new out ≡ rules.waits (turn self.old out) p) }
+        ensures { (out : List Output) → OnOk result (turn self.new out ≡ client.waits (turn self.old out) p) }
     {
         Ok(self.pending.push(p)?)
     }
 
     fn app(&mut self, out: &mut Vec<Output>, op: u32, ask: Ask) -> Result<(), AllocError>
-        ensures { OnOk result (turn self.new out.new.items ≡ rules.app (turn self.old out.old.items) op ask) }
+        ensures { OnOk result (turn self.new out.new.items ≡ client.app (turn self.old out.old.items) op ask) }
     {
         if self.pending.len() < MOST_PENDING {
             return self.wait(Pending { op, ask });
@@ -270,7 +267,7 @@ impl ClientNode {
 
     fn begin_lease(&mut self, out: &mut Vec<Output>, h: Header) -> Result<(), AllocError>
         requires { h.stamp ≤ 2 ^ 62 }
-        ensures { OnOk result (turn self.new out.new.items ≡ rules.begin_lease (turn self.old out.old.items) h) }
+        ensures { OnOk result (turn self.new out.new.items ≡ client.begin_lease (turn self.old out.old.items) h) }
     {
         out.push(lease_note(h.stamp))?;
         self.epoch = h.epoch;
@@ -282,7 +279,7 @@ impl ClientNode {
 
     fn welcome(&mut self, out: &mut Vec<Output>, h: Header) -> Result<(), AllocError>
         requires { h.stamp ≤ 2 ^ 62 }
-        ensures { OnOk result (turn self.new out.new.items ≡ rules.welcome (turn self.old out.old.items) h) }
+        ensures { OnOk result (turn self.new out.new.items ≡ client.welcome (turn self.old out.old.items) h) }
     {
         if self.greeting && (self.epoch == 0 && 0 < h.stamp + LEASE) {
             return self.begin_lease(out, h);
@@ -292,7 +289,7 @@ impl ClientNode {
 
     fn renew(&mut self, out: &mut Vec<Output>, stamp: u64) -> Result<(), AllocError>
         requires { stamp ≤ 2 ^ 62 }
-        ensures { OnOk result (turn self.new out.new.items ≡ rules.renew (turn self.old out.old.items) stamp) }
+        ensures { OnOk result (turn self.new out.new.items ≡ client.renew (turn self.old out.old.items) stamp) }
     {
         if self.date < stamp {
             out.push(lease_note(stamp))?;
@@ -302,14 +299,14 @@ impl ClientNode {
     }
 
     fn install(&mut self, lock: HeldLock) -> Result<(), AllocError>
-        ensures { OnOk result (self.new ≡ rules.install self.old lock) }
+        ensures { OnOk result (self.new ≡ client.install self.old lock) }
     {
         drop_lock(&mut self.locks, lock.ino);
         Ok(self.locks.push(lock)?)
     }
 
     fn learn_under(&mut self, ino: u32, g: GrantNo, ks: Vec<KnownPage>) -> Result<(), AllocError>
-        ensures { OnOk result (self.new ≡ rules.learn_under self.old ino g ks.items) }
+        ensures { OnOk result (self.new ≡ client.learn_under self.old ino g ks.items) }
     {
         if holds_grant(lock_of(&self.locks, ino), g) {
             return learn_all(&mut self.known, &ks);
@@ -318,7 +315,7 @@ impl ClientNode {
     }
 
     fn learn(&mut self, request: &Body, rows: &[ExtentRow]) -> Result<(), AllocError>
-        ensures { OnOk result (self.new ≡ rules.learn self.old request.now rows.now) }
+        ensures { OnOk result (self.new ≡ client.learn self.old request.now rows.now) }
     {
         match request {
             Body::Map { ino, g, page } => {
@@ -334,7 +331,7 @@ impl ClientNode {
     }
 
     fn take_reply(&mut self, request: &Body, body: &Body) -> Result<(), AllocError>
-        ensures { OnOk result (self.new ≡ rules.take_reply self.old request.now body.now) }
+        ensures { OnOk result (self.new ≡ client.take_reply self.old request.now body.now) }
     {
         match body {
             Body::Granted { ino, g, mode } => self.install(HeldLock {
@@ -354,7 +351,7 @@ impl ClientNode {
         body: &Body,
     ) -> Result<(), AllocError>
         requires { h.stamp ≤ 2 ^ 62 }
-        ensures { OnOk result (turn self.new out.new.items ≡ rules.reply_to_request (turn self.old out.old.items) h body.now self.old.outstanding) }
+        ensures { OnOk result (turn self.new out.new.items ≡ client.reply_to_request (turn self.old out.old.items) h body.now self.old.outstanding) }
     {
         let Some(request) = self.outstanding.take() else {
             return Ok(());
@@ -365,7 +362,7 @@ impl ClientNode {
 
     fn reply(&mut self, out: &mut Vec<Output>, h: Header, body: &Body) -> Result<(), AllocError>
         requires { h.stamp ≤ 2 ^ 62 }
-        ensures { OnOk result (turn self.new out.new.items ≡ rules.reply (turn self.old out.old.items) h body.now) }
+        ensures { OnOk result (turn self.new out.new.items ≡ client.reply (turn self.old out.old.items) h body.now) }
     {
         if counts(&self.outstanding, h, body) {
             return self.reply_to_request(out, h, body);
@@ -380,7 +377,7 @@ impl ClientNode {
         body: &Body,
     ) -> Result<(), AllocError>
         requires { h.stamp ≤ 2 ^ 62 }
-        ensures { OnOk result (turn self.new out.new.items ≡ rules.control_reply (turn self.old out.old.items) h body.now) }
+        ensures { OnOk result (turn self.new out.new.items ≡ client.control_reply (turn self.old out.old.items) h body.now) }
     {
         if self.epoch != 0 && h.epoch == self.epoch {
             return self.reply(out, h, body);
@@ -389,7 +386,7 @@ impl ClientNode {
     }
 
     fn control(&mut self, out: &mut Vec<Output>, h: Header, body: &Body) -> Result<(), AllocError>
-        ensures { OnOk result (turn self.new out.new.items ≡ rules.control (turn self.old out.old.items) h body.now) }
+        ensures { OnOk result (turn self.new out.new.items ≡ client.control (turn self.old out.old.items) h body.now) }
     {
         if h.to != CLIENT || h.from != SERVER || h.life != self.life || h.stamp > 0 {
             return Ok(());
@@ -401,14 +398,14 @@ impl ClientNode {
     }
 
     fn may_write(&self, file: FileId, page: PageNo) -> bool
-        ensures { result ≡ rules.may_write self.now file page }
+        ensures { result ≡ client.may_write self.now file page }
     {
         has_mode(lock_of(&self.locks, file.ino), Mode::X)
             && is_mapped(known_of(&self.known, file.ino, page))
     }
 
     fn put_dirty(&mut self, file: FileId, page: PageNo, bytes: PageBytes) -> Result<(), AllocError>
-        ensures { OnOk result (self.new ≡ rules.put_dirty self.old (record { file = file; page = page; bytes = bytes })) }
+        ensures { OnOk result (self.new ≡ client.put_dirty self.old (record { file = file; page = page; bytes = bytes })) }
     {
         drop_dirty(&mut self.dirty, file, page);
         Ok(self.dirty.push(DirtyPage { file, page, bytes })?)
@@ -422,7 +419,7 @@ impl ClientNode {
         page: PageNo,
         bytes: PageBytes,
     ) -> Result<(), AllocError>
-        ensures { OnOk result (turn self.new out.new.items ≡ rules.accepts (turn self.old out.old.items) op file page bytes) }
+        ensures { OnOk result (turn self.new out.new.items ≡ client.accepts (turn self.old out.old.items) op file page bytes) }
     {
         let noted = bytes.copy()?;
         self.put_dirty(file, page, bytes)?;
@@ -446,7 +443,7 @@ impl ClientNode {
         page: PageNo,
         bytes: PageBytes,
     ) -> Result<(), AllocError>
-        ensures { OnOk result (turn self.new out.new.items ≡ rules.serve_write (turn self.old out.old.items) (record { op = op; ask = Ask.Write file page bytes }) file page bytes) }
+        ensures { OnOk result (turn self.new out.new.items ≡ client.asked_write (turn self.old out.old.items) op file page bytes) }
     {
         if self.may_write(file, page) {
             return self.accept(out, op, file, page, bytes);
@@ -458,16 +455,16 @@ impl ClientNode {
     }
 
     fn cached_bytes(&self, file: FileId, page: PageNo) -> Result<Option<PageBytes>, AllocError>
-        ensures { IfOk result (λ found. found ≡ rules.cached_bytes self.now file page (rules.dirty_of self.now.dirty file page)) }
+        ensures { IfOk result (λ found. found ≡ client.cached_bytes self.now file page (client.dirty_of self.now.dirty file page)) }
     {
         match dirty_of(&self.dirty, file, page) {
-            None => zeros_if_unmapped(self.alloc, known_of(&self.known, file.ino, page)),
+            None => Ok(zeros_if_unmapped(known_of(&self.known, file.ino, page))),
             Some(d) => Ok(Some(d.bytes.copy()?)),
         }
     }
 
     fn readable(&self, file: FileId, page: PageNo) -> Result<Option<PageBytes>, AllocError>
-        ensures { IfOk result (λ found. found ≡ rules.readable self.now file page) }
+        ensures { IfOk result (λ found. found ≡ client.readable self.now file page) }
     {
         if !has_mode(lock_of(&self.locks, file.ino), Mode::S) {
             return Ok(None);
@@ -482,7 +479,7 @@ impl ClientNode {
         file: FileId,
         page: PageNo,
     ) -> Result<(), AllocError>
-        ensures { OnOk result (turn self.new out.new.items ≡ rules.serve_read (turn self.old out.old.items) (record { op = op; ask = Ask.Read file page }) (rules.readable self.old file page)) }
+        ensures { OnOk result (turn self.new out.new.items ≡ client.asked_read (turn self.old out.old.items) op file page) }
     {
         match self.readable(file, page)? {
             Some(bytes) => {
@@ -500,7 +497,7 @@ impl ClientNode {
     }
 
     fn serve(&mut self, out: &mut Vec<Output>, p: Pending) -> Result<(), AllocError>
-        ensures { OnOk result (turn self.new out.new.items ≡ rules.serve (turn self.old out.old.items) p p.ask) }
+        ensures { OnOk result (turn self.new out.new.items ≡ client.serve (turn self.old out.old.items) p p.ask) }
     {
         let Pending { op, ask } = p;
         match ask {
@@ -511,7 +508,7 @@ impl ClientNode {
     }
 
     fn serve_all(&mut self, out: &mut Vec<Output>, asked: Vec<Pending>) -> Result<(), AllocError>
-        ensures { OnOk result (turn self.new out.new.items ≡ rules.serve_all (turn self.old out.old.items) asked.items) }
+        ensures { OnOk result (turn self.new out.new.items ≡ client.serve_all (turn self.old out.old.items) asked.items) }
     {
         let mut asked = asked;
         while !asked.is_empty() {
@@ -522,14 +519,14 @@ impl ClientNode {
     }
 
     fn operations(&mut self, out: &mut Vec<Output>) -> Result<(), AllocError>
-        ensures { OnOk result (turn self.new out.new.items ≡ rules.operations (turn self.old out.old.items)) }
+        ensures { OnOk result (turn self.new out.new.items ≡ client.operations (turn self.old out.old.items)) }
     {
         let asked = mem::replace(&mut self.pending, Vec::new(self.alloc));
         self.serve_all(out, asked)
     }
 
     fn message_of(&self, number: u64, body: Body) -> Message
-        ensures { result ≡ rules.message_of self.now number body }
+        ensures { result ≡ client.message_of self.now number body }
     {
         let header = Header {
             from: CLIENT,
@@ -543,7 +540,7 @@ impl ClientNode {
     }
 
     fn greet(&mut self, out: &mut Vec<Output>) -> Result<(), AllocError>
-        ensures { OnOk result (turn self.new out.new.items ≡ rules.greet (turn self.old out.old.items)) }
+        ensures { OnOk result (turn self.new out.new.items ≡ client.greet (turn self.old out.old.items)) }
     {
         if self.epoch == 0 && (!self.pending.is_empty() && !self.greeting) {
             let hello = self.message_of(0, Body::Hello);
@@ -554,14 +551,14 @@ impl ClientNode {
     }
 
     fn is_cached(&self, file: FileId, page: PageNo) -> bool
-        ensures { result ≡ rules.is_cached self.now file page }
+        ensures { result ≡ client.is_cached self.now file page }
     {
         dirty_of(&self.dirty, file, page).is_some()
             || known_of(&self.known, file.ino, page).is_some()
     }
 
     fn wants_page(&self, l: HeldLock, file: FileId, page: PageNo) -> Option<Body>
-        ensures { result ≡ rules.wants_page l self.now file page }
+        ensures { result ≡ client.wants_page l self.now file page }
     {
         if is_mapped(known_of(&self.known, file.ino, page)) {
             return None;
@@ -575,7 +572,7 @@ impl ClientNode {
     }
 
     fn wants_write(&self, file: FileId, page: PageNo) -> Option<Body>
-        ensures { result ≡ rules.wants_write (rules.lock_of self.now.locks file.ino) self.now file page }
+        ensures { result ≡ client.wants_write (client.lock_of self.now.locks file.ino) self.now file page }
     {
         match lock_of(&self.locks, file.ino) {
             Some(l) if l.mode.covers(Mode::X) => self.wants_page(l, file, page),
@@ -587,7 +584,7 @@ impl ClientNode {
     }
 
     fn wants_place(&self, l: HeldLock, file: FileId, page: PageNo) -> Option<Body>
-        ensures { result ≡ rules.wants_place l self.now file page }
+        ensures { result ≡ client.wants_place l self.now file page }
     {
         if self.is_cached(file, page) {
             return None;
@@ -600,7 +597,7 @@ impl ClientNode {
     }
 
     fn wants_read(&self, file: FileId, page: PageNo) -> Option<Body>
-        ensures { result ≡ rules.wants_read (rules.lock_of self.now.locks file.ino) self.now file page }
+        ensures { result ≡ client.wants_read (client.lock_of self.now.locks file.ino) self.now file page }
     {
         match lock_of(&self.locks, file.ino) {
             Some(l) if l.mode.covers(Mode::S) => self.wants_place(l, file, page),
@@ -612,7 +609,7 @@ impl ClientNode {
     }
 
     fn wants(&self, ask: &Ask) -> Option<Body>
-        ensures { result ≡ rules.wants self.now ask.now }
+        ensures { result ≡ client.wants self.now ask.now }
     {
         match ask {
             Ask::Write(file, page, _) => self.wants_write(*file, *page),
@@ -622,7 +619,7 @@ impl ClientNode {
     }
 
     fn first_want(&self) -> Option<Body>
-        ensures { result ≡ rules.first_want self.now self.now.pending }
+        ensures { result ≡ client.first_want self.now self.now.pending }
     {
         for p in &self.pending {
             if let Some(body) = self.wants(&p.ask) {
@@ -634,7 +631,7 @@ impl ClientNode {
 
     fn requested(&mut self, body: Body)
         requires { self.old.next < 2 ^ 62 }
-        ensures { self.new ≡ rules.requested self.old body }
+        ensures { self.new ≡ client.requested self.old body }
     {
         self.outstanding = Some(Request {
             number: self.next,
@@ -645,7 +642,7 @@ impl ClientNode {
 
     fn ask_with(&mut self, out: &mut Vec<Output>, body: Body) -> Result<(), AllocError>
         requires { self.old.next < 2 ^ 62 }
-        ensures { OnOk result (turn self.new out.new.items ≡ rules.ask_with (turn self.old out.old.items) (Some body)) }
+        ensures { OnOk result (turn self.new out.new.items ≡ client.ask_with (turn self.old out.old.items) (Some body)) }
     {
         let message = self.message_of(self.next, body.copy()?);
         out.push(Output::Send(message))?;
@@ -655,7 +652,7 @@ impl ClientNode {
 
     fn ask(&mut self, out: &mut Vec<Output>) -> Result<(), AllocError>
         requires { self.old.next < 2 ^ 62 }
-        ensures { OnOk result (turn self.new out.new.items ≡ rules.ask (turn self.old out.old.items)) }
+        ensures { OnOk result (turn self.new out.new.items ≡ client.ask (turn self.old out.old.items)) }
     {
         if self.epoch == 0 || self.outstanding.is_some() {
             return Ok(());
@@ -667,7 +664,7 @@ impl ClientNode {
     }
 
     fn take(&mut self, out: &mut Vec<Output>, input: ClientInput) -> Result<(), AllocError>
-        ensures { OnOk result (turn self.new out.new.items ≡ rules.take (turn self.old out.old.items) input) }
+        ensures { OnOk result (turn self.new out.new.items ≡ client.take (turn self.old out.old.items) input) }
     {
         match input {
             ClientInput::App { op, ask } => self.app(out, op, ask),
@@ -675,11 +672,11 @@ impl ClientNode {
         }
     }
 
-    /// Takes one input, and gives the outputs in their order.
+    /// Takes one input, and returns the outputs in their order.
     #[tactic(auto, unfolding(crate::specs::Client::client_step))]
     pub(crate) fn step(&mut self, input: ClientInput) -> Result<Vec<Output>, AllocError>
         requires { self.old.next < 2 ^ 62 }
-        ensures { IfOk result (λ out. turn self.new out.items ≡ rules.client_step self.old input) }
+        ensures { IfOk result (λ out. turn self.new out.items ≡ client.client_step self.old input) }
     {
         let mut out = Vec::new(self.alloc);
         self.take(&mut out, input)?;

@@ -13,8 +13,7 @@ pub enum WorldRefusal {
     NotBuilt,
 }
 
-/// Why a step of the world gave nothing. After want of memory nothing is promised of the world but that it can be
-/// dropped.
+/// Why a step of the world returned no observations. After `Memory` nothing is known of the world: discard it.
 #[derive(Clone, Copy, Debug, PartialEq, Eq, Error)]
 pub enum WorldFault {
     #[error(transparent)]

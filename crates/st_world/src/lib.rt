@@ -5,13 +5,13 @@
 mod client;
 mod fault;
 mod law;
-mod rows;
+mod machine_types;
 mod server;
 mod world;
 
 pub use fault::{WorldFault, WorldRefusal};
 pub use law::reads_return_last_writes;
-pub use rows::{
+pub use machine_types::{
     ClientInput, DirtyPage, HeldLock, KnownPage, LockRow, MappedPage, Observation, Pending,
     Request, Session,
 };

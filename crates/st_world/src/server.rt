@@ -1,11 +1,11 @@
 ghost use Rattle.std.specs.Prelude.{◌≡◌, ◌<◌, ◌-◌, ◌^◌, Some, IfOk, OnOk, filter, not, map};
 ghost use Rattle.std.specs.Option.{option_copied};
 ghost use Rattle.std.specs.List.{list_any};
-ghost use Rattle.st_world.specs.Server as rules;
+ghost use Rattle.st_world.specs.Server as server;
 ghost use Rattle.st_world.specs.Server.{answered};
 ghost use Rattle.st_world.specs.World.{fresh_server};
 
-use crate::rows::{LockRow, MappedPage, Session};
+use crate::machine_types::{LockRow, MappedPage, Session};
 use st_base::{BlockAt, DiskId, ExtentRow, ExtentRows, GrantNo, Mode, PageNo};
 use st_messages::{Body, Header, Message};
 use std::alloc::{AllocError, Global};
@@ -45,13 +45,13 @@ impl Model for ServerNode {
 }
 
 fn is_file(ino: u32) -> bool
-    ensures { result ≡ rules.is_file ino }
+    ensures { result ≡ server.is_file ino }
 {
     2 <= ino && ino <= 9
 }
 
 fn row_of(rows: &[LockRow], client: u16, ino: u32) -> Option<LockRow>
-    ensures { result ≡ rules.row_of rows.now client ino }
+    ensures { result ≡ server.row_of rows.now client ino }
 {
     rows.iter()
         .copied()
@@ -59,25 +59,25 @@ fn row_of(rows: &[LockRow], client: u16, ino: u32) -> Option<LockRow>
 }
 
 fn is_contested(rows: &[LockRow], client: u16, ino: u32, mode: Mode) -> bool
-    ensures { result ≡ list_any (rules.stands_against client ino mode) rows.now }
+    ensures { result ≡ list_any (server.stands_against client ino mode) rows.now }
 {
     rows.iter().any(|r| r.ino == ino && (!(r.client == client) && r.mode.conflicts(mode)))
 }
 
 fn drop_row(rows: &mut Vec<LockRow>, client: u16, ino: u32)
-    ensures { rows.new.items ≡ filter (λ r. not (rules.is_row_of client ino r)) rows.old.items }
+    ensures { rows.new.items ≡ filter (λ r. not (server.is_row_of client ino r)) rows.old.items }
 {
     rows.retain(|r| !(r.client == client && r.ino == ino));
 }
 
 fn session_of(sessions: &[Session], client: u16) -> Option<&Session>
-    ensures { option_copied result ≡ rules.session_of sessions.now client }
+    ensures { option_copied result ≡ server.session_of sessions.now client }
 {
     sessions.iter().find(|s| s.client == client)
 }
 
 fn extent_of(extents: &[MappedPage], ino: u32, page: PageNo) -> Option<MappedPage>
-    ensures { result ≡ rules.extent_of extents.now ino page.0 }
+    ensures { result ≡ server.extent_of extents.now ino page.0 }
 {
     extents
         .iter()
@@ -86,7 +86,7 @@ fn extent_of(extents: &[MappedPage], ino: u32, page: PageNo) -> Option<MappedPag
 }
 
 fn rows_with(alloc: Global, found: Option<MappedPage>) -> Result<ExtentRows, AllocError>
-    ensures { IfOk result (λ rows. rows ≡ rules.rows_with found) }
+    ensures { IfOk result (λ rows. rows ≡ server.rows_with found) }
 {
     let mut rows = Vec::new(alloc);
     if let Some(e) = found {
@@ -96,7 +96,7 @@ fn rows_with(alloc: Global, found: Option<MappedPage>) -> Result<ExtentRows, All
 }
 
 fn has_grant(row: Option<LockRow>, g: GrantNo) -> bool
-    ensures { result ≡ rules.has_grant row g }
+    ensures { result ≡ server.has_grant row g }
 {
     match row {
         None => false,
@@ -105,7 +105,7 @@ fn has_grant(row: Option<LockRow>, g: GrantNo) -> bool
 }
 
 fn has_writer(row: Option<LockRow>, g: GrantNo) -> bool
-    ensures { result ≡ rules.has_writer row g }
+    ensures { result ≡ server.has_writer row g }
 {
     match row {
         None => false,
@@ -128,7 +128,7 @@ fn store_at(
     number: u64,
     reply: &Option<Body>,
 ) -> Result<(), AllocError>
-    ensures { OnOk result (s.new ≡ rules.stored client number reply.now s.old) }
+    ensures { OnOk result (s.new ≡ server.stored client number reply.now s.old) }
 {
     if s.client == client {
         s.reply = copy_reply(reply)?;
@@ -144,7 +144,7 @@ fn store(
     number: u64,
     reply: &Option<Body>,
 ) -> Result<(), AllocError>
-    ensures { OnOk result (sessions.new.items ≡ map (rules.stored client number reply.now) sessions.old.items) }
+    ensures { OnOk result (sessions.new.items ≡ map (server.stored client number reply.now) sessions.old.items) }
 {
     for s in sessions.iter_mut() {
         store_at(s, client, number, reply)?;
@@ -167,7 +167,7 @@ impl ServerNode {
     }
 
     fn hello(&mut self, h: Header) -> Result<Option<Body>, AllocError>
-        ensures { IfOk result (λ reply. answered self.new reply ≡ rules.hello self.old h) }
+        ensures { IfOk result (λ reply. answered self.new reply ≡ server.hello self.old h) }
     {
         if let Some(s) = session_of(&self.sessions, h.from) {
             return Ok(if s.life == h.life {
@@ -187,7 +187,7 @@ impl ServerNode {
 
     fn grant(&mut self, row: LockRow) -> Result<Option<Body>, AllocError>
         requires { self.old.grants < 2 ^ 32 - 1 }
-        ensures { IfOk result (λ reply. answered self.new reply ≡ rules.grant self.old row) }
+        ensures { IfOk result (λ reply. answered self.new reply ≡ server.grant self.old row) }
     {
         drop_row(&mut self.rows, row.client, row.ino);
         self.rows.push(row)?;
@@ -201,7 +201,7 @@ impl ServerNode {
 
     fn acquire_new(&mut self, client: u16, ino: u32, mode: Mode) -> Result<Option<Body>, AllocError>
         requires { self.old.grants < 2 ^ 32 - 1 }
-        ensures { IfOk result (λ reply. answered self.new reply ≡ rules.acquire_new self.old client ino mode) }
+        ensures { IfOk result (λ reply. answered self.new reply ≡ server.acquire_new self.old client ino mode) }
     {
         if is_contested(&self.rows, client, ino, mode) {
             return Ok(None);
@@ -217,7 +217,7 @@ impl ServerNode {
 
     fn acquire(&mut self, client: u16, ino: u32, mode: Mode) -> Result<Option<Body>, AllocError>
         requires { self.old.grants < 2 ^ 32 - 1 }
-        ensures { IfOk result (λ reply. answered self.new reply ≡ rules.acquire self.old client ino mode) }
+        ensures { IfOk result (λ reply. answered self.new reply ≡ server.acquire self.old client ino mode) }
     {
         if !is_file(ino) {
             return Ok(None);
@@ -234,7 +234,7 @@ impl ServerNode {
     }
 
     fn extents_with(&self, ino: u32, found: Option<MappedPage>) -> Result<Option<Body>, AllocError>
-        ensures { IfOk result (λ reply. answered self.now reply ≡ rules.extents_with self.now ino found) }
+        ensures { IfOk result (λ reply. answered self.now reply ≡ server.extents_with self.now ino found) }
     {
         let rows = rows_with(self.alloc, found)?;
         Ok(Some(Body::Extents { ino, rows }))
@@ -247,7 +247,7 @@ impl ServerNode {
         g: GrantNo,
         page: PageNo,
     ) -> Result<Option<Body>, AllocError>
-        ensures { IfOk result (λ reply. answered self.now reply ≡ rules.map_page self.now client ino g page) }
+        ensures { IfOk result (λ reply. answered self.now reply ≡ server.map_page self.now client ino g page) }
     {
         if !(is_file(ino) && has_grant(row_of(&self.rows, client, ino), g)) {
             return Ok(None);
@@ -256,14 +256,14 @@ impl ServerNode {
     }
 
     fn map_new(&mut self, ino: u32, e: MappedPage) -> Result<Option<Body>, AllocError>
-        ensures { IfOk result (λ reply. answered self.new reply ≡ rules.map_new self.old ino e) }
+        ensures { IfOk result (λ reply. answered self.new reply ≡ server.map_new self.old ino e) }
     {
         self.extents.push(e)?;
         self.extents_with(ino, Some(e))
     }
 
     fn allocate_new(&mut self, ino: u32, page: PageNo) -> Result<Option<Body>, AllocError>
-        ensures { IfOk result (λ reply. answered self.new reply ≡ rules.allocate_new self.old ino page) }
+        ensures { IfOk result (λ reply. answered self.new reply ≡ server.allocate_new self.old ino page) }
     {
         let mapped = self.extents.len();
         if mapped >= BLOCKS {
@@ -285,7 +285,7 @@ impl ServerNode {
         g: GrantNo,
         page: PageNo,
     ) -> Result<Option<Body>, AllocError>
-        ensures { IfOk result (λ reply. answered self.new reply ≡ rules.allocate self.old client ino g page) }
+        ensures { IfOk result (λ reply. answered self.new reply ≡ server.allocate self.old client ino g page) }
     {
         if !(is_file(ino) && has_writer(row_of(&self.rows, client, ino), g)) {
             return Ok(None);
@@ -298,7 +298,7 @@ impl ServerNode {
 
     fn rule(&mut self, client: u16, body: &Body) -> Result<Option<Body>, AllocError>
         requires { self.old.grants < 2 ^ 32 - 1 }
-        ensures { IfOk result (λ reply. answered self.new reply ≡ rules.rule self.old client body.now) }
+        ensures { IfOk result (λ reply. answered self.new reply ≡ server.rule self.old client body.now) }
     {
         match body {
             Body::Acquire { ino, mode } => self.acquire(client, *ino, *mode),
@@ -310,7 +310,7 @@ impl ServerNode {
 
     fn keep(&mut self, client: u16, number: u64, body: &Body) -> Result<Option<Body>, AllocError>
         requires { self.old.grants < 2 ^ 32 - 1 }
-        ensures { IfOk result (λ reply. answered self.new reply ≡ rules.keep client number (rules.rule self.old client body.now)) }
+        ensures { IfOk result (λ reply. answered self.new reply ≡ server.keep client number (server.rule self.old client body.now)) }
     {
         let reply = self.rule(client, body)?;
         store(&mut self.sessions, client, number, &reply)?;
@@ -319,7 +319,7 @@ impl ServerNode {
 
     fn request(&mut self, h: Header, body: &Body) -> Result<Option<Body>, AllocError>
         requires { self.old.grants < 2 ^ 32 - 1 }
-        ensures { IfOk result (λ reply. answered self.new reply ≡ rules.request self.old h body.now) }
+        ensures { IfOk result (λ reply. answered self.new reply ≡ server.request self.old h body.now) }
     {
         if h.epoch != self.epoch {
             return Ok(None);
@@ -342,7 +342,7 @@ impl ServerNode {
 
     fn answer(&mut self, h: Header, body: &Body) -> Result<Option<Body>, AllocError>
         requires { self.old.grants < 2 ^ 32 - 1 }
-        ensures { IfOk result (λ reply. answered self.new reply ≡ rules.answer self.old h body.now) }
+        ensures { IfOk result (λ reply. answered self.new reply ≡ server.answer self.old h body.now) }
     {
         match body {
             Body::Hello => self.hello(h),
@@ -351,7 +351,7 @@ impl ServerNode {
     }
 
     fn reply_to(&self, h: Header, body: Body) -> Message
-        ensures { result ≡ rules.reply_to self.now h body }
+        ensures { result ≡ server.reply_to self.now h body }
     {
         let header = Header {
             from: SERVER,
@@ -364,11 +364,11 @@ impl ServerNode {
         Message { header, body }
     }
 
-    /// Takes one message, and gives what is sent, if something is.
+    /// Takes one message, and returns the reply, if there is one.
     #[tactic(auto, unfolding(crate::specs::Server::server_step))]
     pub(crate) fn step(&mut self, m: &Message) -> Result<Option<Message>, AllocError>
         requires { self.old.grants < 2 ^ 32 - 1 }
-        ensures { IfOk result (λ sent. record { state = self.new; sent = sent } ≡ rules.server_step self.old m.now) }
+        ensures { IfOk result (λ sent. record { state = self.new; sent = sent } ≡ server.server_step self.old m.now) }
     {
         match self.answer(m.header, &m.body)? {
             None => Ok(None),

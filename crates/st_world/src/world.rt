@@ -2,13 +2,13 @@ ghost use Rattle.std.specs.Prelude.{◌≡◌, ◌+◌, ◌-◌, ◌<◌, ◌^�
 ghost use Rattle.std.specs.Option.{option_copied};
 ghost use Rattle.st_world.specs.Client.{client_step};
 ghost use Rattle.st_world.specs.Server.{server_step};
-ghost use Rattle.st_world.specs.World as rules;
+ghost use Rattle.st_world.specs.World as world;
 ghost use Rattle.st_world.specs.World.{scene, IsBounded, reads_in, asks_in};
 ghost use Rattle.st_world.specs.Steps.{StepsAs};
 
 use crate::client::{CLIENT, ClientNode};
 use crate::fault::{WorldFault, WorldRefusal};
-use crate::rows::{ClientInput, Observation};
+use crate::machine_types::{ClientInput, Observation};
 use crate::server::ServerNode;
 use st_base::{ClientId, FileId, Life, PageBytes, PageNo};
 use st_messages::{AppAnswer, Ask, Event, Message, Note, Output};
@@ -18,7 +18,7 @@ use std::marker::Model;
 
 const THE_CLIENT: ClientId = ClientId(1);
 
-/// One client, one server, and what lies between them.
+/// One client, one server, the messages between them, and the log.
 #[derive(Drop)]
 pub struct World {
     alloc: Global,
@@ -48,7 +48,7 @@ impl Model for World {
 }
 
 fn message_at(sent: &[Message], k: u64) -> Option<&Message>
-    ensures { option_copied result ≡ rules.message_at sent.now k }
+    ensures { option_copied result ≡ world.message_at sent.now k }
 {
     if k == 0 || k > sent.len() as u64 {
         return None;
@@ -57,7 +57,7 @@ fn message_at(sent: &[Message], k: u64) -> Option<&Message>
 }
 
 fn is_read(answer: &AppAnswer) -> u64
-    ensures { result ≡ rules.is_read answer.now }
+    ensures { result ≡ world.is_read answer.now }
 {
     match answer {
         AppAnswer::Read(_) => 1,
@@ -66,13 +66,13 @@ fn is_read(answer: &AppAnswer) -> u64
 }
 
 fn is_the_page(file: FileId, page: PageNo) -> bool
-    ensures { result ≡ rules.is_the_page file page }
+    ensures { result ≡ world.is_the_page file page }
 {
     file.server.0 == 1 && (file.ino == 2 && page.0 == 0)
 }
 
 fn is_path_ask(ask: &Ask) -> bool
-    ensures { result ≡ rules.is_path_ask ask.now }
+    ensures { result ≡ world.is_path_ask ask.now }
 {
     match ask {
         Ask::Write(file, page, _) => is_the_page(*file, *page),
@@ -84,7 +84,7 @@ fn is_path_ask(ask: &Ask) -> bool
 impl World {
     /// The world in which nothing has happened yet.
     pub fn fresh(alloc: Global) -> World
-        ensures world { result ≡ rules.fresh_world }
+        ensures world { result ≡ world.fresh_world }
         ensures bounded { IsBounded result }
     {
         World {
@@ -121,7 +121,7 @@ impl World {
     }
 
     fn send(&mut self, seen: &mut Vec<Observation>, message: Message) -> Result<(), AllocError>
-        ensures { OnOk result (scene self.new seen.new.items ≡ rules.sends (scene self.old seen.old.items) message) }
+        ensures { OnOk result (scene self.new seen.new.items ≡ world.sends (scene self.old seen.old.items) message) }
     {
         self.sent.push(message.copy()?)?;
         let k = self.sent.len() as u64;
@@ -136,7 +136,7 @@ impl World {
         answer: AppAnswer,
     ) -> Result<(), AllocError>
         requires { self.old.reads < 2 ^ 62 }
-        ensures { OnOk result (scene self.new seen.new.items ≡ rules.answers_with (scene self.old seen.old.items) op answer) }
+        ensures { OnOk result (scene self.new seen.new.items ≡ world.answers_with (scene self.old seen.old.items) op answer) }
     {
         self.reads += is_read(&answer);
         seen.push(Observation::Answered {
@@ -154,7 +154,7 @@ impl World {
         page: PageNo,
         bytes: PageBytes,
     ) -> Result<(), AllocError>
-        ensures { OnOk result (scene self.new seen.new.items ≡ rules.writes (scene self.old seen.old.items) file page bytes) }
+        ensures { OnOk result (scene self.new seen.new.items ≡ world.writes (scene self.old seen.old.items) file page bytes) }
     {
         let index = self.log.accept(THE_CLIENT, Life(1), file, page, &bytes)?;
         seen.push(Observation::Wrote {
@@ -169,7 +169,7 @@ impl World {
 
     fn emit(&mut self, seen: &mut Vec<Observation>, output: Output) -> Result<(), AllocError>
         requires { self.old.reads < 2 ^ 62 }
-        ensures { OnOk result (scene self.new seen.new.items ≡ rules.emit (scene self.old seen.old.items) output) }
+        ensures { OnOk result (scene self.new seen.new.items ≡ world.emit (scene self.old seen.old.items) output) }
     {
         match output {
             Output::Send(message) => self.send(seen, message),
@@ -191,7 +191,7 @@ impl World {
 
     fn emit_all(&mut self, outputs: Vec<Output>) -> Result<Vec<Observation>, AllocError>
         requires { self.old.reads + reads_in outputs.items < 2 ^ 62 }
-        ensures { IfOk result (λ seen. scene self.new seen.items ≡ rules.emit_all (scene self.old []) outputs.items) }
+        ensures { IfOk result (λ seen. scene self.new seen.items ≡ world.emit_all (scene self.old []) outputs.items) }
     {
         let mut seen = Vec::new(self.alloc);
         let mut outputs = outputs;
@@ -205,7 +205,7 @@ impl World {
     fn step_client(&mut self, input: ClientInput) -> Result<Vec<Observation>, AllocError>
         requires next { self.old.client.next < 2 ^ 62 }
         requires reads { self.old.reads + length self.old.client.pending + asks_in input < 2 ^ 62 }
-        ensures { IfOk result (λ seen. scene self.new seen.items ≡ rules.with_client self.old (client_step self.old.client input)) }
+        ensures { IfOk result (λ seen. scene self.new seen.items ≡ world.with_client self.old (client_step self.old.client input)) }
     {
         let outputs = self.client.step(input)?;
         self.emit_all(outputs)
@@ -213,7 +213,7 @@ impl World {
 
     fn step_server(&mut self, m: &Message) -> Result<Vec<Observation>, AllocError>
         requires { self.old.server.grants < 2 ^ 32 - 1 }
-        ensures { IfOk result (λ seen. scene self.new seen.items ≡ rules.with_server self.old (server_step self.old.server m.now)) }
+        ensures { IfOk result (λ seen. scene self.new seen.items ≡ world.with_server self.old (server_step self.old.server m.now)) }
     {
         let mut seen = Vec::new(self.alloc);
         if let Some(reply) = self.server.step(m)? {
@@ -226,7 +226,7 @@ impl World {
         requires next { self.old.client.next < 2 ^ 62 }
         requires reads { self.old.reads + length self.old.client.pending + 1 < 2 ^ 62 }
         requires asked { self.old.asked < 2 ^ 32 - 1 }
-        ensures { IfOk result (λ seen. scene self.new seen.items ≡ rules.asks self.old ask) }
+        ensures { IfOk result (λ seen. scene self.new seen.items ≡ world.asks self.old ask) }
     {
         self.asked += 1;
         let op = self.asked;
@@ -237,7 +237,7 @@ impl World {
         requires next { self.old.client.next < 2 ^ 62 }
         requires reads { self.old.reads + length self.old.client.pending < 2 ^ 62 }
         requires grants { self.old.server.grants < 2 ^ 32 - 1 }
-        ensures { IfOk result (λ seen. scene self.new seen.items ≡ rules.delivers self.old m) }
+        ensures { IfOk result (λ seen. scene self.new seen.items ≡ world.delivers self.old m) }
     {
         if m.header.to == CLIENT {
             self.step_client(ClientInput::Control(m))
@@ -249,7 +249,7 @@ impl World {
     fn counted_ask(&mut self, ask: Ask) -> Result<Vec<Observation>, AllocError>
         requires bounded { IsBounded self.old }
         requires room { self.old.events < 2 ^ 29 }
-        ensures { IfOk result (λ seen. scene self.new seen.items ≡ rules.asks (rules.counted self.old) ask) }
+        ensures { IfOk result (λ seen. scene self.new seen.items ≡ world.asks (world.counted self.old) ask) }
     {
         self.events += 1;
         self.ask(ask)
@@ -258,7 +258,7 @@ impl World {
     fn counted_delivery(&mut self, m: Message) -> Result<Vec<Observation>, AllocError>
         requires bounded { IsBounded self.old }
         requires room { self.old.events < 2 ^ 29 }
-        ensures { IfOk result (λ seen. scene self.new seen.items ≡ rules.delivers (rules.counted self.old) m) }
+        ensures { IfOk result (λ seen. scene self.new seen.items ≡ world.delivers (world.counted self.old) m) }
     {
         self.events += 1;
         self.deliver(m)
@@ -267,7 +267,7 @@ impl World {
     fn app(&mut self, client: ClientId, ask: Ask) -> Result<Vec<Observation>, WorldFault>
         requires bounded { IsBounded self.old }
         requires room { self.old.events < 2 ^ 29 }
-        ensures { StepsAs (λ seen. seen.items) self.old self.new result (rules.app_step self.old client ask) }
+        ensures { StepsAs (λ seen. seen.items) self.old self.new result (world.app_step self.old client ask) }
     {
         if !(client.0 == 1 && is_path_ask(&ask)) {
             return Err(WorldFault::Refused(WorldRefusal::NotBuilt));
@@ -278,7 +278,7 @@ impl World {
     fn delivery(&mut self, k: u64) -> Result<Vec<Observation>, WorldFault>
         requires bounded { IsBounded self.old }
         requires room { self.old.events < 2 ^ 29 }
-        ensures { StepsAs (λ seen. seen.items) self.old self.new result (rules.deliver_at self.old k (rules.message_at self.old.sent k)) }
+        ensures { StepsAs (λ seen. seen.items) self.old self.new result (world.deliver_at self.old k (world.message_at self.old.sent k)) }
     {
         match message_at(&self.sent, k) {
             None => Err(WorldFault::Refused(WorldRefusal::NoMessage(k))),
@@ -292,7 +292,7 @@ impl World {
     fn any(&mut self, event: Event) -> Result<Vec<Observation>, WorldFault>
         requires bounded { IsBounded self.old }
         requires room { self.old.events < 2 ^ 29 }
-        ensures { StepsAs (λ seen. seen.items) self.old self.new result (rules.world_step self.old event) }
+        ensures { StepsAs (λ seen. seen.items) self.old self.new result (world.world_step self.old event) }
     {
         match event {
             Event::App { client, ask } => self.app(client, ask),
@@ -301,12 +301,12 @@ impl World {
         }
     }
 
-    /// One event, and what is observed of it. A refusal changes nothing; after want of memory nothing is promised of the
-    /// world but that it can be dropped.
+    /// Runs one event, and returns what is observed of it. A refusal changes nothing. Where memory runs out nothing is known
+    /// of the world: discard it.
     pub fn step(&mut self, event: Event) -> Result<Vec<Observation>, WorldFault>
         requires bounded { IsBounded self.old }
         requires room { self.old.events < 2 ^ 29 }
-        ensures machine { StepsAs (λ seen. seen.items) self.old self.new result (rules.world_step self.old event) }
+        ensures machine { StepsAs (λ seen. seen.items) self.old self.new result (world.world_step self.old event) }
         ensures bounded { OnOk result (IsBounded self.new) }
         ensures events { OnOk result (self.new.events ≡ self.old.events + 1) }
     {

@@ -1,4 +1,4 @@
-use Rattle.st_schedule.proofs.Found.{read_is_spelled, end_is_spelled}
+use Rattle.st_schedule.proofs.EventsWereWritten.{read_is_spelled, end_is_spelled}
 use Rattle.st_schedule.proofs.law.what_is_read_is_spelled_so.Goals as goal
 
 pub returns : goal.returns

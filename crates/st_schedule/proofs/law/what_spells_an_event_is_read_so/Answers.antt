@@ -1,4 +1,4 @@
-use Rattle.st_schedule.proofs.Again.{spelled_is_read}
+use Rattle.st_schedule.proofs.EventsAreRead.{spelled_is_read}
 use Rattle.st_schedule.proofs.law.what_spells_an_event_is_read_so.Goals as goal
 
 pub returns : goal.returns

@@ -1,4 +1,4 @@
-use Rattle.st_tank.proofs.Ends.{read_report, reported, prefixed, cut_off, read_through}
+use Rattle.st_tank.proofs.ReadAndWritten.{read_report, reported, prefixed, cut_off, read_through}
 use Rattle.st_tank.proofs.program.replay.Goals as goal
 
 pub returns-in-Ok-put_all-clause-report : goal.returns-in-Ok-put_all-clause-report

@@ -1,6 +1,6 @@
 use Rattle.std.proofs.Common.{string_bytes}
 use Rattle.st_tank.specs.Schedule.{lines_of}
-use Rattle.st_tank.proofs.Turns.{stopped}
+use Rattle.st_tank.proofs.RefusedLine.{stopped}
 use Rattle.st_tank.proofs.replay.put_events.Goals as goal
 
 pub returns-in-None : goal.returns-in-None

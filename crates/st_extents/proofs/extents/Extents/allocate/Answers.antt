@@ -1,5 +1,5 @@
 use Rattle.std.proofs.Common.{arith, refl, ◌∙◌}
-use Rattle.st_extents.specs.Layout.{extents}
+use Rattle.st_extents.specs.Layout.{with_shape}
 use Rattle.st_extents.proofs.Blocks.{allocate_gives, allocate_refuses}
 use Rattle.st_extents.proofs.Owned.{allocated_sound}
 use Rattle.st_extents.proofs.extents.Extents.allocate.Goals as goal
@@ -7,7 +7,7 @@ use Rattle.st_extents.proofs.extents.Extents.allocate.Goals as goal
 pub returns-then-free-asked-clause-exact : goal.returns-then-free-asked-clause-exact
 returns-then-free-asked-clause-exact c = (
   rw (← c.self.view_is)
-      (allocate_refuses (extents c.self.inside.layout c.self.inside.rows.items c.self.inside.births) c.args.file c.args.page c.args.count c.in_ok-pages.pages.items _ _
+      (allocate_refuses (with_shape c.self.inside.layout c.self.inside.rows.items c.self.inside.births) c.args.file c.args.page c.args.count c.in_ok-pages.pages.items _ _
       (rw c.as_slice.ensures.value at c.in_ok-pages.ensures.pages)
       (rw c.as_slice-2.ensures.value at (c.from.ensures ∙ c.free-free.ensures c.self.inside.births))
       (c.len-asked.ensures ∙ c.in_ok-pages.pages.ok.0)
@@ -24,7 +24,7 @@ invariant_of-self-2 c =
 pub returns-clause-exact : goal.returns-clause-exact
 returns-clause-exact c =
     rw (← c.self.view_is)
-    (allocate_gives (extents c.self.inside.layout c.self.inside.rows.items c.self.inside.births) (extents c.self.inside.layout c.place_pages-self-inside.new.rows.items c.place_pages-self-inside.result) c.args.file c.args.page c.args.count c.in_ok-pages.pages.items _ _
+    (allocate_gives (with_shape c.self.inside.layout c.self.inside.rows.items c.self.inside.births) (with_shape c.self.inside.layout c.place_pages-self-inside.new.rows.items c.place_pages-self-inside.result) c.args.file c.args.page c.args.count c.in_ok-pages.pages.items _ _
     (rw c.as_slice.ensures.value at c.in_ok-pages.ensures.pages)
     (rw c.as_slice-2.ensures.value at (c.free-free.ensures c.self.inside.births))
     (c.len-asked.ensures ∙ c.in_ok-pages.pages.ok.0)

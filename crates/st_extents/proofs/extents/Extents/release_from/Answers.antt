@@ -7,9 +7,9 @@ pub invariant_of-self : goal.invariant_of-self
 unfolding release_from
 invariant_of-self c = rw c.release.ensures (released_sound _ c.args.file c.args.page c.self.invariant)
 
-pub returns-clause-ok : goal.returns-clause-ok
+pub returns-clause-released : goal.returns-clause-released
 unfolding release_from
-returns-clause-ok c = rw (← c.self.view_is, c.release.ensures) refl
+returns-clause-released c = rw (← c.self.view_is, c.release.ensures) refl
 
 pub returns-clause-owned : goal.returns-clause-owned
 unfolding release_from

@@ -1,14 +1,15 @@
 use Rattle.std.proofs.Common.{sym, ◌∙◌, refl, inl}
 use Rattle.std.proofs.lemmas.Result.{err_from_is_err_and}
-use Rattle.st_namespace.proofs.Rules.{rename_first_place, rename_second_place, rename_refused, rename_gives}
+use Rattle.st_namespace.proofs.Rules.{refuses, rename_first_place, rename_second_place, rename_refused, rename_gives}
 use Rattle.st_namespace.proofs.Kept.{renamed_in_order}
 use Rattle.st_namespace.proofs.names.Names.rename.Goals as goal
 
 pub returns-in-Some-clause-exact : goal.returns-in-Some-clause-exact
-returns-in-Some-clause-exact c = (inl (rename_first_place _ _ _ _ _ _ (sym c.in-Some.is ∙ c.place_refusal.ensures)), refl)
+returns-in-Some-clause-exact c = (inl (rw c.told.ensures (refuses _ _ (rename_first_place _ _ _ _ _ _ (sym c.in-Some.is ∙ c.place_refusal.ensures)))), refl)
 
 pub returns-in-Some-place_refusal-clause-exact : goal.returns-in-Some-place_refusal-clause-exact
-returns-in-Some-place_refusal-clause-exact c = (inl (rename_second_place _ _ _ _ _ _ (sym c.in_default.is ∙ c.place_refusal.ensures) (sym c.in-Some-place_refusal.is ∙ c.place_refusal-2.ensures)), refl)
+returns-in-Some-place_refusal-clause-exact c =
+    (inl (rw c.told-in-Some-place_refusal.ensures (refuses _ _ (rename_second_place _ _ _ _ _ _ (sym c.in_default.is ∙ c.place_refusal.ensures) (sym c.in-Some-place_refusal.is ∙ c.place_refusal-2.ensures)))), refl)
 
 pub returns-in_err-ino-clause-exact : goal.returns-in_err-ino-clause-exact
 returns-in_err-ino-clause-exact c =

@@ -1,4 +1,4 @@
-use Rattle.st_schedule.proofs.Whole.{answer_is_spelled, answer_is_read}
+use Rattle.st_schedule.proofs.LinesAsSpelled.{answer_is_spelled, answer_is_read}
 use Rattle.st_schedule.proofs.reader.ScheduleReader.line.Goals as goal
 
 pub returns-clause-spelled : goal.returns-clause-spelled

@@ -1,0 +1,120 @@
+-- What is observed of a client's outputs in the world: its reads and its syncs are answered by the log at them.
+use Rattle.std.proofs.Common.{◌≡◌, ◌+◌, true, List, [], ◌∷◌, ◌++◌, Option, Some, None, refl, sym, ap, ◌∙◌, subst, append_assoc}
+use Rattle.std.specs.Prelude.{length}
+use Rattle.std.specs.List.{list_all}
+use Rattle.st_base.specs.declared.ids.ClientId.{ClientId}
+use Rattle.st_base.specs.declared.ids.ServerId.{ServerId}
+use Rattle.st_base.specs.declared.ids.Life.{Life}
+use Rattle.st_messages.specs.declared.ask.Ask.{Ask}
+use Rattle.st_messages.specs.declared.ask.Ask.TheVariants as asks
+use Rattle.st_messages.specs.declared.answer.AppAnswer.{AppAnswer}
+use Rattle.st_messages.specs.declared.answer.AppAnswer.TheVariants as answers
+use Rattle.st_messages.specs.declared.output.Note.{Note}
+use Rattle.st_messages.specs.declared.output.Note.TheVariants as notes
+use Rattle.st_messages.specs.declared.output.Output.{Output}
+use Rattle.st_messages.specs.declared.output.Output.TheVariants as outputs
+use Rattle.st_rules.specs.declared.log.LogEntry.{LogEntry}
+use Rattle.st_rules.specs.declared.observation.Observation.{Observation}
+use Rattle.st_rules.specs.declared.observation.Observation.TheVariants as seen
+use Rattle.st_rules.specs.ClientState.{ClientState}
+use Rattle.st_rules.specs.World.{World, ClientSite, site_of}
+use Rattle.st_rules.specs.Events as ev
+use Rattle.st_rules.specs.Events.{Scene, client_says, client_says_all, client_notes, present_life}
+use Rattle.st_rules.specs.FlatLog as log
+use Rattle.st_rules.specs.Safety as safety
+use Rattle.st_laws_client.proofs.Steps.{nothing_more}
+use Rattle.st_laws_client.proofs.World.{told_one, lives_same}
+use Rattle.st_laws_copies.specs.Copies.{Right, Right_one, Hard_right}
+use Rattle.st_laws_copies.specs.Law.{Steps_answer_right}
+
+-- reads and syncs, at an observation
+abbrev Fact : List safety.Step → safety.Step → List LogEntry → Observation → Type 0
+Fact past x es o = safety.IsLast past x es o × safety.IsHardAt past x es o
+
+-- what is observed of outputs: each answer of a read has the bytes of the log at it
+pub record Seen_right (past : List safety.Step) (x : safety.Step) (old : List Observation) (sc : Scene) (new : Scene) : Type 0 where
+  pub more : List Observation
+  pub is : new.seen ≡ old ++ more
+  pub right : safety.AtEach (Fact past x) x.after.world sc.world.log more
+  pub log : safety.log_told x.after.world sc.world.log more ≡ new.world.log
+
+at_both : (fact : List LogEntry → Observation → Type 0) (w : World) (es : List LogEntry) (os ps : List Observation) → safety.AtEach fact w es os → safety.AtEach fact w (safety.log_told w es os) ps → safety.AtEach fact w es (os ++ ps)
+unfolding safety.AtEach safety.log_told
+at_both fact w es [] ps a b = b
+at_both fact w es (o ∷ os) ps a b = (a.0, at_both fact w (safety.log_behind w es o) os ps a.1 b)
+
+told_both : (w : World) (es : List LogEntry) (os ps : List Observation) → safety.log_told w es (os ++ ps) ≡ safety.log_told w (safety.log_told w es os) ps
+unfolding safety.log_told
+told_both w es [] ps = refl
+told_both w es (o ∷ os) ps = told_both w (safety.log_behind w es o) os ps
+
+seen_one : (past : List safety.Step) (x : safety.Step) (c : ClientId) (before : ClientState) (o : Output) (sc : Scene) → ◌≡◌ {A = ServerId → Life} (present_life x.after.world c) (present_life sc.world c) →
+    Right_one (safety.ask_of past x c) c (present_life sc.world c) sc.world.log o → Seen_right past x sc.seen sc (client_says sc c before o)
+unfolding client_says ev.sends ev.submits ev.answers_with client_notes ev.accepts ev.patches ev.loses safety.AtEach safety.log_behind safety.log_told
+seen_one past x c before (outputs.Send m) sc l r = record { more = _ ∷ []; is = refl; right = ((tt, refl), tt); log = refl }
+seen_one past x c before (outputs.Answer op a) sc l r = record { more = seen.Answered c op a ∷ []; is = refl; right = ((answer a r, hard a r), tt); log = refl }
+  where
+    answer : (a : AppAnswer) → Right_one (safety.ask_of past x c) c (present_life sc.world c) sc.world.log (outputs.Answer op a) → safety.IsLastAnswer past x c op sc.world.log a
+    answer (answers.Read bytes) r = r
+    answer a r = tt
+
+    sync : (a : Option Ask) → Hard_right c (present_life sc.world c) sc.world.log a → safety.all_hard x.after.world c sc.world.log a ≡ true
+    sync (Some (asks.Sync f)) r = ap (λ (v : ServerId → Life). list_all (safety.is_hard_of c (v f.server) f) sc.world.log) l ∙ r
+    sync a r = elim r [ ]
+
+    hard : (a : AppAnswer) → Right_one (safety.ask_of past x c) c (present_life sc.world c) sc.world.log (outputs.Answer op a) → safety.answer_is_hard past x c op sc.world.log a ≡ true
+    hard answers.Hard r = sync (safety.ask_of past x c op) r
+    hard a r = refl
+seen_one past x c before (outputs.Submit n at what) sc l r = go (site_of sc.world c)
+  where
+    go : (o : Option ClientSite) → Seen_right past x sc.seen sc (ev.submits sc c o n at what)
+    go None = record { more = []; is = sym (nothing_more sc.seen); right = tt; log = refl }
+    go (Some s) = record { more = _ ∷ []; is = refl; right = ((tt, refl), tt); log = refl }
+seen_one past x c before (outputs.Note n) sc l r = note n
+  where
+    note : (n : Note) → Seen_right past x sc.seen sc (client_notes sc c before n)
+    note (notes.Leased s end) = record { more = seen.Leased c s end ∷ []; is = refl; right = ((tt, refl), tt); log = refl }
+    note (notes.Lost s life) = record { more = seen.Lost c s life ∷ []; is = refl; right = ((tt, refl), tt); log = refl }
+    note (notes.Accepted f p bytes) = record { more = seen.Wrote (length sc.world.log + 1) c f p bytes ∷ []; is = refl; right = ((tt, refl), tt); log = ap (λ (v : ServerId → Life). log.accept sc.world.log c (v f.server) f p bytes) l }
+    note (notes.Patched f p at bytes) = record { more = seen.Patched (length sc.world.log + 1) c f p at bytes ∷ []; is = refl; right = ((tt, refl), tt); log = ap (λ (v : ServerId → Life). log.patch sc.world.log c (v f.server) f p at bytes) l }
+    note n = record { more = []; is = sym (nothing_more sc.seen); right = tt; log = refl }
+
+-- reads return the last write, in one step of a client: from what its outputs are
+pub seen_all : (past : List safety.Step) (x : safety.Step) (c : ClientId) (before : ClientState) (os : List Output) (sc : Scene) → ◌≡◌ {A = ServerId → Life} (present_life x.after.world c) (present_life sc.world c) →
+    Right (safety.ask_of past x c) c (present_life sc.world c) sc.world.log os → Seen_right past x sc.seen sc (client_says_all c before os sc)
+unfolding client_says_all safety.AtEach safety.log_told
+seen_all past x c before [] sc l r = record { more = []; is = sym (nothing_more sc.seen); right = nothing; log = refl }
+  where
+    nothing : safety.AtEach (Fact past x) x.after.world sc.world.log []
+    nothing = tt
+seen_all past x c before (o ∷ os) sc l r =
+    let u : Scene = client_says sc c before o in
+    let t = told_one c before o sc in
+    let p = seen_one past x c before o sc l r.one in
+    let lives = lives_same c sc.world u.world t.clients in
+    let q = seen_all past x c before os u (l ∙ sym lives) (subst (λ v. Right (safety.ask_of past x c) c v u.world.log os) (sym lives) (subst (λ y. Right (safety.ask_of past x c) c (present_life sc.world c) y os) (sym t.log) r.rest)) in
+    record {
+      more = p.more ++ q.more;
+      is = q.is ∙ ap (λ y. y ++ q.more) p.is ∙ append_assoc sc.seen p.more q.more;
+      right = at_both (Fact past x) x.after.world sc.world.log p.more q.more p.right (subst (λ y. safety.AtEach (Fact past x) x.after.world y q.more) (sym p.log) q.right);
+      log = told_both x.after.world sc.world.log p.more q.more ∙ ap (λ y. safety.log_told x.after.world y q.more) p.log ∙ q.log;
+    }
+
+-- the two facts apart
+first : (past : List safety.Step) (x : safety.Step) (w : World) (es : List LogEntry) (os : List Observation) → safety.AtEach (Fact past x) w es os → safety.AtEach (safety.IsLast past x) w es os
+unfolding safety.AtEach
+first past x w es [] r = tt
+first past x w es (o ∷ os) r = (r.0.0, first past x w (safety.log_behind w es o) os r.1)
+
+second : (past : List safety.Step) (x : safety.Step) (w : World) (es : List LogEntry) (os : List Observation) → safety.AtEach (Fact past x) w es os → safety.AtEach (safety.IsHardAt past x) w es os
+unfolding safety.AtEach
+second past x w es [] r = tt
+second past x w es (o ∷ os) r = (r.0.1, second past x w (safety.log_behind w es o) os r.1)
+
+pub law : Steps_answer_right
+law past x c before os v l r =
+    let q = seen_all past x c before os (ev.quiet v) l r in
+    record {
+      reads = subst (λ ys. safety.AtEach (safety.IsLast past x) x.after.world v.log ys) (sym q.is) (first past x x.after.world v.log q.more q.right);
+      syncs = subst (λ ys. safety.AtEach (safety.IsHardAt past x) x.after.world v.log ys) (sym q.is) (second past x x.after.world v.log q.more q.right);
+    }

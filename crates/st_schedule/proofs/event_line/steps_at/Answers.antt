@@ -1,0 +1,17 @@
+use Rattle.std.proofs.lemmas.Result.{err_from_is_err_and}
+use Rattle.st_schedule.specs.Words.{words_behind}
+use Rattle.st_schedule.specs.Reading.{steps_at}
+use Rattle.st_schedule.proofs.Increments.{goes_on, stops, is_done}
+use Rattle.st_schedule.proofs.event_line.steps_at.Goals as goal
+
+pub returns-in_err-step : goal.returns-in_err-step
+returns-in_err-step c =
+    let p = err_from_is_err_and c.from_residual.result c.from_residual.ensures.1 in
+    rw (p.1, p.2) (stops c.in_err-step.field-0.0 c.loop.steps.items c.args.least c.args.count c.loop.counter (words_behind c.loop.after.now) (steps_at c.args.least c.args.count (words_behind c.args.rest.now)) c.loop-test.true c.in_err-step.ensures.value c.loop.invariant)
+
+pub loop-preserved : goal.loop-preserved
+loop-preserved c =
+    rw c.in_ok-push.ensures.items (goes_on c.loop.steps.items c.args.least c.args.count c.loop.counter (words_behind c.loop.after.now) c.in_ok-step.step (words_behind c.in_ok-step.behind.now) (steps_at c.args.least c.args.count (words_behind c.args.rest.now)) c.loop-test.true c.in_ok-step.ensures.value c.loop.invariant)
+
+pub returns : goal.returns
+returns c = is_done c.loop.steps.items c.args.least c.args.count c.loop.counter (words_behind c.loop.after.now) (steps_at c.args.least c.args.count (words_behind c.args.rest.now)) c.loop-test.false c.loop.invariant
