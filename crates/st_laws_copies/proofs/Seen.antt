@@ -21,6 +21,7 @@ use Rattle.st_rules.specs.World.{World, ClientSite, site_of}
 use Rattle.st_rules.specs.Events as ev
 use Rattle.st_rules.specs.Events.{Scene, client_says, client_says_all, client_notes, present_life}
 use Rattle.st_rules.specs.FlatLog as log
+use Rattle.st_rules.specs.Lines.{AtEach, log_behind, log_told}
 use Rattle.st_rules.specs.Safety as safety
 use Rattle.st_laws_client.proofs.Steps.{nothing_more}
 use Rattle.st_laws_client.proofs.World.{told_one, lives_same}
@@ -35,22 +36,22 @@ Fact past x es o = safety.IsLast past x es o × safety.IsHardAt past x es o
 pub record Seen_right (past : List safety.Step) (x : safety.Step) (old : List Observation) (sc : Scene) (new : Scene) : Type 0 where
   pub more : List Observation
   pub is : new.seen ≡ old ++ more
-  pub right : safety.AtEach (Fact past x) x.after.world sc.world.log more
-  pub log : safety.log_told x.after.world sc.world.log more ≡ new.world.log
+  pub right : AtEach (Fact past x) x.after.world sc.world.log more
+  pub log : log_told x.after.world sc.world.log more ≡ new.world.log
 
-at_both : (fact : List LogEntry → Observation → Type 0) (w : World) (es : List LogEntry) (os ps : List Observation) → safety.AtEach fact w es os → safety.AtEach fact w (safety.log_told w es os) ps → safety.AtEach fact w es (os ++ ps)
-unfolding safety.AtEach safety.log_told
+at_both : (fact : List LogEntry → Observation → Type 0) (w : World) (es : List LogEntry) (os ps : List Observation) → AtEach fact w es os → AtEach fact w (log_told w es os) ps → AtEach fact w es (os ++ ps)
+unfolding AtEach log_told
 at_both fact w es [] ps a b = b
-at_both fact w es (o ∷ os) ps a b = (a.0, at_both fact w (safety.log_behind w es o) os ps a.1 b)
+at_both fact w es (o ∷ os) ps a b = (a.0, at_both fact w (log_behind w es o) os ps a.1 b)
 
-told_both : (w : World) (es : List LogEntry) (os ps : List Observation) → safety.log_told w es (os ++ ps) ≡ safety.log_told w (safety.log_told w es os) ps
-unfolding safety.log_told
+told_both : (w : World) (es : List LogEntry) (os ps : List Observation) → log_told w es (os ++ ps) ≡ log_told w (log_told w es os) ps
+unfolding log_told
 told_both w es [] ps = refl
-told_both w es (o ∷ os) ps = told_both w (safety.log_behind w es o) os ps
+told_both w es (o ∷ os) ps = told_both w (log_behind w es o) os ps
 
 seen_one : (past : List safety.Step) (x : safety.Step) (c : ClientId) (before : ClientState) (o : Output) (sc : Scene) → ◌≡◌ {A = ServerId → Life} (present_life x.after.world c) (present_life sc.world c) →
     Right_one (safety.ask_of past x c) c (present_life sc.world c) sc.world.log o → Seen_right past x sc.seen sc (client_says sc c before o)
-unfolding client_says ev.sends ev.submits ev.answers_with client_notes ev.accepts ev.patches ev.loses safety.AtEach safety.log_behind safety.log_told
+unfolding client_says ev.sends ev.submits ev.answers_with client_notes ev.accepts ev.patches ev.loses AtEach log_behind log_told
 seen_one past x c before (outputs.Send m) sc l r = record { more = _ ∷ []; is = refl; right = ((tt, refl), tt); log = refl }
 seen_one past x c before (outputs.Answer op a) sc l r = record { more = seen.Answered c op a ∷ []; is = refl; right = ((answer a r, hard a r), tt); log = refl }
   where
@@ -82,10 +83,10 @@ seen_one past x c before (outputs.Note n) sc l r = note n
 -- reads return the last write, in one step of a client: from what its outputs are
 pub seen_all : (past : List safety.Step) (x : safety.Step) (c : ClientId) (before : ClientState) (os : List Output) (sc : Scene) → ◌≡◌ {A = ServerId → Life} (present_life x.after.world c) (present_life sc.world c) →
     Right (safety.ask_of past x c) c (present_life sc.world c) sc.world.log os → Seen_right past x sc.seen sc (client_says_all c before os sc)
-unfolding client_says_all safety.AtEach safety.log_told
+unfolding client_says_all AtEach log_told
 seen_all past x c before [] sc l r = record { more = []; is = sym (nothing_more sc.seen); right = nothing; log = refl }
   where
-    nothing : safety.AtEach (Fact past x) x.after.world sc.world.log []
+    nothing : AtEach (Fact past x) x.after.world sc.world.log []
     nothing = tt
 seen_all past x c before (o ∷ os) sc l r =
     let u : Scene = client_says sc c before o in
@@ -96,25 +97,25 @@ seen_all past x c before (o ∷ os) sc l r =
     record {
       more = p.more ++ q.more;
       is = q.is ∙ ap (λ y. y ++ q.more) p.is ∙ append_assoc sc.seen p.more q.more;
-      right = at_both (Fact past x) x.after.world sc.world.log p.more q.more p.right (subst (λ y. safety.AtEach (Fact past x) x.after.world y q.more) (sym p.log) q.right);
-      log = told_both x.after.world sc.world.log p.more q.more ∙ ap (λ y. safety.log_told x.after.world y q.more) p.log ∙ q.log;
+      right = at_both (Fact past x) x.after.world sc.world.log p.more q.more p.right (subst (λ y. AtEach (Fact past x) x.after.world y q.more) (sym p.log) q.right);
+      log = told_both x.after.world sc.world.log p.more q.more ∙ ap (λ y. log_told x.after.world y q.more) p.log ∙ q.log;
     }
 
 -- the two facts apart
-first : (past : List safety.Step) (x : safety.Step) (w : World) (es : List LogEntry) (os : List Observation) → safety.AtEach (Fact past x) w es os → safety.AtEach (safety.IsLast past x) w es os
-unfolding safety.AtEach
+first : (past : List safety.Step) (x : safety.Step) (w : World) (es : List LogEntry) (os : List Observation) → AtEach (Fact past x) w es os → AtEach (safety.IsLast past x) w es os
+unfolding AtEach
 first past x w es [] r = tt
-first past x w es (o ∷ os) r = (r.0.0, first past x w (safety.log_behind w es o) os r.1)
+first past x w es (o ∷ os) r = (r.0.0, first past x w (log_behind w es o) os r.1)
 
-second : (past : List safety.Step) (x : safety.Step) (w : World) (es : List LogEntry) (os : List Observation) → safety.AtEach (Fact past x) w es os → safety.AtEach (safety.IsHardAt past x) w es os
-unfolding safety.AtEach
+second : (past : List safety.Step) (x : safety.Step) (w : World) (es : List LogEntry) (os : List Observation) → AtEach (Fact past x) w es os → AtEach (safety.IsHardAt past x) w es os
+unfolding AtEach
 second past x w es [] r = tt
-second past x w es (o ∷ os) r = (r.0.1, second past x w (safety.log_behind w es o) os r.1)
+second past x w es (o ∷ os) r = (r.0.1, second past x w (log_behind w es o) os r.1)
 
 pub law : Steps_answer_right
 law past x c before os v l r =
     let q = seen_all past x c before os (ev.quiet v) l r in
     record {
-      reads = subst (λ ys. safety.AtEach (safety.IsLast past x) x.after.world v.log ys) (sym q.is) (first past x x.after.world v.log q.more q.right);
-      syncs = subst (λ ys. safety.AtEach (safety.IsHardAt past x) x.after.world v.log ys) (sym q.is) (second past x x.after.world v.log q.more q.right);
+      reads = subst (λ ys. AtEach (safety.IsLast past x) x.after.world v.log ys) (sym q.is) (first past x x.after.world v.log q.more q.right);
+      syncs = subst (λ ys. AtEach (safety.IsHardAt past x) x.after.world v.log ys) (sym q.is) (second past x x.after.world v.log q.more q.right);
     }

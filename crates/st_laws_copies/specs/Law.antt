@@ -10,6 +10,7 @@ use Rattle.st_rules.specs.declared.log.LogEntry.{LogEntry}
 use Rattle.st_rules.specs.declared.client.ClientInput.{ClientInput}
 use Rattle.st_rules.specs.declared.observation.Observation.{Observation}
 use Rattle.st_messages.specs.declared.output.Output.{Output}
+use Rattle.st_rules.specs.Lines.{AtEach}
 use Rattle.st_rules.specs.Safety as safety
 use Rattle.st_rules.specs.World.{World}
 use Rattle.st_rules.specs.Events.{client_says_all, quiet, present_life}
@@ -92,8 +93,8 @@ Steps_keep_copies =
 -- What is observed of a client's outputs: each answered read has the bytes of the log at it, and each sync that is answered hard
 -- finds all of its file hard.
 pub record Seen_right (past : List safety.Step) (x : safety.Step) (es : List LogEntry) (lines : List Observation) : Type 0 where
-  pub reads : safety.AtEach (safety.IsLast past x) x.after.world es lines
-  pub syncs : safety.AtEach (safety.IsHardAt past x) x.after.world es lines
+  pub reads : AtEach (safety.IsLast past x) x.after.world es lines
+  pub syncs : AtEach (safety.IsHardAt past x) x.after.world es lines
 
 -- In the world: where each output of a client is right by the log at it, so are the lines of its step.
 abbrev pub Steps_answer_right : Type 0

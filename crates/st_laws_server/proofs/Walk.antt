@@ -51,7 +51,8 @@ use Rattle.st_rules.specs.Sessions as sessions
 use Rattle.st_rules.specs.Authority as authority
 use Rattle.st_rules.specs.Grace as grace
 use Rattle.st_rules.specs.Grace.{accept, accept_rows, accept_earlier, accept_own, accept_installed, accepted}
-use Rattle.st_rules.specs.Safety.{is_request, may_date, is_conflict}
+use Rattle.st_rules.specs.Dating.{is_request, may_date}
+use Rattle.st_rules.specs.Safety.{is_conflict}
 use Rattle.st_rules.specs.Server as sv
 use Rattle.st_rules.specs.Server.{is_client_node, ServerState, Turn, Replied, turn, with_locks, with_sessions, sender, life_in, reply, tell, steal_at, steal_from, steal, steal_each, thefts, suspect_client, greet_as, greet_by, greet, refuse_in_grace, hello, demand_seen, see_demand, refuse_epoch, reassert_by, reassert_new, reassert_again, reassert, rule, refused_reassertion, keep_and_reply, keep, serve, request_by, request, of_epoch, by_body, refuse_suspect, by_suspicion, receive_from, receive, take_input, suspect_unless, suspect_each, suspecting, suspecting_on, tell_granted, grant_by, grant_waiting, granting, tell_demanded, demand_by, demanding, server_step}
 use Rattle.st_lemmas.specs.Lists.{Has}

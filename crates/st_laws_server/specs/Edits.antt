@@ -33,7 +33,8 @@ use Rattle.st_rules.specs.Keys.{server_node}
 use Rattle.st_rules.specs.Extents.{Extents}
 use Rattle.st_rules.specs.Names.{Names}
 use Rattle.st_rules.specs.Server.{ServerState, Turn, turn, with_sessions, with_locks, with_authority, with_names, with_extents, note, reply, tell, sender, life_in, thefts, steal_from, suspect_client, keep_and_reply, refused_reassertion, is_client_node}
-use Rattle.st_rules.specs.Safety.{refuses_client, is_request, may_date, is_conflict}
+use Rattle.st_rules.specs.Dating.{refuses_client, is_request, may_date}
+use Rattle.st_rules.specs.Safety.{is_conflict}
 use Rattle.st_lemmas.specs.Lists.{Has}
 
 -- each row of a reassertion has a mode
