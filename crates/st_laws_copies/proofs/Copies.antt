@@ -50,7 +50,7 @@ use Rattle.st_base.specs.declared.disk.Tag.{Tag}
 use Rattle.st_rules.specs.Safety.{IsLastRead, is_hard_of}
 use Rattle.st_views.specs.Halves.{held_at, held_in}
 use Rattle.st_laws_client.specs.World.{logged, logged_note}
-use Rattle.st_laws_copies.specs.Copies.{Right, Right_one, Right_behind, Noted, last_of, Hard_right, Fates_ok, Hard_on, Page_ok, Asked_so, file_at, Copies, Keeps}
+use Rattle.st_laws_copies.specs.Copies.{Right_one, Right_behind, Noted, last_of, Hard_right, Fates_ok, Hard_on, Page_ok, Asked_so, file_at, Copies, Keeps}
 use Rattle.st_laws_copies.specs.Law.{Operations_keep_copies}
 use Rattle.st_lemmas.proofs.Lookups.{if_true, if_false, some_is, any_filter, any_last}
 use Rattle.st_lemmas.proofs.Tables.{and_true, not_true}

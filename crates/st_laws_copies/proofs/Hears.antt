@@ -40,7 +40,7 @@ use Rattle.st_rules.specs.ClientReplies as cr
 use Rattle.st_assoc.specs.Assoc.{Lock}
 use Rattle.st_views.specs.Halves.{held_at, held_in}
 use Rattle.st_laws_client.specs.World.{logged}
-use Rattle.st_laws_copies.specs.Copies.{Right, Right_one, Right_behind, Page_ok, Nothing, Asked_so, file_at, Keeps}
+use Rattle.st_laws_copies.specs.Copies.{Right_one, Right_behind, Page_ok, Nothing, Asked_so, file_at, Keeps}
 use Rattle.st_laws_copies.proofs.Logs.{still}
 use Rattle.st_laws_client.proofs.Replies.{lock_set, lock_cut}
 use Rattle.st_assoc.proofs.Lists.{upd_all}

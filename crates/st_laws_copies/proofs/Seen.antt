@@ -1,5 +1,5 @@
 -- What is observed of a client's outputs in the world: its reads and its syncs are answered by the log at them.
-use Rattle.std.proofs.Common.{◌≡◌, ◌+◌, true, List, [], ◌∷◌, ◌++◌, Option, Some, None, refl, sym, ap, ◌∙◌, subst, append_assoc}
+use Rattle.std.proofs.Common.{◌≡◌, ℕ, ◌+◌, true, List, [], ◌∷◌, ◌++◌, Option, Some, None, refl, sym, ap, ◌∙◌, subst, append_assoc}
 use Rattle.std.specs.Prelude.{length}
 use Rattle.std.specs.List.{list_all}
 use Rattle.st_base.specs.declared.ids.ClientId.{ClientId}
@@ -25,8 +25,9 @@ use Rattle.st_rules.specs.FlatLog as log
 use Rattle.st_rules.specs.Lines.{AtEach, log_behind, log_told}
 use Rattle.st_rules.specs.Safety as safety
 use Rattle.st_laws_client.proofs.Steps.{nothing_more}
+use Rattle.st_laws_client.specs.World.{logged_one}
 use Rattle.st_laws_client.proofs.World.{told_one, lives_same}
-use Rattle.st_laws_copies.specs.Copies.{Right, Right_one, Right_behind, Noted, Hard_right}
+use Rattle.st_laws_copies.specs.Copies.{Right_one, Right_behind, Noted, Hard_right}
 use Rattle.st_laws_copies.specs.Law.{Is_written, All_written, Steps_answer_right}
 
 -- reads and syncs, at an observation
@@ -125,10 +126,10 @@ line_of i c (notes.Accepted f p bytes) = seen.Wrote i c f p bytes
 line_of i c (notes.Patched f p at bytes) = seen.Patched i c f p at bytes
 line_of i c n = seen.Dropped i causes.Crash
 
-noted_line : (c : ClientId) (asked : Option Ask) (last : Option Output) (line : Option Observation) → Noted asked last → Line_of c last line → safety.IsLoggedBehind c asked line
+noted_line : (c : ClientId) (asked : Option Ask) (last : Option Output) (line : Option Observation) → Noted asked last → Line_of c last line → safety.IsLoggedAfter c asked line
 unfolding line_of
-noted_line c (Some (asks.Write f p bytes)) (Some (outputs.Note (notes.Accepted g q old))) line n l = subst (λ o. safety.IsLoggedBehind c (Some (asks.Write f p bytes)) o) (sym l.1) (ap (line_of l.0 c) n)
-noted_line c (Some (asks.Patch f p at bytes)) (Some (outputs.Note (notes.Patched g q place old))) line n l = subst (λ o. safety.IsLoggedBehind c (Some (asks.Patch f p at bytes)) o) (sym l.1) (ap (line_of l.0 c) n)
+noted_line c (Some (asks.Write f p bytes)) (Some (outputs.Note (notes.Accepted g q old))) line n l = subst (λ o. safety.IsLoggedAfter c (Some (asks.Write f p bytes)) o) (sym l.1) (ap (line_of l.0 c) n)
+noted_line c (Some (asks.Patch f p at bytes)) (Some (outputs.Note (notes.Patched g q place old))) line n l = subst (λ o. safety.IsLoggedAfter c (Some (asks.Patch f p at bytes)) o) (sym l.1) (ap (line_of l.0 c) n)
 noted_line c asked last line n l = elim n [ ]
 
 record Written_seen (past : List safety.Step) (x : safety.Step) (line : Option Observation) (old : List Observation) (new : List Observation) : Type 0 where

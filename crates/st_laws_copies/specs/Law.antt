@@ -94,7 +94,7 @@ Steps_keep_copies =
 
 -- an answer `written` comes right behind the line of the change that was asked
 abbrev pub Is_written : List safety.Step → safety.Step → Option Observation → Observation → Type 0
-Is_written past x line (seen.Answered c op answers.Written) = safety.IsLoggedBehind c (safety.ask_of past x c op) line
+Is_written past x line (seen.Answered c op answers.Written) = safety.IsLoggedAfter c (safety.ask_of past x c op) line
 Is_written past x line o = Unit {0}
 
 -- each of these lines, behind the line before it
