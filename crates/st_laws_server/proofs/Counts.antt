@@ -155,7 +155,7 @@ taken_edit n now i t u (Drops_waits _ c) o = let z = t_drop t.state.locks c in r
 taken_edit n now i t u (Keeps _ c number b e) o = record { one = o.one; paid = o.paid }
 taken_edit n now i t u (Reasserts _ m rows is w g f) o = let z = t_rows t.state.locks (sender m.header) (life_in m.header) rows in record { one = let a = o.one in omega arith; paid = let a = o.paid in omega arith }
 taken_edit n now i t u (Sees _ c ino g) o = let z = t_seen t.state.locks c ino g in record { one = let a = o.one in omega arith; paid = let a = o.paid in omega arith }
-taken_edit n now i t u (Acquires _ m l b is fi ok k a) o =
+taken_edit n now i t u (Acquires _ m l b is fi hs ok k a) o =
     let z = t_acquired _ t.state.locks (sender m.header) (life_in m.header) l a in
     let f = subst (λ (t : Turn). taken_locks t.state.locks ≤ taken_locks n.locks) (sym fi) (thefts_taken n now) in
     record { one = within_one _ _ _ z f; paid = paid_for _ _ _ _ _ z o.paid (sent_send t.out _) }

@@ -1,5 +1,5 @@
 -- What stands between events at a server of the world, for all its clients at once.
-use Rattle.std.specs.Prelude.{◌≡◌, ◌≢◌, ℕ, ◌+◌, ◌≤◌, length, true, false, Some, None}
+use Rattle.std.specs.Prelude.{◌≡◌, ◌≢◌, ℕ, ◌+◌, ◌≤◌, length, true, false, Some, None, is_some}
 use Rattle.std.specs.List.{list_all}
 use Rattle.st_base.specs.declared.ids.ClientId.{ClientId}
 use Rattle.st_base.specs.declared.ids.Life.{Life}
@@ -16,6 +16,8 @@ use Rattle.st_rules.specs.declared.sessions.SessionState.{SessionState}
 use Rattle.st_rules.specs.declared.sessions.SessionState.TheVariants.{Live, Ended}
 use Rattle.st_rules.specs.declared.world.SentMessage.{SentMessage}
 use Rattle.st_rules.specs.Locks.{Locks, row_of}
+use Rattle.st_rules.specs.declared.authority.Suspect.{Suspect}
+use Rattle.st_rules.specs.Sessions.{session_of}
 use Rattle.st_rules.specs.Grace as grace
 use Rattle.st_rules.specs.Server.{ServerState, ServerNode}
 use Rattle.st_rules.specs.World.{World, ClientSite, clock_of, site_of, ended_of, message_of, receiver_of, server}
@@ -59,6 +61,12 @@ taken_locks l = l.grants + length l.waiters
 pub record Few (bytes : ℕ) (n : ServerState) : Type 0 where
   pub paid : taken_locks n.locks ≤ bytes
   pub few : taken_locks n.locks ≤ 536870912
+
+-- Each row, each wait and each timer at a server is of a client that has a session.
+pub record Known (n : ServerState) : Type 0 where
+  pub rows : (r : LockRow) → Has r n.locks.rows → is_some (session_of n.sessions r.client) ≡ true
+  pub waits : (w : Waiter) → Has w n.locks.waiters → is_some (session_of n.sessions w.client) ≡ true
+  pub timers : (x : Suspect) → Has x n.authority.suspects → is_some (session_of n.sessions x.client) ≡ true
 
 -- an event in which a server takes a step: a tick, or a message to it that is delivered
 pub data Steps_at (s : ℕ) (w : World) (e : Event) : Type 0 where
