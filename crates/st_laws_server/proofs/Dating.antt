@@ -43,7 +43,7 @@ timers_by w s (outputs.Note (notes.Suspected c start) ∷ os) ts = timers_by w s
 timers_by w s (outputs.Note (notes.Stolen c life) ∷ os) ts = timers_by w s os (filter (λ t. not (is_timer_of s c t)) ts)
 timers_by w s (o ∷ os) ts = timers_by w s os ts
 
-timers_more : (w : World) (s : ServerId) (os : List Output) (o : Output) (ts : List TimerStart) → timers_by w s (os ++ o ∷ []) ts ≡ timers_by w s (o ∷ []) (timers_by w s os ts)
+pub timers_more : (w : World) (s : ServerId) (os : List Output) (o : Output) (ts : List TimerStart) → timers_by w s (os ++ o ∷ []) ts ≡ timers_by w s (o ∷ []) (timers_by w s os ts)
 timers_more w s [] o ts = refl
 timers_more w s (outputs.Note (notes.Suspected c start) ∷ os) o ts = timers_more w s os o _
 timers_more w s (outputs.Note (notes.Stolen c life) ∷ os) o ts = timers_more w s os o _
@@ -104,20 +104,20 @@ timers_old w s (outputs.Answer y z ∷ os) ts x h = timers_old w s os ts x h
 timers_old w s (outputs.Submit y z u ∷ os) ts x h = timers_old w s os ts x h
 
 -- What is sent that may date a lease answers the request that came, and its client is no suspect.
-record Answers_request (s : ℕ) (i : ServerInput) (a : Authority) (m : Message) : Type 0 where
-  ack : authority.may_ack a (client m.header.to) ≡ true
-  request : Message
-  came : i ≡ Control request
-  asks : is_request request.body ≡ true
-  replies : is_reply_to request m ≡ true
+pub record Answers_request (s : ℕ) (i : ServerInput) (a : Authority) (m : Message) : Type 0 where
+  pub ack : authority.may_ack a (client m.header.to) ≡ true
+  pub request : Message
+  pub came : i ≡ Control request
+  pub asks : is_request request.body ≡ true
+  pub replies : is_reply_to request m ≡ true
 
 -- a step so far, behind its thefts
-record Dating_turn (w : World) (s : ℕ) (i : ServerInput) (now : Stamp) (ts : List TimerStart) (t : Turn) : Type 0 where
-  id : t.state.id.0 ≡ s
-  wait : 0 < t.state.authority.wait
-  young : (x : Suspect) → Has x t.state.authority.suspects → is_over t.state.authority.wait now x ≡ false
-  timers : (x : TimerStart) → Has x (timers_by w (record { 0 = s }) t.out ts) → x.server.0 ≡ s → is_some (suspect_of t.state.authority x.client) ≡ true
-  sends : (m : Message) → Has (outputs.Send m) t.out → may_date m.header.number m.body ≡ true → Answers_request s i t.state.authority m
+pub record Dating_turn (w : World) (s : ℕ) (i : ServerInput) (now : Stamp) (ts : List TimerStart) (t : Turn) : Type 0 where
+  pub id : t.state.id.0 ≡ s
+  pub wait : 0 < t.state.authority.wait
+  pub young : (x : Suspect) → Has x t.state.authority.suspects → is_over t.state.authority.wait now x ≡ false
+  pub timers : (x : TimerStart) → Has x (timers_by w (record { 0 = s }) t.out ts) → x.server.0 ≡ s → is_some (suspect_of t.state.authority x.client) ≡ true
+  pub sends : (m : Message) → Has (outputs.Send m) t.out → may_date m.header.number m.body ≡ true → Answers_request s i t.state.authority m
 
 -- one more output that starts no timer
 same_timers : (w : World) (s : ServerId) (os : List Output) (o : Output) (ts : List TimerStart) → timers_by w s (o ∷ []) (timers_by w s os ts) ≡ timers_by w s os ts → timers_by w s (os ++ o ∷ []) ts ≡ timers_by w s os ts
@@ -311,7 +311,7 @@ module _ (w : World) (s : ℕ) (n : ServerState) (now : Stamp) (i : ServerInput)
     sends = sent_one s i t.state.authority t.out (outputs.Note (notes.Stolen c x.life)) d.sends (λ m e. cc);
   }
 
-  dating_edit : (t u : Turn) → Edit n now i t u → D t → D u
+  pub dating_edit : (t u : Turn) → Edit n now i t u → D t → D u
   unfolding keep_and_reply tell
   dating_edit t u (Takes_timers _) d = taken_out t d
   dating_edit t u (Steals _ c x h e) d = stolen t c x d

@@ -31,7 +31,7 @@ use Rattle.st_laws_server.proofs.Changes.{has_suspect}
 use Rattle.st_laws_server.proofs.Walk.{walk}
 
 -- the client has a session
-abbrev There : Sessions → ClientId → Type 0
+abbrev pub There : Sessions → ClientId → Type 0
 There t c = is_some (session_of t c) ≡ true
 
 -- sessions stay: one more, or each changed in place
@@ -63,7 +63,7 @@ there_map f t c k h = ap is_some (find_map (is_session_of c) f (λ x j. (k x j).
     mapped None e = cc
     mapped (Some s) e = refl
 
-there_end : (t : Sessions) (c d : ClientId) → There t d → There (sessions.end t c) d
+pub there_end : (t : Sessions) (c d : ClientId) → There t d → There (sessions.end t c) d
 unfolding sessions.end sessions.ended
 there_end t c d h = there_map (sessions.end_of c) t d (λ x. cond_either (λ (y : Session). y.client ≡ x.client) (is_session_of c x) (sessions.ended x) x (λ e. refl) (λ e. refl)) h
 
