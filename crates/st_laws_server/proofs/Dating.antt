@@ -1,6 +1,6 @@
 -- The replies by which leases are dated, through a step of their server.
-use Rattle.std.proofs.Common.{◌≡◌, ◌≢◌, ℕ, ◌+◌, ◌<◌, ◌≤◌, ◌⊎◌, Bool, true, false, ◌&&◌, not, List, [], ◌∷◌, ◌++◌, ◌==◌, refl, sym, ap, ◌∙◌, subst, inl, inr, arith}
-use Rattle.std.specs.Prelude.{zero, suc, cond, nat_le, find, filter, map, length, Option, Some, None, is_some}
+use Rattle.std.proofs.Common.{◌≡◌, ◌≢◌, ℕ, ◌+◌, ◌<◌, ◌⊎◌, Bool, true, false, ◌&&◌, not, List, [], ◌∷◌, ◌++◌, ◌==◌, refl, sym, ap, ◌∙◌, subst, inl, inr, arith}
+use Rattle.std.specs.Prelude.{cond, filter, length, Option, Some, None, is_some}
 use Rattle.std.proofs.lemmas.Bool.{eq-eqb, lt-leb}
 use Rattle.st_base.specs.declared.ids.ClientId.{ClientId}
 use Rattle.st_base.specs.declared.ids.ServerId.{ServerId}
@@ -16,25 +16,21 @@ use Rattle.st_messages.specs.declared.output.Output.{Output}
 use Rattle.st_messages.specs.declared.output.Output.TheVariants as outputs
 use Rattle.st_rules.specs.declared.authority.Suspect.{Suspect}
 use Rattle.st_rules.specs.declared.input.ServerInput.{ServerInput}
-use Rattle.st_rules.specs.declared.input.ServerInput.TheVariants.{Tick, Control}
+use Rattle.st_rules.specs.declared.input.ServerInput.TheVariants.{Control}
 use Rattle.st_rules.specs.declared.observation.Observation.{Observation}
 use Rattle.st_rules.specs.declared.sessions.Session.{Session}
-use Rattle.st_rules.specs.declared.world.SentMessage.{SentMessage}
 use Rattle.st_rules.specs.Keys.{client}
 use Rattle.st_rules.specs.Authority as authority
 use Rattle.st_rules.specs.Authority.{Authority, suspect_of, is_over}
-use Rattle.st_rules.specs.Sessions.{session_of}
-use Rattle.st_rules.specs.Server.{ServerState, ServerNode, Turn, turn, reply, tell, steal_at, steal_from, steal, steal_each, thefts, suspect_client, keep_and_reply, server_step, with_authority, sender, reply_header, own_header}
+use Rattle.st_rules.specs.Server.{ServerState, Turn, reply, tell, steal_from, suspect_client, keep_and_reply, with_authority, sender, reply_header, own_header}
 use Rattle.st_rules.specs.World.{World}
 use Rattle.st_rules.specs.Events.{Scene, sends, cuts, server_notes, server_says, server_says_all}
 use Rattle.st_rules.specs.History.{History, TimerStart, timer_start, is_timer_of, recall, recall_all}
 use Rattle.st_rules.specs.Dating.{is_request, may_date, goes_back, answers_to, is_reply_to}
 use Rattle.st_lemmas.specs.Lists.{Has}
 use Rattle.st_lemmas.proofs.Tables.{same_or_not, and_both, not_true, not_false, cond_either, find_kept_in, has_append, has_filter}
-use Rattle.st_laws_server.specs.Edits.{Wish_input, No_sends, Edit, Takes_timers, Steals, Suspects, Begins, Drops_waits, Keeps, Reasserts, Sees, Acquires, Releases, Drops_file, Grants, Demands, Names_change, Extents_change, Cuts, Replies, Repeats, Refuses, Tells_grant, Tells_demand}
-use Rattle.st_laws_server.specs.Stands.{Known}
+use Rattle.st_laws_server.specs.Edits.{No_sends, Edit, Takes_timers, Steals, Suspects, Begins, Drops_waits, Keeps, Reasserts, Sees, Acquires, Releases, Drops_file, Grants, Demands, Names_change, Extents_change, Cuts, Replies, Repeats, Refuses, Tells_grant, Tells_demand}
 use Rattle.st_laws_server.proofs.Changes.{has_suspect, suspect_own, suspect_other}
-use Rattle.st_laws_server.proofs.Walk.{walk_on}
 
 -- The timers that the history has after outputs of a server.
 abbrev pub timers_by : World → ServerId → List Output → List TimerStart → List TimerStart

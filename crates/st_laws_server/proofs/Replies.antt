@@ -1,41 +1,43 @@
 -- The replies by which leases are dated, through a whole step of their server in the world.
-use Rattle.std.proofs.Common.{◌≡◌, ◌≢◌, ℕ, ◌+◌, ◌<◌, ◌≤◌, ◌⊎◌, Bool, true, false, ◌&&◌, not, List, [], ◌∷◌, ◌++◌, ◌==◌, refl, sym, ap, ◌∙◌, subst, inl, inr, arith}
-use Rattle.std.specs.Prelude.{suc, cond, find, filter, length, Option, Some, None, is_some}
+use Rattle.std.proofs.Common.{◌≡◌, ℕ, ◌+◌, ◌<◌, ◌≤◌, ◌⊎◌, Bool, true, false, not, List, [], ◌∷◌, ◌++◌, ◌==◌, refl, sym, ap, ◌∙◌, subst, inl, inr, arith}
+use Rattle.std.specs.Prelude.{suc, cond, find, filter, length, Option, Some, None, Ok, is_some}
 use Rattle.std.proofs.lemmas.Bool.{eq-eqb, eqb-true}
 use Rattle.st_base.specs.declared.ids.ClientId.{ClientId}
 use Rattle.st_base.specs.declared.ids.ServerId.{ServerId}
 use Rattle.st_base.specs.declared.ids.Stamp.{Stamp}
+use Rattle.st_base.specs.declared.ids.NodeId.{NodeId}
 use Rattle.st_base.specs.declared.ids.NodeId.TheVariants as nodes
+use Rattle.st_messages.specs.declared.event.Event.TheVariants as events
 use Rattle.st_messages.specs.declared.message.Message.{Message}
 use Rattle.st_messages.specs.declared.output.Note.TheVariants as notes
 use Rattle.st_messages.specs.declared.output.Output.{Output}
 use Rattle.st_messages.specs.declared.output.Output.TheVariants as outputs
 use Rattle.st_rules.specs.declared.authority.Suspect.{Suspect}
 use Rattle.st_rules.specs.declared.input.ServerInput.{ServerInput}
-use Rattle.st_rules.specs.declared.input.ServerInput.TheVariants.{Control}
+use Rattle.st_rules.specs.declared.input.ServerInput.TheVariants.{Tick, Control}
 use Rattle.st_rules.specs.declared.sessions.Session.{Session}
 use Rattle.st_rules.specs.declared.world.SentMessage.{SentMessage}
 use Rattle.st_rules.specs.Keys.{client}
 use Rattle.st_rules.specs.Authority as authority
 use Rattle.st_rules.specs.Authority.{Authority, suspect_of, is_over, is_suspect}
-use Rattle.st_rules.specs.Sessions as sessions
-use Rattle.st_rules.specs.Sessions.{Sessions, session_of}
+use Rattle.st_rules.specs.Sessions.{session_of}
 use Rattle.st_rules.specs.Server.{ServerState, ServerNode, Turn, turn, with_authority, steal_at, steal_from, steal, steal_each, thefts, server_step}
-use Rattle.st_rules.specs.World.{World, numbered, message_of, clock_of, server}
-use Rattle.st_rules.specs.Events.{Scene, quiet, counted, with_node, sends, cuts, server_notes, server_says, server_says_all, server_takes}
-use Rattle.st_rules.specs.History.{Traced, History, TimerStart, is_timer_of, recall_all}
-use Rattle.st_rules.specs.Dating.{is_request, may_date, is_reply_to}
+use Rattle.st_rules.specs.World.{World, numbered, node_of, clock_of, server}
+use Rattle.st_rules.specs.Events.{Scene, quiet, counted, with_node, sends, cuts, server_notes, server_says, server_says_all, server_takes, world_step}
+use Rattle.st_rules.specs.History.{Traced, History, TimerStart, is_timer_of, recall_all, remember, traced_after}
+use Rattle.st_rules.specs.Dating.{is_request, is_reply_to}
 use Rattle.st_lemmas.specs.Lists.{Has}
-use Rattle.st_lemmas.proofs.Tables.{and_both, cond_true, cond_false, found_at, has_filter, not_true, same_or_not}
-use Rattle.st_lemmas.proofs.Numbers.{numbered_more, numbered_below}
+use Rattle.st_lemmas.proofs.Tables.{and_both, cond_true, cond_false, found_at, has_filter, not_true}
+use Rattle.st_lemmas.proofs.Numbers.{numbered_more, numbered_below, numbered_own}
 use Rattle.st_laws_server.specs.Edits.{Wish_input, No_sends}
-use Rattle.st_laws_server.specs.Stands.{Known}
-use Rattle.st_laws_server.specs.Dated.{Dates_lease, Dated}
-use Rattle.st_laws_server.proofs.Delivery.{takes_is, all_messages}
-use Rattle.st_laws_server.proofs.Known.{There, there_end}
+use Rattle.st_laws_server.specs.Pair.{terms_of}
+use Rattle.st_laws_server.specs.Stands.{Known, By_tick, By_message}
+use Rattle.st_laws_server.specs.Dated.{Dates_lease, Dated, Dated_after, Replies_stay_dated}
+use Rattle.st_laws_server.proofs.Delivery.{takes_is, all_messages, all_parts, tick_is, delivery_is, taken, message_has, to_server}
+use Rattle.st_laws_server.proofs.Known.{There, there_end, known_step}
 use Rattle.st_laws_server.proofs.Thefts.{over_has, has_over}
 use Rattle.st_laws_server.proofs.Walk.{walk_on, no_sends_note}
-use Rattle.st_laws_server.proofs.Dating.{timers_by, timers_more, timers_old, all_timers, Answers_request, Dating_turn, dating_edit}
+use Rattle.st_laws_server.proofs.Dating.{timers_by, timers_more, timers_old, all_timers, Dating_turn, dating_edit}
 
 -- what is found, and is not left out, is found in what is left
 found_left : {A : Type 0} (p q : A → Bool) (xs : List A) (y : A) → find p xs ≡ Some y → q y ≡ true → find p (filter q xs) ≡ Some y
@@ -256,3 +258,46 @@ dated_step s t node i runs id pos known wish came d =
         by n m l x h f g (inr i) =
             let a = z.sends m.message i l.dates in let r = z.timers x h f in
             absurd (clash (is_some (suspect_of step.state.authority (client m.message.header.to))) (subst (λ c. is_some (suspect_of step.state.authority (client c)) ≡ true) g r) a.ack)
+
+after : (s : ℕ) (t : Traced) (node : ServerNode) (i : ServerInput) → node_of t.world (server s) ≡ Some node → node.running ≡ true → node.state.id.0 ≡ s → 0 < node.state.authority.wait → Known node.state → Wish_input i →
+    ((q : Message) → i ≡ Control q → (q.header.to ≡ 32768 + s) × (x : SentMessage) × Has x t.world.net.messages × (x.message ≡ q)) → Dated s t node → Dated_after s (after_step t (server_takes (counted t.world) (server s) i node))
+after s t node i found runs id pos known wish came d =
+    let now : Stamp = clock_of t.world (nodes.Server (server s)) in
+    let step : Turn = server_step node.state now i in
+    record {
+      node = record node { state = step.state };
+      found = subst (λ (sc : Scene). node_of sc.world (server s) ≡ Some (record node { state = step.state })) (sym (takes_is (counted t.world) (server s) i node runs))
+          (ap (λ xs. numbered xs s) (all_parts (server s) step.out (quiet (with_node (server s) (record node { state = step.state }) (counted t.world)))).servers ∙ numbered_own t.world.servers s (record node { state = step.state }) node found);
+      known = known_step node.state now i wish known;
+      dated = dated_step s t node i runs id pos known wish came d;
+    }
+
+-- A tick and a delivery are remembered by what is observed alone.
+tick_remembered : (n : NodeId) (h : History) → remember (events.Tick n) h ≡ h
+unfolding remember
+tick_remembered n h = refl
+
+delivery_remembered : (n : ℕ) (h : History) → remember (events.Deliver n) h ≡ h
+unfolding remember
+delivery_remembered n h = refl
+
+pub replies_stay : Replies_stay_dated
+replies_stay s t node e sc pos found runs id wait known wishes taken_ok (By_tick is) d =
+    subst (λ sc. Dated_after s (traced_after e t sc)) (sym (tick_is (terms_of t.world.config) 0 s (λ l. 0) t.world node found) ∙ taken t.world (events.Tick (nodes.Server (server s))) sc (subst (λ e. world_step t.world e ≡ Ok sc) is taken_ok))
+    (subst (λ h. Dated_after s (record { world = (server_takes (counted t.world) (server s) Tick node).world; history = recall_all t.world (server_takes (counted t.world) (server s) Tick node).world (server_takes (counted t.world) (server s) Tick node).seen h }))
+    (sym (ap (λ e. remember e t.history) is ∙ tick_remembered (nodes.Server (server s)) t.history))
+    (after s t node Tick found runs id wait known tt (λ q e. absurd (never q e)) d))
+  where
+    never : (q : Message) → ◌≡◌ {A = ServerInput} Tick (Control q) → ⊥
+    never q e = cc
+replies_stay s t node e sc pos found runs id wait known wishes taken_ok (By_message n m is there to) d =
+    subst (λ sc. Dated_after s (traced_after e t sc)) (sym (delivery_is (terms_of t.world.config) 0 s (λ l. 0) t.world n m node there to found) ∙ taken t.world (events.Deliver n) sc (subst (λ e. world_step t.world e ≡ Ok sc) is taken_ok))
+    (subst (λ h. Dated_after s (record { world = (server_takes (counted t.world) (server s) (Control m.message) node).world; history = recall_all t.world (server_takes (counted t.world) (server s) (Control m.message) node).world (server_takes (counted t.world) (server s) (Control m.message) node).seen h }))
+    (sym (ap (λ e. remember e t.history) is ∙ delivery_remembered n t.history))
+    (after s t node (Control m.message) found runs id wait known (wishes m (message_has t.world n m there)) came d))
+  where
+    same : (q : Message) → ◌≡◌ {A = ServerInput} (Control m.message) (Control q) → m.message ≡ q
+    same q e = cc
+
+    came : (q : Message) → ◌≡◌ {A = ServerInput} (Control m.message) (Control q) → (q.header.to ≡ 32768 + s) × (x : SentMessage) × Has x t.world.net.messages × (x.message ≡ q)
+    came q e = (subst (λ (q : Message). q.header.to ≡ 32768 + s) (same q e) (to_server m.message.header.to s pos to), m, message_has t.world n m there, same q e)

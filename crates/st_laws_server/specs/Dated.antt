@@ -1,12 +1,17 @@
 -- The replies by which leases are dated: each answers a request that was sent, and was sent before every timer that runs for its client.
-use Rattle.std.specs.Prelude.{◌≡◌, ℕ, ◌+◌, ◌≤◌, true, Some, is_some}
+use Rattle.std.specs.Prelude.{◌≡◌, ℕ, ◌+◌, ◌<◌, ◌≤◌, true, Some, Ok, is_some}
+use Rattle.st_messages.specs.declared.event.Event.{Event}
+use Rattle.st_rules.specs.declared.input.ServerInput.TheVariants.{Control}
 use Rattle.st_rules.specs.declared.world.SentMessage.{SentMessage}
 use Rattle.st_rules.specs.Authority.{suspect_of}
 use Rattle.st_rules.specs.Server.{ServerNode}
-use Rattle.st_rules.specs.World.{message_of}
-use Rattle.st_rules.specs.History.{Traced, TimerStart}
+use Rattle.st_rules.specs.World.{message_of, node_of, server}
+use Rattle.st_rules.specs.Events.{Scene, world_step}
+use Rattle.st_rules.specs.History.{Traced, TimerStart, traced_after}
 use Rattle.st_rules.specs.Dating.{is_request, may_date, is_reply_to}
 use Rattle.st_lemmas.specs.Lists.{Has}
+use Rattle.st_laws_server.specs.Edits.{Wish_input}
+use Rattle.st_laws_server.specs.Stands.{Known, Steps_at}
 
 -- a message of this server by which a lease may be dated
 abbrev pub Dates_lease : ℕ → SentMessage → Type 0
@@ -21,3 +26,18 @@ pub record Dated (s : ℕ) (t : Traced) (node : ServerNode) : Type 0 where
       (x : TimerStart) → Has x t.history.timers → x.server.0 ≡ s → x.client.0 ≡ m.message.header.to → n ≤ x.sent
   pub runs : (x : TimerStart) → Has x t.history.timers → x.server.0 ≡ s →
       (node.running ≡ true) × (is_some (suspect_of node.state.authority x.client) ≡ true)
+
+-- After a step of the server its replies are dated again, and each row, wait and timer is of a client that has a session.
+pub record Dated_after (s : ℕ) (t : Traced) : Type 0 where
+  pub node : ServerNode
+  pub found : node_of t.world (server s) ≡ Some node
+  pub known : Known node.state
+  pub dated : Dated s t node
+
+-- So it is after a tick of the server or a delivery to it, where clients ask for locks in some mode.
+abbrev pub Replies_stay_dated : Type 0
+Replies_stay_dated =
+    (s : ℕ) (t : Traced) (node : ServerNode) (e : Event) (sc : Scene) →
+    1 ≤ s → node_of t.world (server s) ≡ Some node → node.running ≡ true → node.state.id.0 ≡ s → 0 < node.state.authority.wait → Known node.state →
+    ((m : SentMessage) → Has m t.world.net.messages → Wish_input (Control m.message)) → world_step t.world e ≡ Ok sc → Steps_at s t.world e →
+    Dated s t node → Dated_after s (traced_after e t sc)
