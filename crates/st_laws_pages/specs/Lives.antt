@@ -1,5 +1,5 @@
 -- The lives of leases in the world: those that ended, with the ends that they had, and the present ones.
-use Rattle.std.specs.Prelude.{◌≡◌, ℕ, ◌≤◌, ◌<◌, ◌⊎◌, Bool, true, false, if◌then◌else◌, List, [], ◌∷◌, ◌++◌, find, map, unwrap_or, Option, Some, None}
+use Rattle.std.specs.Prelude.{◌≡◌, ℕ, ◌≤◌, ◌<◌, ◌⊎◌, Bool, true, false, if◌then◌else◌, List, [], ◌∷◌, ◌++◌, find, map, unwrap_or, Some, None}
 use Rattle.st_base.specs.declared.config.Config.{Config}
 use Rattle.st_base.specs.declared.ids.ClientId.{ClientId}
 use Rattle.st_base.specs.declared.ids.ServerId.{ServerId}
@@ -13,7 +13,7 @@ use Rattle.st_rules.specs.declared.log.LogOwner.{LogOwner}
 use Rattle.st_rules.specs.declared.world.IssuedCommand.{IssuedCommand}
 use Rattle.st_rules.specs.declared.world.LeaseLife.{LeaseLife}
 use Rattle.st_rules.specs.Client as cl
-use Rattle.st_rules.specs.ClientState.{Association, ClientState, ClientSession, is_at}
+use Rattle.st_rules.specs.ClientState.{Association, ClientState, is_at}
 use Rattle.st_rules.specs.World.{World, ClientSite, numbered, is_life_of, ended_of}
 use Rattle.st_rules.specs.Events as ev
 use Rattle.st_lemmas.specs.Lists.{Has}

@@ -1,5 +1,5 @@
 -- What becomes of an association in a client's step: its lease is lost, or it goes on; and how a disk command ends for it.
-use Rattle.std.specs.Prelude.{◌≡◌, ℕ, ◌≤◌, ◌<◌, Bool, true, false, List, [], ◌∷◌, nat_le, Option, Some, None}
+use Rattle.std.specs.Prelude.{◌≡◌, ℕ, ◌≤◌, ◌<◌, Bool, true, false, nat_le, Option, Some, None}
 use Rattle.st_base.specs.declared.config.Config.{Config}
 use Rattle.st_base.specs.declared.ids.PageNo.{PageNo}
 use Rattle.st_base.specs.declared.ids.Stamp.{Stamp}
