@@ -39,4 +39,5 @@ Is_changed_at k now al f p = (a : Association) × Has a al × Is_changed k now a
 
 -- what is dirty stays so
 abbrev pub Stays_dirty : Association → Association → Type 0
-Stays_dirty a b = (ino : ℕ) (p : PageNo) (d : DirtyPage) → pages.dirty_of a.store.pages ino p ≡ Some d → (e : DirtyPage) × (pages.dirty_of b.store.pages ino p ≡ Some e)
+Stays_dirty a b =
+    (ino : ℕ) (p : PageNo) (d : DirtyPage) → pages.dirty_of a.store.pages ino p ≡ Some d → (e : DirtyPage) × (pages.dirty_of b.store.pages ino p ≡ Some e)
