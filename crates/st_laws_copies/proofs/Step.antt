@@ -190,14 +190,14 @@ module _ (ask_of : ℕ → Option Ask) (c : ClientId) (lives : ServerId → Life
   made_if T false U V p q = q
 
   -- an answer at once
-  made_answer : (T : ClientTurn) (op : ℕ) (a : AppAnswer) → ((x : List LogEntry) → Right_one ask_of c lives x (outputs.Answer op a)) → Made ask_of c lives es T [] (cl.answered_at_once T op a)
+  made_answer : (T : ClientTurn) (op : ℕ) (a : AppAnswer) → ((last : Option Output) (x : List LogEntry) → Right_one ask_of c lives last x (outputs.Answer op a)) → Made ask_of c lives es T [] (cl.answered_at_once T op a)
   made_answer T op a f =
       let same : logged c lives (T.out ++ outputs.Answer op a ∷ []) es ≡ logged c lives T.out es = logged_both c lives T.out (outputs.Answer op a ∷ []) es in
       record {
         within = λ r. record {
           done = subst (λ l. All_copies c lives l T.state.associations) (sym same) r.done;
           ahead = record {};
-          right = right_both ask_of c lives T.out (outputs.Answer op a ∷ []) es r.right (record { one = f (logged c lives T.out es); rest = record {} });
+          right = right_both ask_of c lives T.out (outputs.Answer op a ∷ []) es r.right (record { one = f _ (logged c lives T.out es); rest = record {} });
           asked = r.asked;
         };
         places = subst (λ xs. Same_places xs T.state.associations) (sym (nothing_more T.state.associations)) (same_self T.state.associations);
@@ -242,8 +242,8 @@ module _ (ask_of : ℕ → Option Ask) (c : ClientId) (lives : ServerId → Life
   unfolding cl.take_input cl.app cl.app_known cl.done cr.receive cr.receive_here
   made_input T n inputs.Tick d a o = made_same T
   made_input T n (inputs.App op ask) d a o =
-      made_if T (cl.is_full T.state) _ _ (made_answer T op answers.OpsFull (λ x. record {}))
-      (made_if T (cl.is_configured T.state (st.server_of ask)) _ _ (made_free (st.only_at (st.server_of ask) (cl.take_ask op ask)) (k_only (st.server_of ask) (cl.take_ask op ask) (k_take op ask a)) T d) (made_answer T op answers.NoFile (λ x. record {})))
+      made_if T (cl.is_full T.state) _ _ (made_answer T op answers.OpsFull (λ last x. record {}))
+      (made_if T (cl.is_configured T.state (st.server_of ask)) _ _ (made_free (st.only_at (st.server_of ask) (cl.take_ask op ask)) (k_only (st.server_of ask) (cl.take_ask op ask) (k_take op ask a)) T d) (made_answer T op answers.NoFile (λ last x. record {})))
   made_input T n (inputs.Control m) d a o =
       made_if T (m.header.to == T.state.id.0) _ T
       (each_keep ask_of c lives es (λ l a. Message_owed l a m.header m.body) (message_away m.header m.body) (cr.hear n m.header m.body) (k_hear ask_of c lives es n m.header m.body) T d (owed_message (logged c lives T.out es) m T.state.associations o)) (made_same T)

@@ -1,5 +1,5 @@
 -- The laws of the copies that a client has of a server's pages.
-use Rattle.std.specs.Prelude.{ℕ, ◌≡◌, ◌≤◌, true, false, List, [], ◌∷◌, Option}
+use Rattle.std.specs.Prelude.{ℕ, ◌≡◌, ◌≤◌, true, false, List, [], ◌∷◌, Option, Some, None}
 use Rattle.st_base.specs.declared.ids.ClientId.{ClientId}
 use Rattle.st_base.specs.declared.ids.ServerId.{ServerId}
 use Rattle.st_base.specs.declared.ids.Life.{Life}
@@ -9,6 +9,8 @@ use Rattle.st_messages.specs.declared.ask.Ask.{Ask}
 use Rattle.st_rules.specs.declared.log.LogEntry.{LogEntry}
 use Rattle.st_rules.specs.declared.client.ClientInput.{ClientInput}
 use Rattle.st_rules.specs.declared.observation.Observation.{Observation}
+use Rattle.st_rules.specs.declared.observation.Observation.TheVariants as seen
+use Rattle.st_messages.specs.declared.answer.AppAnswer.TheVariants as answers
 use Rattle.st_messages.specs.declared.output.Output.{Output}
 use Rattle.st_rules.specs.Lines.{AtEach}
 use Rattle.st_rules.specs.Safety as safety
@@ -90,11 +92,22 @@ Steps_keep_copies =
     Client_stands asked_as c es s → Numbered asked_as input → All_owed c lives es input (cl.losses (client_turn s []) now).state.associations → Lives_are lives (cl.client_step s now input).state.associations →
     Step_keeps asked_as c lives es (cl.client_step s now input)
 
--- What is observed of a client's outputs: each answered read has the bytes of the log at it, and each sync that is answered hard
--- finds all of its file hard.
+-- an answer `written` comes right behind the line of the change that was asked
+abbrev pub Is_written : List safety.Step → safety.Step → Option Observation → Observation → Type 0
+Is_written past x line (seen.Answered c op answers.Written) = safety.IsLoggedAfter c (safety.ask_of past x c op) line
+Is_written past x line o = Unit {0}
+
+-- each of these lines, behind the line before it
+abbrev pub All_written : List safety.Step → safety.Step → Option Observation → List Observation → Type 0
+All_written past x line [] = Unit {0}
+All_written past x line (o ∷ os) = record { one : Is_written past x line o; rest : All_written past x (Some o) os }
+
+-- What is observed of a client's outputs: each answered read has the bytes of the log at it, each sync that is answered hard finds all of
+-- its file hard, and `written` comes right behind the line of the change that was asked.
 pub record Seen_right (past : List safety.Step) (x : safety.Step) (es : List LogEntry) (lines : List Observation) : Type 0 where
   pub reads : AtEach (safety.IsLast past x) x.after.world es lines
   pub syncs : AtEach (safety.IsHardAt past x) x.after.world es lines
+  pub written : All_written past x None lines
 
 -- In the world: where each output of a client is right by the log at it, so are the lines of its step.
 abbrev pub Steps_answer_right : Type 0
