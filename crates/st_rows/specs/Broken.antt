@@ -117,7 +117,7 @@ past e = steps (prepared e) (traced (world_of 2 1 1 8))
 unfoldable pub here : Event → Traced
 here e = led_to (trace (prepared e) (traced (world_of 2 1 1 8)))
 
--- The same run, behind which another client has a lease too.
+-- The same run, after which another client has a lease too.
 unfoldable pub met : List Event
 met = prepared (ask 2 (asks.Read (on 1 2) (page 0))) ++ (events.Deliver 7) ∷ (events.Deliver 8) ∷ []
 
@@ -249,7 +249,7 @@ written_by n w = record w { log = accept w.log (c n) (life 1) (on 1 2) (page 0) 
 abbrev pub cut_once : World → World
 cut_once w = record w { log = cut_log w.log (on 1 3) (page 0) }
 
--- it is later, behind every lease end
+-- it is later than every lease end
 abbrev pub at_last : World → World
 at_last w = record w { clocks = stamp 2000 ∷ stamp 2000 ∷ stamp 3000 ∷ [] }
 
@@ -374,14 +374,14 @@ cut_without_a_lock = seeing (cut 2 1 3 0 ∷ []) (recalling (with_grant (on 1 3)
 abbrev pub late : Step → Step
 late x = ticking (coming at_last (leaving at_last x))
 
-unfoldable pub kept_behind_the_end : Step
-kept_behind_the_end = late (still (here reading))
+unfoldable pub kept_after_the_end : Step
+kept_after_the_end = late (still (here reading))
 
-unfoldable pub submitted_behind_the_end : Step
-submitted_behind_the_end = seeing (read_out 1 1 1 1 0 ∷ []) (leaving all_emptied (late (still (here reading))))
+unfoldable pub submitted_after_the_end : Step
+submitted_after_the_end = seeing (read_out 1 1 1 1 0 ∷ []) (leaving all_emptied (late (still (here reading))))
 
-unfoldable pub read_behind_the_end : Step
-read_behind_the_end = by_event reading (seeing (answered 1 3 (answers.Read (filled 77)) ∷ []) (leaving all_emptied (late (still (here reading)))))
+unfoldable pub read_after_the_end : Step
+read_after_the_end = by_event reading (seeing (answered 1 3 (answers.Read (filled 77)) ∷ []) (leaving all_emptied (late (still (here reading)))))
 
 unfoldable pub timer_unknown : Step
 timer_unknown = leaving suspecting (still (here reading))
@@ -396,5 +396,5 @@ unfoldable pub grant_unknown : Step
 grant_unknown = recalling without_grants (still (here reading))
 
 unfoldable pub broken_open : ⊤
-unfolding world_words_open prepared past here met past_met here_met past_cut stale_read beside_a_lock beside_a_held_lock dropped_without_a_crash dropped_by_another_command dropped_without_a_report hard_no_more hard_too_early stolen_early stolen_as_another_life dated_from_the_arrival replied_behind_a_timer grace_too_short grace_never_begun conflict_sent hard_and_pending hard_twice written_and_not_logged cut_and_not_logged written_under_another_number written_and_not_answered answered_twice written_without_a_lock written_under_a_lesser_grant cut_without_a_lock kept_behind_the_end submitted_behind_the_end read_behind_the_end timer_unknown timer_without_a_suspect date_unknown grant_unknown
+unfolding world_words_open prepared past here met past_met here_met past_cut stale_read beside_a_lock beside_a_held_lock dropped_without_a_crash dropped_by_another_command dropped_without_a_report hard_no_more hard_too_early stolen_early stolen_as_another_life dated_from_the_arrival replied_behind_a_timer grace_too_short grace_never_begun conflict_sent hard_and_pending hard_twice written_and_not_logged cut_and_not_logged written_under_another_number written_and_not_answered answered_twice written_without_a_lock written_under_a_lesser_grant cut_without_a_lock kept_after_the_end submitted_after_the_end read_after_the_end timer_unknown timer_without_a_suspect date_unknown grant_unknown
 broken_open = tt

@@ -1,5 +1,5 @@
 ghost use Rattle.std.specs.Prelude.{◌∷◌, []};
-ghost use Rattle.st_rows.specs.Broken.{IsKeptBut, answered_twice, beside_a_held_lock, beside_a_lock, conflict_sent, cut_and_not_logged, cut_without_a_lock, cutting, date_unknown, dated_from_the_arrival, dropped_by_another_command, dropped_without_a_crash, dropped_without_a_report, grace_never_begun, grace_too_short, grant_unknown, hard_and_pending, hard_no_more, hard_too_early, hard_twice, kept_behind_the_end, past, past_cut, past_met, read_behind_the_end, reading, replied_behind_a_timer, stale_read, stolen_as_another_life, stolen_early, submitted_behind_the_end, syncing, timer_unknown, timer_without_a_suspect, writing, written_and_not_answered, written_and_not_logged, written_under_a_lesser_grant, written_under_another_number, written_without_a_lock};
+ghost use Rattle.st_rows.specs.Broken.{IsKeptBut, answered_twice, beside_a_held_lock, beside_a_lock, conflict_sent, cut_and_not_logged, cut_without_a_lock, cutting, date_unknown, dated_from_the_arrival, dropped_by_another_command, dropped_without_a_crash, dropped_without_a_report, grace_never_begun, grace_too_short, grant_unknown, hard_and_pending, hard_no_more, hard_too_early, hard_twice, kept_after_the_end, past, past_cut, past_met, read_after_the_end, reading, replied_behind_a_timer, stale_read, stolen_as_another_life, stolen_early, submitted_after_the_end, syncing, timer_unknown, timer_without_a_suspect, writing, written_and_not_answered, written_and_not_logged, written_under_a_lesser_grant, written_under_another_number, written_without_a_lock};
 ghost use Rattle.st_rules.specs.Safety.{AnswersAreLogged, AsksAreAnsweredOnce, ChangesAreLocked, ChangesGoInTheOrderOfLocks, DirtyPagesStandAlone, DropsHaveACause, ExpiredLeasesEmptyClients, GraceWaits, HardIsHard, HardStaysHard, LeasesAreDatedFromRequests, NoConflictIsSent, ReadsReturnLastWrites, TheHistoryIsTheWorlds, TheReportTellsTheLog, TheftsComeLate};
 
 /// A page that is dirty while another client has a row of its file.
@@ -187,22 +187,22 @@ pub fn a_write_under_a_lesser_grant_is_refused()
 /// A client that takes a step at its lease end and keeps what it had.
 #[tactic(auto, unfolding(crate::specs::Broken::broken_open))]
 pub fn a_client_that_keeps_what_it_had_is_refused()
-    ensures broken { ¬ ExpiredLeasesEmptyClients (past reading) kept_behind_the_end }
-    ensures kept { IsKeptBut (15 ∷ []) (past reading) kept_behind_the_end }
+    ensures broken { ¬ ExpiredLeasesEmptyClients (past reading) kept_after_the_end }
+    ensures kept { IsKeptBut (15 ∷ []) (past reading) kept_after_the_end }
 {}
 
 /// A client that submits a command in the step in which it loses its lease.
 #[tactic(auto, unfolding(crate::specs::Broken::broken_open))]
-pub fn a_command_behind_the_end_is_refused()
-    ensures broken { ¬ ExpiredLeasesEmptyClients (past reading) submitted_behind_the_end }
-    ensures kept { IsKeptBut (15 ∷ []) (past reading) submitted_behind_the_end }
+pub fn a_command_after_the_end_is_refused()
+    ensures broken { ¬ ExpiredLeasesEmptyClients (past reading) submitted_after_the_end }
+    ensures kept { IsKeptBut (15 ∷ []) (past reading) submitted_after_the_end }
 {}
 
 /// A client that answers a read in the step in which it loses its lease.
 #[tactic(auto, unfolding(crate::specs::Broken::broken_open))]
-pub fn a_read_behind_the_end_is_refused()
-    ensures broken { ¬ ExpiredLeasesEmptyClients (past reading) read_behind_the_end }
-    ensures kept { IsKeptBut (15 ∷ []) (past reading) read_behind_the_end }
+pub fn a_read_after_the_end_is_refused()
+    ensures broken { ¬ ExpiredLeasesEmptyClients (past reading) read_after_the_end }
+    ensures kept { IsKeptBut (15 ∷ []) (past reading) read_after_the_end }
 {}
 
 /// A server that suspects a client while the history has no timer.

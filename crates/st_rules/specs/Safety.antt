@@ -23,7 +23,6 @@ use Rattle.st_messages.specs.declared.message.Message.{Message}
 use Rattle.st_messages.specs.declared.message.Header.{Header}
 use Rattle.st_messages.specs.declared.message.Body.{Body}
 use Rattle.st_messages.specs.declared.message.Body.TheVariants as bodies
-use Rattle.st_messages.specs.declared.message.Why.{Why}
 use Rattle.st_messages.specs.declared.message.Why.TheVariants as why
 use Rattle.st_messages.specs.declared.event.Event.{Event}
 use Rattle.st_messages.specs.declared.event.Event.TheVariants as events
@@ -57,10 +56,12 @@ use Rattle.st_rules.specs.Locks as locks
 use Rattle.st_rules.specs.Server as server
 use Rattle.st_rules.specs.Server.{ServerNode}
 use Rattle.st_rules.specs.Sessions as sessions
-use Rattle.st_rules.specs.World.{World, ClientSite, site_of, node_of, same_node, all_clients, all_servers, clock_of, message_of, receiver_of, issued_of, server_of_disk, numbered, with_numbered, present_end, lease_end_of, fresh_world}
+use Rattle.st_rules.specs.World.{World, ClientSite, site_of, node_of, same_node, all_clients, all_servers, clock_of, message_of, receiver_of, issued_of, server_of_disk, numbered, present_end, lease_end_of, fresh_world}
 use Rattle.st_rules.specs.Events.{Scene, world_step, present_life, present_lives, is_same_instance, is_hard_fate, last_write}
 use Rattle.st_rules.specs.Run.{run}
-use Rattle.st_rules.specs.History.{Traced, History, TimerStart, LeaseDate, EntryGrant, association_of, locks_at, is_timer_of, is_exclusive_on, is_exclusive_row, rows_at, traced, traced_after}
+use Rattle.st_rules.specs.Lines.{AtEach, IsLogTold, lines_open}
+use Rattle.st_rules.specs.Dating.{dates_it, dating_open}
+use Rattle.st_rules.specs.History.{Traced, History, LeaseDate, EntryGrant, association_of, locks_at, is_timer_of, is_exclusive_on, is_exclusive_row, rows_at, traced, traced_after}
 
 -- The steps of a run: what stood before an event, the event, what was observed, and what it left.
 pub record Step : Type 0 where
@@ -115,7 +116,7 @@ StepsEndWithTheRun = (es : List Event) (t : Traced) → (left_by t (steps es t))
 abbrev pub Promise : Type 1
 Promise = List Step → Step → Type 0
 
--- a promise is kept at each of these steps, behind those that stand before them
+-- a promise is kept at each of these steps, after those that stand before them
 unfoldable pub Throughout : Promise → List Step → List Step → Type 0
 Throughout promise past [] = ⊤
 Throughout promise past (x ∷ rest) = promise past x × Throughout promise (past ++ x ∷ []) rest
@@ -194,76 +195,16 @@ ask_in c e = None
 abbrev pub ask_of : List Step → Step → ClientId → ℕ → Option Ask
 ask_of past x c op = numbered (filter_map (ask_in c) (map event_of (past ++ x ∷ []))) op
 
--- The log at an observation: the one before the event, with what was observed before.
-abbrev pub with_fate : ℕ → Fate → Option LogEntry → List LogEntry → List LogEntry
-with_fate index fate None es = es
-with_fate index fate (Some e) es = with_numbered index (record e { fate = fate }) es
-
--- an entry of the log has this fate
-abbrev pub fated : List LogEntry → ℕ → Fate → List LogEntry
-fated es index fate = with_fate index fate (log.entry_at es index) es
-
--- the log behind an observation of a step that left this world; the life of an entry is its client's present one
-unfoldable pub log_behind : World → List LogEntry → Observation → List LogEntry
-log_behind w es (seen.Wrote index c f p bytes) = log.accept es c (present_life w c f.server) f p bytes
-log_behind w es (seen.Patched index c f p at bytes) = log.patch es c (present_life w c f.server) f p at bytes
-log_behind w es (seen.CutAt index f p) = log.cut es f p
-log_behind w es (seen.Hardened index) = fated es index fates.Hard
-log_behind w es (seen.Dropped index cause) = fated es index (fates.Gone cause)
-log_behind w es o = es
-
--- a fact of each observation and the log at it
-unfoldable pub AtEach : (List LogEntry → Observation → Type 0) → World → List LogEntry → List Observation → Type 0
-AtEach fact w es [] = ⊤
-AtEach fact w es (o ∷ os) = fact es o × AtEach fact w (log_behind w es o) os
-
 -- a fact of each observation of a step and the log at it
 abbrev pub AtEachOf : Step → (List LogEntry → Observation → Type 0) → Type 0
 AtEachOf x fact = AtEach fact x.after.world x.before.world.log x.seen
 
--- The report tells the log: behind each event the log is what the lines of that event make of the log before it, in their order.
--- The line of a new entry has the next number, and a line that makes an entry hard or drops it names one that is pending there.
-unfoldable pub log_told : World → List LogEntry → List Observation → List LogEntry
-log_told w es [] = es
-log_told w es (o ∷ os) = log_told w (log_behind w es o) os
-
--- a new entry has the next number
-abbrev pub is_next : List LogEntry → ℕ → Bool
-is_next es index = index == length es + 1
-
--- an entry is there and pending
-abbrev pub is_pending_entry : Option LogEntry → Bool
-is_pending_entry None = false
-is_pending_entry (Some e) = log.is_pending e.fate
-
--- the entry of a number is pending
-abbrev pub is_pending_at : List LogEntry → ℕ → Bool
-is_pending_at es index = is_pending_entry (log.entry_at es index)
-
--- the line of a new entry has the next number, and a line of a fate names a pending entry
-abbrev pub tells_log : List LogEntry → Observation → Bool
-tells_log es (seen.Wrote index c f p bytes) = is_next es index
-tells_log es (seen.Patched index c f p at bytes) = is_next es index
-tells_log es (seen.CutAt index f p) = is_next es index
-tells_log es (seen.Hardened index) = is_pending_at es index
-tells_log es (seen.Dropped index cause) = is_pending_at es index
-tells_log es o = true
-
--- each line does, in the log at it
-unfoldable pub all_tell_log : World → List LogEntry → List Observation → Bool
-all_tell_log w es [] = true
-all_tell_log w es (o ∷ os) = tells_log es o && all_tell_log w (log_behind w es o) os
-
--- the lines of a step that left this world make this log of the one before it
-pub record IsLogTold (w : World) (old : List LogEntry) (lines : List Observation) : Type 0 where
-  pub entries : log_told w old lines ≡ w.log
-  pub numbers : all_tell_log w old lines ≡ true
-
--- The report tells the log
+-- The report tells the log: after each event the log is what the lines of that event make of the log before it, in their order.
+-- The line of a new entry has the next number, and a line that makes an entry hard or drops it names an entry that is pending at that line.
 abbrev pub TheReportTellsTheLog : Promise
 TheReportTellsTheLog past x = IsLogTold x.after.world x.before.world.log x.seen
 
--- Answers are logged: `written` comes right behind the line of the write or the patch that was asked, with its client, file, page,
+-- Answers are logged: `written` follows directly the line of the write or the patch that was asked, with its client, file, page,
 -- bytes and, for a patch, place in the page. `cut` comes only after a cut of the file from the page that was asked, since then.
 abbrev pub IsLoggedWrite : ClientId → Option Ask → Observation → Type 0
 IsLoggedWrite c (Some (asks.Write f p bytes)) (seen.Wrote i d g q old) = seen.Wrote i d g q old ≡ seen.Wrote i c f p bytes
@@ -271,9 +212,9 @@ IsLoggedWrite c (Some (asks.Patch f p at bytes)) (seen.Patched i d g q place old
 IsLoggedWrite c asked o = ⊥
 
 -- the line before the answer, where there is one
-abbrev pub IsLoggedBehind : ClientId → Option Ask → Option Observation → Type 0
-IsLoggedBehind c asked None = ⊥
-IsLoggedBehind c asked (Some o) = IsLoggedWrite c asked o
+abbrev pub IsLoggedAfter : ClientId → Option Ask → Option Observation → Type 0
+IsLoggedAfter c asked None = ⊥
+IsLoggedAfter c asked (Some o) = IsLoggedWrite c asked o
 
 -- a cut of a file from a page
 abbrev pub is_cut_at : FileId → PageNo → Observation → Bool
@@ -285,22 +226,22 @@ abbrev pub asks_at : Option ClientSite → ℕ
 asks_at None = 0
 asks_at (Some site) = site.asks
 
--- a step that stands behind a client's ask of this number
-abbrev pub is_behind_ask : ClientId → ℕ → Step → Bool
-is_behind_ask c op x = nat_le op (asks_at (site_of x.before.world c))
+-- a step after a client's ask of this number
+abbrev pub is_after_ask : ClientId → ℕ → Step → Bool
+is_after_ask c op x = nat_le op (asks_at (site_of x.before.world c))
 
--- a step behind the ask in which the file was cut from the page
-abbrev pub cuts_behind : ClientId → ℕ → FileId → PageNo → Step → Bool
-cuts_behind c op f p x = is_behind_ask c op x && list_any (is_cut_at f p) x.seen
+-- a step after the ask in which the file was cut from the page
+abbrev pub cuts_after : ClientId → ℕ → FileId → PageNo → Step → Bool
+cuts_after c op f p x = is_after_ask c op x && list_any (is_cut_at f p) x.seen
 
 -- what was asked is a cut, and it was done
 abbrev pub was_cut : List Step → ClientId → ℕ → Option Ask → Bool
-was_cut past c op (Some (asks.Cut f p)) = list_any (cuts_behind c op f p) past
+was_cut past c op (Some (asks.Cut f p)) = list_any (cuts_after c op f p) past
 was_cut past c op asked = false
 
 -- an answer that is neither `written` nor `cut` owes nothing
 abbrev pub IsLoggedAnswer : List Step → Step → Option Observation → ClientId → ℕ → AppAnswer → Type 0
-IsLoggedAnswer past x line c op answers.Written = IsLoggedBehind c (ask_of past x c op) line
+IsLoggedAnswer past x line c op answers.Written = IsLoggedAfter c (ask_of past x c op) line
 IsLoggedAnswer past x line c op answers.Cut = was_cut past c op (ask_of past x c op) ≡ true
 IsLoggedAnswer past x line c op answer = ⊤
 
@@ -309,7 +250,7 @@ abbrev pub IsLogged : List Step → Step → Option Observation → Observation 
 IsLogged past x line (seen.Answered c op answer) = IsLoggedAnswer past x line c op answer
 IsLogged past x line o = ⊤
 
--- each of these observations, behind the line before it
+-- each of these observations, after the line before it
 unfoldable pub AreLogged : List Step → Step → Option Observation → List Observation → Type 0
 AreLogged past x line [] = ⊤
 AreLogged past x line (o ∷ os) = IsLogged past x line o × AreLogged past x (Some o) os
@@ -318,8 +259,8 @@ AreLogged past x line (o ∷ os) = IsLogged past x line o × AreLogged past x (S
 abbrev pub AnswersAreLogged : Promise
 AnswersAreLogged past x = AreLogged past x None x.seen
 
--- Asks are answered once: each answer goes to an ask of its client that was not answered before, and behind the line of a write or
--- a patch comes at once the `written` of its client. So each ask has one line in the log at most, and each line has its ask.
+-- Asks are answered once: each answer goes to an ask of its client that was not answered before, and the line of a write or a patch
+-- is followed directly by a `written` to its client. So each such line is of one ask, and no ask has two.
 abbrev pub is_answer_to : ClientId → ℕ → Observation → Bool
 is_answer_to c op (seen.Answered d n answer) = same_client d c && (n == op)
 is_answer_to c op o = false
@@ -341,7 +282,7 @@ abbrev pub is_answered_once : List Step → Step → List Observation → Observ
 is_answered_once past x lines (seen.Answered c op answer) = is_first_answer past x lines c op
 is_answered_once past x lines o = true
 
--- each of these observations, behind these lines
+-- each of these observations, after these lines
 unfoldable pub all_answered_once : List Step → Step → List Observation → List Observation → Bool
 all_answered_once past x lines [] = true
 all_answered_once past x lines (o ∷ os) = is_answered_once past x lines o && all_answered_once past x (lines ++ o ∷ []) os
@@ -371,8 +312,8 @@ all_followed (o ∷ os) = is_followed o os && all_followed os
 abbrev pub AsksAreAnsweredOnce : Promise
 AsksAreAnsweredOnce past x = all_answered_once past x [] x.seen && all_followed x.seen ≡ true
 
--- Changes are locked: behind an event that logged a write or a patch, its client's lease lasts, the client has an exclusive lock on
--- the file, and the page is dirty. Behind one that logged a cut, the file's server runs and has an exclusive row on the file.
+-- Changes are locked: after an event that logged a write or a patch, its client's lease lasts, the client has an exclusive lock on
+-- the file, and the page is dirty. After one that logged a cut, the file's server runs and has an exclusive row on the file.
 abbrev pub has_exclusive : ℕ → Option Association → Bool
 has_exclusive ino a = list_any (is_exclusive_on ino) (locks_at a)
 
@@ -380,7 +321,7 @@ has_exclusive ino a = list_any (is_exclusive_on ino) (locks_at a)
 abbrev pub has_dirty_page : ℕ → PageNo → Option Association → Bool
 has_dirty_page ino p a = list_any (is_dirty_of ino p) (dirty_at a)
 
--- a client's change of a page, behind the event
+-- a client's change of a page, after the event
 abbrev pub changes_alone : World → ClientId → FileId → PageNo → Bool
 changes_alone w c f p = lasts w c f.server && (has_exclusive f.ino (association_of w c f.server) && has_dirty_page f.ino p (association_of w c f.server))
 
@@ -413,7 +354,7 @@ never_fall (e ∷ es) = list_all (is_no_lesser e) es && never_fall es
 abbrev pub ChangesGoInTheOrderOfLocks : Promise
 ChangesGoInTheOrderOfLocks past x = never_fall x.after.history.grants ≡ true
 
--- An expired lease empties its client: where a client takes a step while its lease at a server is over, then behind the step it is
+-- An expired lease empties its client: where a client takes a step while its lease at a server is over, then after the step it is
 -- in its next life there and has no session, page, known place or command of that server, and in the step nothing was submitted
 -- to that server's disks and no read or write of its files was answered.
 abbrev pub is_told_at : IssuedCommand → Option ClientSite → Bool
@@ -455,7 +396,7 @@ steps_expired x c s = takes_step x.before.world c x.event && is_expired x.before
 abbrev pub is_empty_store : Store → Bool
 is_empty_store st = not (is_any st.extents) && (not (is_any st.pages.clean) && (not (is_any st.pages.dirty) && not (is_any st.commands)))
 
--- the life behind this one, without a session and with nothing of pages
+-- the life after this one, without a session and with nothing of pages
 abbrev pub is_emptied : Life → Option Association → Bool
 is_emptied life None = false
 is_emptied life (Some a) = (a.life.0 == life.0 + 1) && (not (is_some a.session) && is_empty_store a.store)
@@ -627,76 +568,6 @@ TheftsComeLate past x = list_all (is_late x.before) x.seen ≡ true
 
 -- Leases are dated from a request: a lease's date is the client's own reading when it sent a request of this life, and the
 -- server sent that request's reply before any timer that runs for this client now.
-
--- a request: what a client sends but a seen demand
-abbrev pub is_request : Body → Bool
-is_request (bodies.DemandSeen ino g) = false
-is_request body = true
-
--- from a client to a server
-abbrev pub is_between : ClientId → ServerId → Header → Bool
-is_between c s h = (h.from == c.0) && (h.to == server_node s)
-
--- of a life, and with this stamp
-abbrev pub is_stamped : Life → Stamp → Header → Bool
-is_stamped life date h = (h.life == life.0) && (h.stamp == date.0)
-
--- a request of a client's life to a server, with this stamp
-abbrev pub is_request_at : ClientId → ServerId → Life → Stamp → Message → Bool
-is_request_at c s life date m = is_between c s m.header && (is_request m.body && is_stamped life date m.header)
-
--- a refusal of the client itself or of its epoch, by which no lease is renewed
-abbrev pub refuses_client : Why → Bool
-refuses_client why.Suspect = true
-refuses_client why.NoSession = true
-refuses_client why.OtherEpoch = true
-refuses_client why.Grace = true
-refuses_client why.GraceOver = true
-refuses_client why.Conflict = true
-refuses_client w = false
-
--- a message that may date a lease: neither such a refusal, nor a demand or a grant that answers no request
-abbrev pub may_date : ℕ → Body → Bool
-may_date number (bodies.Nack w a b) = not (refuses_client w)
-may_date number (bodies.Demand ino g to) = false
-may_date number (bodies.Granted ino g mode) = not (number == 0)
-may_date number body = true
-
--- it goes back to where the other came from
-abbrev pub goes_back : Header → Header → Bool
-goes_back q h = (h.from == q.to) && (h.to == q.from)
-
--- it has the life, the number and the stamp of the other
-abbrev pub answers_to : Header → Header → Bool
-answers_to q h = (h.life == q.life) && ((h.number == q.number) && (h.stamp == q.stamp))
-
--- a reply to a request, by which a lease may be dated
-abbrev pub is_reply_to : Message → Message → Bool
-is_reply_to q m = may_date m.header.number m.body && (goes_back q.header m.header && answers_to q.header m.header)
-
--- a timer of this client started after so many messages
-abbrev pub started_after : ServerId → ClientId → ℕ → TimerStart → Bool
-started_after s c k t = not (same_server t.server s && same_client t.client c) || nat_le k t.sent
-
--- every timer that runs for this client started after so many messages
-abbrev pub is_before_timers : History → ServerId → ClientId → ℕ → Bool
-is_before_timers h s c k = list_all (started_after s c k) h.timers
-
--- a message of the network is a reply to this request, sent before the timers
-unfoldable pub replied_from : ℕ → Traced → ServerId → ClientId → Message → List SentMessage → Bool
-replied_from number t s c q [] = false
-replied_from number t s c q (m ∷ ms) = (is_reply_to q m.message && is_before_timers t.history s c number) || replied_from (number + 1) t s c q ms
-
--- the request was replied to before the timers
-abbrev pub is_replied : Traced → ServerId → ClientId → Message → Bool
-is_replied t s c q = replied_from 1 t s c q t.world.net.messages
-
--- a message that dates a lease, sent at its stamp
-abbrev pub dates_it : Traced → World → ClientId → ServerId → Life → Stamp → Observation → Bool
-dates_it now before c s life date (seen.Sent k q) = is_request_at c s life date q && (((clock_of before (nodes.Client c)).0 == date.0) && is_replied now s c q)
-dates_it now before c s life date o = false
-
--- a step in which such a message was sent
 abbrev pub dates_in : Traced → ClientId → ServerId → Life → Stamp → Step → Bool
 dates_in now c s life date x = list_any (dates_it now x.before.world c s life date) x.seen
 
@@ -819,7 +690,7 @@ pub record IsWorldsHistory (t : Traced) : Type 0 where
   pub dates : list_all (is_dated_life t.history) (all_lives t.world) ≡ true
   pub grants : fit_log t.history.grants t.world.log ≡ true
 
--- The history is the world's, behind every event
+-- The history is the world's, after every event
 abbrev pub TheHistoryIsTheWorlds : Promise
 TheHistoryIsTheWorlds past x = IsWorldsHistory x.after
 
@@ -941,7 +812,7 @@ pub record IsAllPromised : Type 0 where
   pub clients : OldMessagesChangeNoClient
   pub servers : OldMessagesChangeNoServer
 
--- opens all of this file
+-- opens all of this file and of the two that it stands on
 unfoldable pub safety_open : ⊤
-unfolding steps_on steps left_by Throughout ask_of_client log_behind AtEach log_told all_tell_log AreLogged all_answered_once all_followed never_fall fit_log keep_hard replied_from
+unfolding lines_open dating_open steps_on steps left_by Throughout ask_of_client AreLogged all_answered_once all_followed never_fall fit_log keep_hard
 safety_open = tt

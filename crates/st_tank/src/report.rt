@@ -174,7 +174,6 @@ fn put_all_runs(out: &mut String, bytes: &[u8]) -> Result<(), AllocError>
 }
 
 /// The one run of a page of one byte repeated.
-#[tactic(auto, using(crate::proofs::FilledRuns::runs_filled))]
 fn put_filled(out: &mut String, byte: u8) -> Result<(), AllocError>
     ensures { OnOk result (string_bytes out.new ≡ string_bytes out.old ++ text.runs (filled byte)) }
 {

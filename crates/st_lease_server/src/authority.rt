@@ -1,0 +1,110 @@
+ghost use Rattle.std.specs.Prelude.{◌≡◌, true, IfOk, IsOk, OnOk, OnErr};
+ghost use Rattle.st_base.specs.Config as settings;
+ghost use Rattle.st_rules.specs.Authority as rules;
+ghost use Rattle.st_rules.specs.ServerInvariants.{are_rising};
+
+use crate::timers::{clients_over, drop_over, start_timer, tell_clients, timer_of};
+use st_base::{ClientId, Config, Stamp};
+use st_clock::steal_wait;
+use st_rules::Suspect;
+use std::alloc::{AllocError, Global};
+use std::marker::Model;
+
+/// The suspects of one server. Contracts see them as the steal wait and the list of the timers that run, by rising client.
+#[derive(Drop)]
+pub struct Authority {
+    wait: u64,
+    timers: Vec<Suspect>,
+    clients: Vec<ClientId>,
+}
+
+impl Model for Authority {
+    ghost use Rattle.std.specs.Prelude.{◌≡◌, true, map};
+    ghost use Rattle.st_rules.specs.Authority as shared;
+    ghost use Rattle.st_rules.specs.ServerInvariants.{are_rising};
+
+    ghost Value = { shared.Authority };
+
+    ghost view = { λ a. record { wait = a.wait; suspects = a.timers.items } };
+
+    ghost invariant = { λ a. (are_rising a.timers.items ≡ true) × (a.clients.items ≡ map shared.client_of_suspect a.timers.items) };
+}
+
+impl Authority {
+    /// No client is suspect yet. It does not allocate.
+    #[tactic(auto, unfolding(st_rules::specs::ServerInvariants::are_rising))]
+    pub fn new(alloc: Global, config: &Config) -> Authority
+        requires checked { IsOk (settings.check config.now) }
+        ensures none { result ≡ rules.no_suspects config.now }
+    {
+        Authority {
+            wait: steal_wait(config),
+            timers: Vec::new(alloc),
+            clients: Vec::new(alloc),
+        }
+    }
+
+    /// Makes the client suspect: its timer starts now. A timer that runs keeps its start. If the call runs out of memory,
+    /// nothing changes.
+    #[tactic(auto, unfolding(st_rules::specs::Authority::suspect))]
+    pub fn suspect(&mut self, client: ClientId, now: Stamp) -> Result<(), AllocError>
+        ensures ok { OnOk result (self.new ≡ rules.suspect self.old client now) }
+        ensures err { OnErr result (self.new ≡ self.old) }
+    {
+        if self.may_ack(client) {
+            return self.start(client, now);
+        }
+        Ok(())
+    }
+
+    /// Starts the timer of a client whose timer does not run.
+    #[tactic(auto, unfolding(st_rules::specs::Authority::start_timer))]
+    fn start(&mut self, client: ClientId, now: Stamp) -> Result<(), AllocError>
+        requires { rules.may_ack self.old client ≡ true }
+        ensures ok { OnOk result (self.new ≡ rules.start_timer self.old client now) }
+        ensures err { OnErr result (self.new ≡ self.old) }
+    {
+        self.clients.reserve(1)?;
+        start_timer(&mut self.timers, Suspect { client, start: now })?;
+        tell_clients(&mut self.clients, &self.timers);
+        Ok(())
+    }
+
+    /// Whether the server may acknowledge messages of the client: exactly while no timer of it runs. It does not allocate.
+    pub fn may_ack(&self, client: ClientId) -> bool
+        ensures { result ≡ rules.may_ack self.now client }
+    {
+        timer_of(&self.timers, client).is_none()
+    }
+
+    /// Since when the client's timer runs, or `None` where it does not run. It does not allocate.
+    pub fn started(&self, client: ClientId) -> Option<Stamp>
+        ensures { result ≡ rules.started self.now client }
+    {
+        let timer = timer_of(&self.timers, client)?;
+        Some(timer.start)
+    }
+
+    /// Takes out the clients whose timers are over, which are those that started the steal wait ago or earlier, and returns
+    /// them in rising order. If the call runs out of memory, nothing changes.
+    #[tactic(auto, unfolding(st_rules::specs::Authority::over, st_rules::specs::Authority::still_running))]
+    pub fn over(&mut self, now: Stamp) -> Result<Vec<ClientId>, AllocError>
+        ensures told { IfOk result (λ v. v.items ≡ rules.over self.old now) }
+        ensures left { OnOk result (self.new ≡ rules.still_running self.old now) }
+        ensures err { OnErr result (self.new ≡ self.old) }
+    {
+        let alloc = *self.timers.allocator();
+        let over = clients_over(alloc, &self.timers, self.wait, now)?;
+        drop_over(&mut self.timers, self.wait, now);
+        tell_clients(&mut self.clients, &self.timers);
+        Ok(over)
+    }
+
+    /// The clients whose timer runs, in rising order. It does not allocate.
+    pub fn suspects(&self) -> &[ClientId]
+        ensures suspects { result.now ≡ rules.suspects_of self.now }
+        ensures rising { are_rising self.now.suspects ≡ true }
+    {
+        &self.clients
+    }
+}

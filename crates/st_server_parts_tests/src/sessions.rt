@@ -1,0 +1,325 @@
+use crate::draws::Draws;
+use st_base::{ClientId, Epoch, Life};
+use st_messages::Body;
+use st_sessions::{Hello, Sessions, Taken};
+use std::alloc::{AllocError, Global};
+use std::test::Fail;
+
+/// A session as a plain row. `reply` is the kept reply: 0 is none, 1 an ack, 2 `reasserted`.
+#[derive(Clone, Copy)]
+struct Row {
+    client: u16,
+    life: u64,
+    live: bool,
+    last: u64,
+    reply: u8,
+}
+
+fn row_of(rows: &[Row], client: u16) -> Option<Row> {
+    rows.iter().copied().find(|row| row.client == client)
+}
+
+fn put(rows: &mut Vec<Row>, row: Row) -> Result<(), AllocError> {
+    rows.retain(|old| old.client != row.client);
+    rows.push(row)?;
+    Ok(())
+}
+
+fn begun(client: u16, life: u64) -> Row {
+    Row {
+        client,
+        life,
+        live: true,
+        last: 0,
+        reply: 0,
+    }
+}
+
+fn hello_again(row: Row, life: u64, locks: bool) -> Hello {
+    if !row.live {
+        return if life > row.life {
+            Hello::Welcome
+        } else {
+            Hello::Old
+        };
+    }
+    if life < row.life {
+        return Hello::Old;
+    }
+    if life == row.life {
+        return Hello::Welcome;
+    }
+    if locks { Hello::Wait } else { Hello::Replaced }
+}
+
+/// A greeting by the rules' words, over plain rows.
+fn hello(rows: &mut Vec<Row>, client: u16, life: u64, locks: bool) -> Result<Hello, AllocError> {
+    let Some(row) = row_of(rows, client) else {
+        put(rows, begun(client, life))?;
+        return Ok(Hello::Welcome);
+    };
+    let hello = hello_again(row, life, locks);
+    let stays = row.live && life == row.life;
+    if hello == Hello::Replaced || hello == Hello::Welcome && !stays {
+        put(rows, begun(client, life))?;
+    }
+    Ok(hello)
+}
+
+/// What became of a request, as a number.
+fn code(taken: Taken<&Body>) -> u8 {
+    match taken {
+        Taken::OtherEpoch => 1,
+        Taken::NoSession => 2,
+        Taken::Stale => 3,
+        Taken::Again(Body::Reasserted) => 4,
+        Taken::Again(_) => 5,
+        Taken::Fresh => 6,
+        Taken::OutOfOrder => 7,
+    }
+}
+
+fn take_live(row: Row, number: u64) -> u8 {
+    if number < row.last {
+        return 3;
+    }
+    if number > row.last {
+        return if number - 1 == row.last { 6 } else { 7 };
+    }
+    match row.reply {
+        0 => 3,
+        1 => 5,
+        _ => 4,
+    }
+}
+
+/// A request by the rules' words, over plain rows.
+fn take(rows: &[Row], client: u16, life: u64, epoch: u64, number: u64) -> u8 {
+    if epoch != 7 {
+        return 1;
+    }
+    let Some(row) = row_of(rows, client) else {
+        return 2;
+    };
+    if life > row.life {
+        return 2;
+    }
+    if life < row.life || !row.live {
+        return 3;
+    }
+    take_live(row, number)
+}
+
+/// Changes a living row, if the client has one.
+fn change(rows: &mut Vec<Row>, client: u16, live: bool, last: u64) -> Result<(), AllocError> {
+    let Some(row) = row_of(rows, client) else {
+        return Ok(());
+    };
+    if !row.live {
+        return Ok(());
+    }
+    put(
+        rows,
+        Row {
+            client,
+            life: row.life,
+            live,
+            last,
+            reply: 1,
+        },
+    )
+}
+
+/// Whether the sessions and the plain rows know the same of a client.
+fn agree(sessions: &Sessions, rows: &[Row], client: u16, life: u64) -> bool {
+    let id = ClientId(client);
+    let Some(row) = row_of(rows, client) else {
+        return sessions.life(id).is_none()
+            && !sessions.knows(id, Life(life))
+            && !sessions.serves(id, Life(life));
+    };
+    let serves = row.live && row.life == life;
+    sessions.life(id) == Some(Life(row.life))
+        && sessions.serves(id, Life(life)) == serves
+        && sessions.knows(id, Life(life)) == (serves || row.life > life)
+}
+
+/// One call on both; whether the answers are the same.
+fn same(
+    sessions: &mut Sessions,
+    rows: &mut Vec<Row>,
+    draws: &mut Draws,
+) -> Result<bool, AllocError> {
+    let client = 1 + draws.draw(5) as u16;
+    let id = ClientId(client);
+    let life = 1 + draws.draw(4);
+    let number = draws.draw(5);
+    match draws.draw(8) {
+        0 | 1 => {
+            let locks = draws.draw(2) == 0;
+            let given = sessions.hello(id, Life(life), locks)?;
+            let wanted = hello(rows, client, life, locks)?;
+            Ok(given == wanted)
+        }
+        2 | 3 | 4 => {
+            let epoch = 6 + draws.draw(8).min(1);
+            let given = code(sessions.take(id, Life(life), Epoch(epoch), number));
+            Ok(given == take(rows, client, life, epoch, number))
+        }
+        5 => {
+            sessions.store(id, number, &Body::Ack)?;
+            change(rows, client, true, number)?;
+            Ok(true)
+        }
+        6 => {
+            sessions.end(id);
+            change(rows, client, false, 0)?;
+            Ok(true)
+        }
+        _ => {
+            sessions.reasserted(id, Life(life))?;
+            let row = Row {
+                client,
+                life,
+                live: true,
+                last: 1,
+                reply: 2,
+            };
+            put(rows, row)?;
+            Ok(true)
+        }
+    }
+}
+
+#[test]
+fn sessions_are_plain_rows(rt: HostRuntime) -> Result<(), Fail> {
+    let mut sessions = Sessions::new(rt.alloc(), Epoch(7));
+    let mut rows = Vec::new(rt.alloc());
+    let mut draws = Draws::new(1);
+    for _ in 0..10_000 {
+        let agreed = same(&mut sessions, &mut rows, &mut draws)?;
+        assert!(rt; agreed);
+        let client = 1 + draws.draw(5) as u16;
+        let life = 1 + draws.draw(4);
+        let told = agree(&sessions, &rows, client, life);
+        assert!(rt; told);
+    }
+    Ok(())
+}
+
+/// A call on the sessions of epoch 1: clients, lives, epochs and numbers are plain numbers.
+#[derive(Clone, Copy)]
+enum Call {
+    Hello(u16, u64, bool),
+    Take(u16, u64, u64, u64),
+    Store(u16, u64),
+    Reasserted(u16, u64),
+    End(u16),
+    Life(u16),
+}
+
+/// Calls one after the other and their answers, from an independent reading of the rules. It does not tell the requests apart
+/// that are passed over, nor the sessions that are welcome.
+const CALLS: [(Call, &str); 43] = [
+    (Call::Life(1), "none"),
+    (Call::Take(1, 1, 2, 1), "other epoch"),
+    (Call::Take(1, 1, 1, 1), "no session"),
+    (Call::End(1), "done"),
+    (Call::Hello(1, 2, false), "welcome"),
+    (Call::Life(1), "2"),
+    (Call::Take(1, 2, 1, 2), "passed over"),
+    (Call::Take(1, 2, 1, 1), "fresh"),
+    (Call::Store(1, 1), "done"),
+    (Call::Take(1, 2, 1, 1), "again ack"),
+    (Call::Take(1, 2, 1, 2), "fresh"),
+    (Call::Store(1, 2), "done"),
+    (Call::Take(1, 2, 1, 1), "passed over"),
+    (Call::Take(1, 1, 1, 3), "passed over"),
+    (Call::Take(1, 3, 1, 3), "no session"),
+    (Call::Take(1, 2, 0, 3), "other epoch"),
+    (Call::Take(2, 2, 1, 1), "no session"),
+    (Call::Hello(1, 1, true), "old"),
+    (Call::Hello(1, 2, true), "welcome"),
+    (Call::Take(1, 2, 1, 2), "again ack"),
+    (Call::Hello(1, 3, true), "wait"),
+    (Call::Life(1), "2"),
+    (Call::Hello(1, 3, false), "welcome"),
+    (Call::Life(1), "3"),
+    (Call::Take(1, 3, 1, 1), "fresh"),
+    (Call::Take(1, 2, 1, 3), "passed over"),
+    (Call::End(1), "done"),
+    (Call::Life(1), "3"),
+    (Call::Take(1, 3, 1, 1), "passed over"),
+    (Call::Take(1, 4, 1, 1), "no session"),
+    (Call::Hello(1, 3, false), "old"),
+    (Call::Hello(1, 2, false), "old"),
+    (Call::Hello(1, 4, true), "welcome"),
+    (Call::Life(1), "4"),
+    (Call::Reasserted(2, 5), "done"),
+    (Call::Life(2), "5"),
+    (Call::Take(2, 5, 1, 1), "again reasserted"),
+    (Call::Take(2, 5, 1, 2), "fresh"),
+    (Call::Take(2, 5, 1, 0), "passed over"),
+    (Call::Hello(2, 4, false), "old"),
+    (Call::End(2), "done"),
+    (Call::Take(2, 5, 1, 1), "passed over"),
+    (Call::Life(1), "4"),
+];
+
+fn greeted(hello: Hello) -> &'static str {
+    match hello {
+        Hello::Welcome | Hello::Replaced => "welcome",
+        Hello::Old => "old",
+        Hello::Wait => "wait",
+    }
+}
+
+fn taken(taken: Taken<&Body>) -> &'static str {
+    match taken {
+        Taken::OtherEpoch => "other epoch",
+        Taken::NoSession => "no session",
+        Taken::Stale | Taken::OutOfOrder => "passed over",
+        Taken::Again(Body::Reasserted) => "again reasserted",
+        Taken::Again(_) => "again ack",
+        Taken::Fresh => "fresh",
+    }
+}
+
+fn answer(alloc: Global, sessions: &mut Sessions, call: Call) -> Result<String, AllocError> {
+    match call {
+        Call::Hello(client, life, rows) => {
+            let hello = sessions.hello(ClientId(client), Life(life), rows)?;
+            String::from_str(alloc, greeted(hello))
+        }
+        Call::Take(client, life, epoch, number) => {
+            let word = taken(sessions.take(ClientId(client), Life(life), Epoch(epoch), number));
+            String::from_str(alloc, word)
+        }
+        Call::Store(client, number) => {
+            sessions.store(ClientId(client), number, &Body::Ack)?;
+            String::from_str(alloc, "done")
+        }
+        Call::Reasserted(client, life) => {
+            sessions.reasserted(ClientId(client), Life(life))?;
+            String::from_str(alloc, "done")
+        }
+        Call::End(client) => {
+            sessions.end(ClientId(client));
+            String::from_str(alloc, "done")
+        }
+        Call::Life(client) => match sessions.life(ClientId(client)) {
+            Some(life) => format!(in alloc; "{}", life.0),
+            None => String::from_str(alloc, "none"),
+        },
+    }
+}
+
+#[test]
+fn sessions_answer_as_the_rules_say(rt: HostRuntime) -> Result<(), Fail> {
+    let mut sessions = Sessions::new(rt.alloc(), Epoch(1));
+    for (call, wanted) in CALLS {
+        let given = answer(rt.alloc(), &mut sessions, call)?;
+        assert_eq!(rt; given.as_str(), wanted);
+    }
+    Ok(())
+}

@@ -1,0 +1,5 @@
+mod Places
+mod Puts
+mod Once
+mod Changes
+mod Changed

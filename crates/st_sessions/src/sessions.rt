@@ -1,0 +1,183 @@
+ghost use Rattle.std.specs.Prelude.{◌≡◌, true, IfOk, OnOk, OnErr};
+ghost use Rattle.st_rules.specs.Sessions as rules;
+ghost use Rattle.st_rules.specs.Server.{serves_at};
+ghost use Rattle.st_rules.specs.ServerInvariants.{are_once, same_session};
+
+use crate::greeting::{is_live, judge};
+use crate::requests::{kept_state, knows_life, serves_life, take_life};
+use crate::table::{find_session, index_of, put_session, set_state};
+use st_base::{ClientId, Epoch, Life};
+use st_messages::Body;
+use st_rules::{Hello, Session, SessionState, Taken};
+use std::alloc::{AllocError, Global};
+use std::marker::Model;
+
+/// The sessions of one server in one epoch. Contracts see them as the epoch and the list of the sessions, of which a client
+/// has at most one.
+#[derive(Drop)]
+pub struct Sessions {
+    epoch: Epoch,
+    rows: Vec<Session>,
+}
+
+impl Model for Sessions {
+    ghost use Rattle.std.specs.Prelude.{◌≡◌, true};
+    ghost use Rattle.st_rules.specs.Sessions as shared;
+    ghost use Rattle.st_rules.specs.ServerInvariants.{are_once, same_session};
+
+    ghost Value = { shared.Sessions };
+
+    ghost view = { λ t. record { epoch = t.epoch; rows = t.rows.items } };
+
+    ghost invariant = { λ t. are_once same_session t.rows.items ≡ true };
+}
+
+impl Sessions {
+    /// The sessions of an epoch in which nobody greeted yet. It does not allocate.
+    #[tactic(auto, unfolding(st_rules::specs::ServerInvariants::are_once))]
+    pub fn new(alloc: Global, epoch: Epoch) -> Sessions
+        ensures { result ≡ rules.no_sessions epoch }
+    {
+        Sessions {
+            epoch,
+            rows: Vec::new(alloc),
+        }
+    }
+
+    /// Puts a session in place of its client's, or last.
+    fn put(&mut self, session: Session) -> Result<(), AllocError>
+        ensures ok { OnOk result (self.new ≡ rules.with_session session self.old) }
+        ensures err { OnErr result (self.new ≡ self.old) }
+    {
+        put_session(&mut self.rows, session)
+    }
+
+    /// Begins a new session of the client.
+    fn begin(&mut self, client: ClientId, life: Life) -> Result<(), AllocError>
+        ensures ok { OnOk result (self.new ≡ rules.with_new_session client life self.old) }
+        ensures err { OnErr result (self.new ≡ self.old) }
+    {
+        self.put(Session {
+            client,
+            life,
+            state: SessionState::Live {
+                last: 0,
+                reply: None,
+            },
+        })
+    }
+
+    /// A client greets in this life; `rows` tells whether it has locks. It is welcome in the life of its living session, and
+    /// wherever a new session begins: without a session, or in a life above an ended one's. A life above a living session's
+    /// waits where the client has locks, and else replaces that session. Every other life is old. `Old` and `Wait` change
+    /// nothing. If the call runs out of memory, nothing changes either.
+    #[tactic(auto, unfolding(st_rules::specs::Sessions::hello, st_rules::specs::Sessions::begin_session))]
+    pub fn hello(&mut self, client: ClientId, life: Life, rows: bool) -> Result<Hello, AllocError>
+        ensures ok { IfOk result (λ h. rules.greeted h self.new ≡ rules.hello self.old client life rows) }
+        ensures err { OnErr result (self.new ≡ self.old) }
+    {
+        let judgement = judge(find_session(&self.rows, client), life, rows);
+        if judgement.begins {
+            self.begin(client, life)?;
+            return Ok(judgement.hello);
+        }
+        Ok(judgement.hello)
+    }
+
+    /// What becomes of a request of this life, epoch and number. It is `Fresh` where it is the next one of the client's
+    /// living session; `Again` lends the reply that was kept for the last one. It does not allocate.
+    #[tactic(auto, unfolding(st_rules::specs::Sessions::take))]
+    pub fn take(&self, client: ClientId, life: Life, epoch: Epoch, number: u64) -> Taken<&Body>
+        ensures { rules.taken_copied result ≡ rules.take self.now client life epoch number }
+    {
+        if epoch.0 == self.epoch.0 {
+            self.take_at(client, life, number)
+        } else {
+            Taken::OtherEpoch
+        }
+    }
+
+    /// What becomes of a request of this epoch.
+    #[tactic(auto, unfolding(st_rules::specs::Sessions::take_at))]
+    fn take_at(&self, client: ClientId, life: Life, number: u64) -> Taken<&Body>
+        ensures { rules.taken_copied result ≡ rules.take_at (rules.session_of self.now client) life number }
+    {
+        match find_session(&self.rows, client) {
+            None => Taken::NoSession,
+            Some(session) => take_life(session, life, number),
+        }
+    }
+
+    /// Keeps a copy of the reply to this number, which is then the last one that the client's living session served. Without
+    /// a living session nothing changes. If the call runs out of memory, nothing changes either.
+    #[tactic(auto, unfolding(st_rules::specs::Sessions::store))]
+    pub fn store(&mut self, client: ClientId, number: u64, reply: &Body) -> Result<(), AllocError>
+        ensures ok { OnOk result (self.new ≡ rules.store self.old client number reply.now) }
+        ensures err { OnErr result (self.new ≡ self.old) }
+    {
+        let Some(index) = index_of(&self.rows, client) else {
+            return Ok(());
+        };
+        let live = is_live(&self.rows[index]);
+        let reply = reply.copy()?;
+        set_state(&mut self.rows, index, kept_state(live, number, reply));
+        Ok(())
+    }
+
+    /// Makes the client's session a living one of this life, whose last number is 1 with the kept reply `Reasserted`. If the
+    /// call runs out of memory, nothing changes.
+    #[tactic(auto, unfolding(st_rules::specs::Sessions::reasserted))]
+    pub fn reasserted(&mut self, client: ClientId, life: Life) -> Result<(), AllocError>
+        ensures ok { OnOk result (self.new ≡ rules.reasserted self.old client life) }
+        ensures err { OnErr result (self.new ≡ self.old) }
+    {
+        self.put(Session {
+            client,
+            life,
+            state: SessionState::Live {
+                last: 1,
+                reply: Some(Body::Reasserted),
+            },
+        })
+    }
+
+    /// Ends the client's session, if it has one; its life stays known. It does not allocate.
+    #[tactic(auto, unfolding(st_rules::specs::Sessions::end))]
+    pub fn end(&mut self, client: ClientId)
+        ensures { self.new ≡ rules.end self.old client }
+    {
+        let Some(index) = index_of(&self.rows, client) else {
+            return;
+        };
+        set_state(&mut self.rows, index, SessionState::Ended);
+    }
+
+    /// The life of the client's session, living or ended, or `None` if it had none in this epoch. It does not allocate.
+    pub fn life(&self, client: ClientId) -> Option<Life>
+        ensures life { result ≡ rules.life_of self.now client }
+        ensures once { are_once same_session self.now.rows ≡ true }
+    {
+        let session = find_session(&self.rows, client)?;
+        Some(session.life)
+    }
+
+    /// Whether the client has a living session of this life, or a session of a higher one. It does not allocate.
+    pub fn knows(&self, client: ClientId, life: Life) -> bool
+        ensures { result ≡ rules.knows self.now client life }
+    {
+        match find_session(&self.rows, client) {
+            None => false,
+            Some(session) => knows_life(session, life),
+        }
+    }
+
+    /// Whether the client has a living session of this life. It does not allocate.
+    pub fn serves(&self, client: ClientId, life: Life) -> bool
+        ensures { result ≡ serves_at life (rules.session_of self.now client) }
+    {
+        match find_session(&self.rows, client) {
+            None => false,
+            Some(session) => serves_life(session, life),
+        }
+    }
+}
