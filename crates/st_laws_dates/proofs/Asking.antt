@@ -39,7 +39,7 @@ use Rattle.st_rules.specs.ClientPages.{Pages, Store}
 use Rattle.st_rules.specs.ClientPasses as cp
 use Rattle.st_rules.specs.ClientState as cs
 use Rattle.st_rules.specs.ClientState.{ClientSession, Association, ClientState, ClientTurn, Turn, client_turn, enter, leave, at_these, at_each, with_associations, with_session, with_store, with_operations, with_cache, forget_wait, fits, is_asked, is_of, is_at, is_sent, only_at, is_serving, is_open_file, answer_each, send, say, new_operation}
-use Rattle.st_rules.specs.Safety as dating
+use Rattle.st_rules.specs.Dating as dating
 use Rattle.st_lemmas.specs.Lists.{Has}
 use Rattle.st_lemmas.proofs.Tables.{has_append, has_map}
 use Rattle.st_laws_dates.specs.Dates.{Dates, Session_dated}

@@ -22,8 +22,8 @@ use Rattle.st_rules.specs.Server.{ServerNode}
 use Rattle.st_rules.specs.World.{ClientSite, site_of, numbered, clock_of, fresh_world, fresh_site, node_at_start, all_clients, all_servers}
 use Rattle.st_rules.specs.Events.{Scene, world_step}
 use Rattle.st_rules.specs.History.{Traced, TimerStart, traced, traced_after, association_at}
-use Rattle.st_rules.specs.Safety as dating
-use Rattle.st_rules.specs.Safety.{Step, step, steps, LeasesAreDatedFromRequests, IsHead}
+use Rattle.st_rules.specs.Dating as dating
+use Rattle.st_rules.specs.Safety.{Step, step, steps, LeasesAreDatedFromRequests, IsHead, all_dated, association_dated, session_dated, dates_in, is_dated}
 use Rattle.st_lemmas.specs.Lists.{Has}
 use Rattle.st_lemmas.proofs.Tables.{and_true, and_both, some_passes, found_at, has_map}
 use Rattle.st_lemmas.proofs.Lookups.{some_is, or_left, or_right}
@@ -61,8 +61,8 @@ module _ (past : List Step) (t : Traced) (d : Dated past t) where
       go true q = absurd (from_server m s e q)
       go false q = refl
 
-  session_ok : (c : ClientId) (s : ServerId) (life : Life) (date : Stamp) → Dates (messages t.world) c s life date → list_any (dating.dates_in t c s life date) past ≡ true
-  session_ok c s life date z = some_passes (dating.dates_in t c s life date) past b.at b.among (some_passes (dating.dates_it t b.at.before.world c s life date) b.at.seen (seen.Sent b.number q) b.sent test)
+  session_ok : (c : ClientId) (s : ServerId) (life : Life) (date : Stamp) → Dates (messages t.world) c s life date → list_any (dates_in t c s life date) past ≡ true
+  session_ok c s life date z = some_passes (dates_in t c s life date) past b.at b.among (some_passes (dating.dates_it t b.at.before.world c s life date) b.at.seen (seen.Sent b.number q) b.sent test)
     where
       a : Answer (messages t.world) z.by
       a = d.answered z.by z.among (not_client z.by s z.from) z.dating
@@ -103,23 +103,23 @@ module _ (past : List Step) (t : Traced) (d : Dated past t) where
           and_both _ _ (and_both _ _ (and_both _ _ (eq-eqb _ _ from) (eq-eqb _ _ (sym (eqb-true _ _ back.0) ∙ z.from))) (and_both _ _ a.request (and_both _ _ (eq-eqb _ _ (sym (eqb-true _ _ answers.0) ∙ z.of_life)) (eq-eqb _ _ stamp))))
           (and_both _ _ (eq-eqb _ _ (ap (λ n. (clock_of b.at.before.world (nodes.Client (client n))).0) (sym from) ∙ eqb-true _ _ b.stamp ∙ stamp)) (replied number.0 number.1))
 
-  association_ok : (c : ClientId) (s : ServerId) → dating.is_dated past t c s ≡ true
+  association_ok : (c : ClientId) (s : ServerId) → is_dated past t c s ≡ true
   association_ok c s = at (site_of t.world c) refl
     where
-      session : (a : Association) (x : Option ClientSession) → a.server.0 ≡ s.0 → Session_dated (messages t.world) c a.server a.life x → dating.session_dated past t c s a.life x ≡ true
+      session : (a : Association) (x : Option ClientSession) → a.server.0 ≡ s.0 → Session_dated (messages t.world) c a.server a.life x → session_dated past t c s a.life x ≡ true
       session a None e z = refl
-      session a (Some x) e z = subst (λ n. dating.session_dated past t c (record { 0 = n }) a.life (Some x) ≡ true) e (session_ok c a.server a.life x.lease.date z)
+      session a (Some x) e z = subst (λ n. session_dated past t c (record { 0 = n }) a.life (Some x) ≡ true) e (session_ok c a.server a.life x.lease.date z)
 
-      found : (site : ClientSite) → Client_dated (messages t.world) c site.node.state → (o : Option Association) → find (is_at s) site.node.state.associations ≡ o → dating.association_dated past t c s o ≡ true
+      found : (site : ClientSite) → Client_dated (messages t.world) c site.node.state → (o : Option Association) → find (is_at s) site.node.state.associations ≡ o → association_dated past t c s o ≡ true
       found site k None e = refl
       found site k (Some a) e = let z = found_at (is_at s) site.node.state.associations a e in session a a.session (eqb-true _ _ z.0) (k.all a z.1)
 
-      at : (o : Option ClientSite) → site_of t.world c ≡ o → dating.association_dated past t c s (association_at s o) ≡ true
+      at : (o : Option ClientSite) → site_of t.world c ≡ o → association_dated past t c s (association_at s o) ≡ true
       at None e = refl
       at (Some site) e = found site (d.clients c site e) (find (is_at s) site.node.state.associations) refl
 
-  pub promised : list_all (dating.all_dated past t) (all_clients t.world) ≡ true
-  promised = all_true (dating.all_dated past t) (all_clients t.world) (λ c h. all_true (dating.is_dated past t c) (all_servers t.world) (λ s i. association_ok c s))
+  pub promised : list_all (all_dated past t) (all_clients t.world) ≡ true
+  promised = all_true (all_dated past t) (all_clients t.world) (λ c h. all_true (is_dated past t c) (all_servers t.world) (λ s i. association_ok c s))
 
 -- One step.
 one : (past : List Step) (t : Traced) (e : Event) (sc : Scene) → Dated past t → world_step t.world e ≡ Ok sc → LeasesAreDatedFromRequests past (step t e sc) × Dated (past ++ step t e sc ∷ []) (traced_after e t sc)

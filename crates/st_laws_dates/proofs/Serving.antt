@@ -49,7 +49,7 @@ use Rattle.st_rules.specs.Grace as grace
 use Rattle.st_rules.specs.Grace.{accept, accept_rows, accept_earlier, accept_own, accept_installed, accepted}
 use Rattle.st_rules.specs.World.{World}
 use Rattle.st_rules.specs.History.{TimerStart, timer_start, is_timer_of}
-use Rattle.st_rules.specs.Safety as dating
+use Rattle.st_rules.specs.Dating as dating
 use Rattle.st_rules.specs.Server as sv
 use Rattle.st_rules.specs.Server.{ServerState, Turn, Replied, turn, with_locks, with_sessions, with_authority, sender, life_in, reply, tell, steal_at, steal_from, steal, steal_each, thefts, suspect_client, greet_as, greet_by, greet, refuse_in_grace, hello, demand_seen, see_demand, refuse_epoch, reassert_by, reassert_new, reassert_again, reassert, rule, refused_reassertion, keep_and_reply, keep, serve, request_by, request, of_epoch, by_body, refuse_suspect, by_suspicion, receive_from, receive, take_input, suspect_unless, suspect_each, suspecting, suspecting_on, tell_granted, grant_by, grant_waiting, granting, tell_demanded, demand_by, demanding, server_step, is_client_node}
 use Rattle.st_lemmas.specs.Lists.{Has}

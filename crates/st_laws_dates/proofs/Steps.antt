@@ -39,7 +39,7 @@ use Rattle.st_rules.specs.Events as ev
 use Rattle.st_rules.specs.Events.{Scene}
 use Rattle.st_rules.specs.History as history
 use Rattle.st_rules.specs.History.{History, Traced, TimerStart, traced_after, history_after, remember, timer_start, recall_all}
-use Rattle.st_rules.specs.Safety as dating
+use Rattle.st_rules.specs.Dating as dating
 use Rattle.st_rules.specs.Safety.{Step, step}
 use Rattle.st_lemmas.specs.Lists.{Has}
 use Rattle.st_lemmas.proofs.Tables.{same_or_not, has_append, has_filter, has_map, has_map_in, not_true}

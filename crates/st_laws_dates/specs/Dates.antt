@@ -20,7 +20,7 @@ use Rattle.st_rules.specs.Locks.{Locks}
 use Rattle.st_rules.specs.Server.{ServerNode, ServerState, is_client_node}
 use Rattle.st_rules.specs.World.{World, ClientSite, clock_of, site_of, node_of, numbered}
 use Rattle.st_rules.specs.History.{Traced, TimerStart}
-use Rattle.st_rules.specs.Safety as dating
+use Rattle.st_rules.specs.Dating as dating
 use Rattle.st_rules.specs.Safety.{Step}
 use Rattle.st_lemmas.specs.Lists.{Has}
 
