@@ -44,7 +44,7 @@ enum Became {
     Unasked,
 }
 
-fn became(answer: Result<(), ReassertRefusal>) -> Became {
+fn outcome_of(answer: Result<(), ReassertRefusal>) -> Became {
     match answer {
         Ok(()) => Became::Accepted,
         Err(ReassertRefusal::GraceOver(start, now)) => Became::GraceOver(start.0, now.0),
@@ -69,7 +69,7 @@ fn accept(
         return Became::Unasked;
     }
     let grace = &parts.grace;
-    became(grace.accept(
+    outcome_of(grace.accept(
         alloc,
         Stamp(now),
         ClientId(client),
@@ -138,41 +138,104 @@ enum Call {
 
 /// Calls one after the other and their answers, from an independent reading of the rules.
 const CALLS: [(Call, &str); 31] = [
-    (Call::Accept(700, 1, 1, [(2, 8589934593, 2), (0, 0, 0)]), "not holder 2 8589934593"),
-    (Call::Accept(700, 1, 1, [(2, 8589934592, 2), (0, 0, 0)]), "not holder 2 8589934592"),
+    (
+        Call::Accept(700, 1, 1, [(2, 8589934593, 2), (0, 0, 0)]),
+        "not holder 2 8589934593",
+    ),
+    (
+        Call::Accept(700, 1, 1, [(2, 8589934592, 2), (0, 0, 0)]),
+        "not holder 2 8589934592",
+    ),
     (Call::Life(1), "none"),
-    (Call::Accept(700, 1, 1, [(2, 4294967297, 2), (0, 0, 0)]), "accepted"),
+    (
+        Call::Accept(700, 1, 1, [(2, 4294967297, 2), (0, 0, 0)]),
+        "accepted",
+    ),
     (Call::Life(1), "1"),
-    (Call::Accept(701, 2, 1, [(2, 4294967298, 1), (0, 0, 0)]), "conflict 2 1"),
-    (Call::Accept(701, 2, 1, [(3, 4294967299, 1), (0, 0, 0)]), "accepted"),
-    (Call::Accept(702, 3, 4, [(3, 4294967300, 1), (0, 0, 0)]), "accepted"),
-    (Call::Accept(703, 4, 1, [(2, 4294967301, 1), (3, 4294967302, 2)]), "conflict 2 1"),
-    (Call::Accept(703, 4, 1, [(3, 4294967301, 2), (4, 4294967302, 2)]), "conflict 3 2"),
-    (Call::Accept(704, 4, 1, [(4, 4294967301, 2), (5, 8589934599, 2)]), "not holder 5 8589934599"),
-    (Call::Accept(704, 4, 1, [(2, 8589934600, 2), (5, 8589934599, 2)]), "not holder 2 8589934600"),
+    (
+        Call::Accept(701, 2, 1, [(2, 4294967298, 1), (0, 0, 0)]),
+        "conflict 2 1",
+    ),
+    (
+        Call::Accept(701, 2, 1, [(3, 4294967299, 1), (0, 0, 0)]),
+        "accepted",
+    ),
+    (
+        Call::Accept(702, 3, 4, [(3, 4294967300, 1), (0, 0, 0)]),
+        "accepted",
+    ),
+    (
+        Call::Accept(703, 4, 1, [(2, 4294967301, 1), (3, 4294967302, 2)]),
+        "conflict 2 1",
+    ),
+    (
+        Call::Accept(703, 4, 1, [(3, 4294967301, 2), (4, 4294967302, 2)]),
+        "conflict 3 2",
+    ),
+    (
+        Call::Accept(704, 4, 1, [(4, 4294967301, 2), (5, 8589934599, 2)]),
+        "not holder 5 8589934599",
+    ),
+    (
+        Call::Accept(704, 4, 1, [(2, 8589934600, 2), (5, 8589934599, 2)]),
+        "not holder 2 8589934600",
+    ),
     (Call::Life(4), "none"),
-    (Call::Accept(705, 4, 1, [(4, 4294967301, 2), (5, 8589934591, 2)]), "accepted"),
+    (
+        Call::Accept(705, 4, 1, [(4, 4294967301, 2), (5, 8589934591, 2)]),
+        "accepted",
+    ),
     (Call::Life(4), "1"),
     (Call::Accept(705, 5, 1, [(0, 0, 0), (0, 0, 0)]), "accepted"),
     (Call::Life(5), "1"),
-    (Call::Accept(706, 6, 1, [(5, 4294967306, 1), (6, 4294967306, 1)]), "conflict 5 4"),
+    (
+        Call::Accept(706, 6, 1, [(5, 4294967306, 1), (6, 4294967306, 1)]),
+        "conflict 5 4",
+    ),
     (Call::Forget(4), "done"),
-    (Call::Accept(706, 6, 1, [(5, 4294967306, 1), (6, 4294967306, 1)]), "accepted"),
-    (Call::Accept(851, 7, 2, [(3, 4294967307, 1), (6, 4294967308, 1)]), "accepted"),
-    (Call::Accept(851, 8, 2, [(6, 4294967307, 2), (0, 0, 0)]), "conflict 6 6"),
-    (Call::Accept(852, 8, 2, [(9, 4294967307, 2), (0, 0, 0)]), "grace over 700 852"),
-    (Call::Accept(852, 8, 2, [(9, 8589934602, 2), (0, 0, 0)]), "grace over 700 852"),
-    (Call::Accept(851, 8, 2, [(9, 4294967307, 2), (0, 0, 0)]), "accepted"),
+    (
+        Call::Accept(706, 6, 1, [(5, 4294967306, 1), (6, 4294967306, 1)]),
+        "accepted",
+    ),
+    (
+        Call::Accept(851, 7, 2, [(3, 4294967307, 1), (6, 4294967308, 1)]),
+        "accepted",
+    ),
+    (
+        Call::Accept(851, 8, 2, [(6, 4294967307, 2), (0, 0, 0)]),
+        "conflict 6 6",
+    ),
+    (
+        Call::Accept(852, 8, 2, [(9, 4294967307, 2), (0, 0, 0)]),
+        "grace over 700 852",
+    ),
+    (
+        Call::Accept(852, 8, 2, [(9, 8589934602, 2), (0, 0, 0)]),
+        "grace over 700 852",
+    ),
+    (
+        Call::Accept(851, 8, 2, [(9, 4294967307, 2), (0, 0, 0)]),
+        "accepted",
+    ),
     (Call::Life(8), "2"),
-    (Call::Accept(900, 9, 2, [(0, 0, 0), (0, 0, 0)]), "grace over 700 900"),
+    (
+        Call::Accept(900, 9, 2, [(0, 0, 0), (0, 0, 0)]),
+        "grace over 700 900",
+    ),
     (Call::Life(9), "none"),
-    (Call::Accept(851, 16, 1, [(3, 4294967309, 1), (9, 4294967310, 1)]), "conflict 9 8"),
-    (Call::Accept(851, 16, 1, [(3, 4294967309, 1), (10, 4294967310, 1)]), "accepted"),
+    (
+        Call::Accept(851, 16, 1, [(3, 4294967309, 1), (9, 4294967310, 1)]),
+        "conflict 9 8",
+    ),
+    (
+        Call::Accept(851, 16, 1, [(3, 4294967309, 1), (10, 4294967310, 1)]),
+        "accepted",
+    ),
     (Call::Life(16), "1"),
 ];
 
-fn told(alloc: Global, became: Became) -> Result<String, AllocError> {
-    match became {
+fn told(alloc: Global, outcome: Became) -> Result<String, AllocError> {
+    match outcome {
         Became::Accepted => format!(in alloc; "accepted"),
         Became::GraceOver(start, now) => format!(in alloc; "grace over {start} {now}"),
         Became::NotHolder(ino, g) => format!(in alloc; "not holder {ino} {g}"),
@@ -185,8 +248,8 @@ fn told(alloc: Global, became: Became) -> Result<String, AllocError> {
 fn answer(alloc: Global, parts: &mut Parts, call: Call) -> Result<String, AllocError> {
     match call {
         Call::Accept(now, client, life, rows) => {
-            let became = accept_two(alloc, parts, now, client, life, rows);
-            told(alloc, became)
+            let outcome = accept_two(alloc, parts, now, client, life, rows);
+            told(alloc, outcome)
         }
         Call::Forget(client) => {
             parts.locks.forget(ClientId(client));
@@ -249,7 +312,11 @@ fn judge(locks: &[Lock], now: u64, client: u16, rows: &[(u32, u64, u8)]) -> Beca
 
 fn plain_row(draws: &mut Draws, ino: u32) -> (u32, u64, u8) {
     let epoch = if draws.draw(16) == 0 { 2 } else { 1 };
-    (ino, epoch * 4_294_967_296 + draws.draw(100), 1 + draws.draw(2) as u8)
+    (
+        ino,
+        epoch * 4_294_967_296 + draws.draw(100),
+        1 + draws.draw(2) as u8,
+    )
 }
 
 /// One reassertion of two rows on both; whether the answers are the same.
