@@ -120,12 +120,38 @@ FILES = {
     ],
 }
 # the rows over which every promise is computed
+FIELDS = [
+    "alone", "reads", "causes", "stays", "hard", "thefts", "dates", "waits", "conflicts",
+    "told", "logged", "once", "locked", "order", "emptied", "history",
+]
 SAFE = [
     ("theft", "theft_is_safe", "Every promise is kept in the row of the theft."),
     ("one-sided-cut", "one_sided_cut_is_safe", "Every promise is kept in the row of the one-sided cut."),
     ("failed-flush", "failed_flush_is_safe", "Every promise is kept in the row of the failed flush."),
     ("restart-while-a-timer-runs", "restart_is_safe", "Every promise is kept in the row of the restart while a timer runs."),
 ]
+
+
+def fate_text(fate):
+    if isinstance(fate, str):
+        return f"fates.{fate.capitalize()}"
+    return "(fates.Gone causes.Crash)" if fate.command is None else f"(fates.Gone (causes.Failed {fate.command}))"
+
+
+def entry_text(e):
+    """An entry of the log, in the words of crates/st_rows/proofs/WorldLogs.antt."""
+    file, fate = f"{e.file.server} {e.file.ino} {e.page}", fate_text(e.fate)
+    match e.kind:
+        case "write":
+            return f"(written {e.client} {e.life} {file} {bytes_text(e.data)} {fate})"
+        case "patch":
+            return f"(patched {e.client} {e.life} {file} {e.at} {bytes_text(e.data)} {fate})"
+        case "cut":
+            return f"(was_cut {file})"
+
+
+def log_text(entries):
+    return list_text([entry_text(e) for e in entries])
 
 
 def node(n):
@@ -224,7 +250,7 @@ class Row:
     def __init__(self, name):
         path = row_path(name)
         text = path.read_bytes()
-        self.told, self.events, self.refused = [], [], None
+        self.told, self.logs, self.events, self.refused = [], [], [], None
         reader = schedule.ScheduleReader()
         lines = []
         for number, line in enumerate(schedule.split_lines(text), 1):
@@ -242,6 +268,7 @@ class Row:
                     lines.append(f"line {number} {refusal}")
                     break
                 self.told.append(seen)
+                self.logs.append(log_text(self.world.log.entries))
                 lines += [f"{len(self.told)} {report.observation_text(o)}" for o in seen]
         if self.refused is None:
             lines.append(f"end {self.world.summary()}")
@@ -276,11 +303,22 @@ class Row:
         def at_each(fact):
             return each(lambda os: nested([fact(o) for o in os]))
 
+        def logged(o):
+            return "refl" if isinstance(o, world.Answered) and o.answer.word in ("written", "cut") else "tt"
+
         plain = each(lambda os: "refl")
-        fields = {f: plain for f in ("alone", "reads", "causes", "stays", "hard", "thefts", "dates", "waits", "conflicts")}
-        fields["reads"], fields["hard"] = at_each(owed), at_each(lambda o: "refl")
+        fields = {f: plain for f in FIELDS}
+        fields["reads"], fields["hard"], fields["logged"] = at_each(owed), at_each(lambda o: "refl"), at_each(logged)
+        fields["told"] = nested([f"record {{ entries = through ({log}) refl refl; numbers = refl }}" for log in self.logs])
+        fields["history"] = each(lambda os: "record { timers = refl; dates = refl; grants = refl }")
         lines = "".join(f"      {f} = {v};\n" for f, v in fields.items())
-        return ("use Rattle.std.proofs.Common.{refl}\nuse Rattle.st_rows.specs.WorldWords.{world_words_open}\n"
+        there = [w for w in ("was_cut", "written", "patched") if f"({w} " in lines]
+        uses = ["use Rattle.std.proofs.Common.{[], ◌∷◌, refl}"] if there else ["use Rattle.std.proofs.Common.{[], refl}"]
+        uses += ["use Rattle.st_base.specs.Page.{filled}"] if "filled " in lines else []
+        uses += [f"use Rattle.st_rules.specs.declared.log.{x}.TheVariants as {x.lower()}s" for x in ("Cause", "Fate") if f"{x.lower()}s." in lines.replace("causes =", "")]
+        uses += ["use Rattle.st_rows.specs.WorldWords.{world_words_open}",
+                 f"use Rattle.st_rows.proofs.WorldLogs.{{{', '.join(sorted(there + ['through']))}}}"]
+        return ("\n".join(uses) + "\n"
                 f"use Rattle.st_rows.proofs.world_safety.{name}.Goals as goal\n\npub returns : goal.returns\n"
                 f"unfolding world_words_open\nreturns c =\n    record {{\n{lines}    }}\n")
 

@@ -1,5 +1,5 @@
 ghost use Rattle.std.specs.Prelude.{◌≡◌};
-ghost use Rattle.st_base.specs.Config as rules;
+ghost use Rattle.st_base.specs.Config as config;
 
 use thiserror::Error;
 
@@ -44,7 +44,7 @@ pub enum ConfigRefusal {
 impl Config {
     /// Returns the first fault of the settings, in the order of `docs/PROTOCOL.md`, "Settings". It does not allocate.
     pub fn check(&self) -> Result<(), ConfigRefusal>
-        ensures { result ≡ rules.check self.now }
+        ensures { result ≡ config.check self.now }
     {
         let c = *self;
         if !(0 < c.renew && c.renew < c.quiesce && c.quiesce < c.flush && c.flush < c.lease) {

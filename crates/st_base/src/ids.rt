@@ -1,5 +1,5 @@
 /// The number of a client, from 1.
-#[derive(Clone, Copy, Debug, PartialEq, Eq)]
+#[derive(Clone, Copy, Debug, PartialEq, Eq, PartialOrd, Ord)]
 pub struct ClientId(pub u16);
 
 /// The number of a metadata server, from 1.
@@ -34,7 +34,7 @@ pub struct Epoch(pub u64);
 pub struct GrantNo(pub u64);
 
 /// A reading of a clock, in ticks.
-#[derive(Clone, Copy, Debug, PartialEq, Eq)]
+#[derive(Clone, Copy, Debug, PartialEq, Eq, PartialOrd, Ord)]
 pub struct Stamp(pub u64);
 
 /// A client or a server.

@@ -1,5 +1,5 @@
 ghost use Rattle.std.specs.Prelude.{◌≡◌};
-ghost use Rattle.st_base.specs.Mode as rules;
+ghost use Rattle.st_base.specs.Mode as mode;
 
 /// The mode of a lock: none, shared or exclusive, from the weakest to the strongest.
 #[derive(Clone, Copy, Debug, PartialEq, Eq)]
@@ -12,7 +12,7 @@ pub enum Mode {
 impl Mode {
     /// Returns the number of the mode in messages and reports: 0, 1 or 2.
     pub fn number(self) -> u8
-        ensures { result ≡ rules.number_of self }
+        ensures { result ≡ mode.number_of self }
     {
         match self {
             Mode::None => 0,
@@ -23,14 +23,14 @@ impl Mode {
 
     /// Returns whether this mode is at least as strong as `wanted`.
     pub fn covers(self, wanted: Mode) -> bool
-        ensures { result ≡ rules.covers self wanted }
+        ensures { result ≡ mode.covers self wanted }
     {
         wanted.number() <= self.number()
     }
 
     /// Returns whether two clients cannot hold these modes of one lock at the same time.
     pub fn conflicts(self, other: Mode) -> bool
-        ensures { result ≡ rules.conflicts self other }
+        ensures { result ≡ mode.conflicts self other }
     {
         match (self, other) {
             (Mode::S, Mode::X) => true,

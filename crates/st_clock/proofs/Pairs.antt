@@ -100,7 +100,7 @@ one_more k done s m n e x = go (exact_or_zero k.num k.den e sm sn)
     }
     go (inr z) = record { most = most; before = done ++ (s ∷ []); during = []; split = append_nothing (done ++ (s ∷ [])); reached = omega (arith, z) }
 
--- what stands for all pairs of so many nodes
+-- what stands for all pairs of this number of nodes
 pub record Stands (k : Config) (nodes : ℕ) (done drift : List (List ℕ)) : Type 0 where
   pub square : IsSquare drift nodes
   pub pairs : (m n : ℕ) → m < nodes → n < nodes → IsExcess k done m n (pair_at drift m n)

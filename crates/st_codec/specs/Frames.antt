@@ -13,7 +13,7 @@ use Rattle.st_codec.specs.Spelling.{word32}
 abbrev pub frame : List ℕ → List ℕ
 frame bytes = word32 (length bytes) ++ bytes
 
--- what a stream of frames begins with: less than a whole frame, a length above 65,536, or a frame of so many bytes
+-- what a stream of frames begins with: less than a whole frame, a length above 65,536, or a frame of this number of bytes
 abbrev pub front_of : List ℕ → ℕ → Front
 front_of rest n = if nat_lt 65536 n then TooLong n else (if nat_lt (length rest) (4 + n) then Partial else Whole n)
 
@@ -36,7 +36,7 @@ fed s piece = record { offset = s.offset; rest = s.rest ++ piece; refusal = s.re
 abbrev pub refused : Frames → CodecRefusal → Frames
 refused s r = record { offset = s.offset; rest = s.rest; refusal = Some r }
 
--- behind a frame of so many bytes; the offset stands still at the end of its type
+-- behind a frame of this number of bytes; the offset stays at 2^64 - 1 once it is there
 abbrev pub behind : Frames → ℕ → Frames
 behind s n = record { offset = min (s.offset + (4 + n)) (2 ^ 64 - 1); rest = drop (4 + n) s.rest; refusal = None }
 

@@ -96,7 +96,7 @@ abbrev pub byte_at : Reader ℕ
 byte_at [] = Err faults.Short
 byte_at (b ∷ rest) = Ok (b, rest)
 
--- so many bytes
+-- this number of bytes
 abbrev pub text_at : ℕ → Reader (List ℕ)
 text_at n bytes = if nat_lt (length bytes) n then Err faults.Short else Ok (take n bytes, drop n bytes)
 
@@ -179,7 +179,7 @@ entry_at bytes = made is_directory (byte_in 1 2) bytes
 unfoldable pub name_row_at : ℕ → Reader NameRow
 name_row_at least bytes = made (λ t. record { ino = t.0; directory = t.1.0; name = t.1.1 }) (seq (word32_in least 4294967295) (λ i. seq entry_at (λ k. name_at 1 64))) bytes
 
--- so many rows
+-- this number of rows
 unfoldable pub rows_at : {R : Type 0} → (ℕ → Reader R) → (R → ℕ) → ℕ → ℕ → Reader (List R)
 rows_at row after zero least bytes = Ok ([], bytes)
 rows_at row after (suc n) least bytes = do

@@ -82,7 +82,7 @@ fn read_ask_numbered(
     }
 }
 
-/// An ask of version 1.
+/// A request of version 1.
 #[tactic(auto, unfolding(crate::specs::Reading::ask_at))]
 pub(crate) fn read_ask(alloc: Global, bytes: &[u8]) -> Result<(Ask, &[u8]), ReadError>
     ensures { reading.Gives (λ x. (x.0, x.1.now)) result (reading.ask_at bytes.now) }
@@ -117,7 +117,7 @@ fn read_patch_numbered(
     }
 }
 
-/// The ask of version 2.
+/// The request of version 2.
 #[tactic(auto, unfolding(crate::specs::Reading::patch_at))]
 pub(crate) fn read_patch(alloc: Global, bytes: &[u8]) -> Result<(Ask, &[u8]), ReadError>
     ensures { reading.Gives (λ x. (x.0, x.1.now)) result (reading.patch_at bytes.now) }
@@ -272,7 +272,7 @@ fn read_command_numbered(
     }
 }
 
-/// A command on this block.
+/// Returns whether the command is on this block.
 #[tactic(auto, unfolding(crate::specs::Reading::command_at))]
 pub(crate) fn read_command(
     alloc: Global,

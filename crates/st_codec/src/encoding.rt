@@ -11,7 +11,7 @@ use st_base::{BlockAt, Command, ExtentRows, GrantNo, Mode, PageNo};
 use st_messages::{AppAnswer, Ask, Body, DiskResult, Header, Kind, Message, Why};
 use std::alloc::{AllocError, Global};
 
-/// The number of the cause on the wire.
+/// Returns the number of the reason on the wire.
 fn why_number(why: Why) -> u8
     ensures { result ≡ spells.why_number why }
 {
@@ -216,7 +216,7 @@ fn put_kind(out: &mut Vec<u8>, kind: Kind) -> Result<(), AllocError>
     Ok(())
 }
 
-/// The one spelling of a message, as `docs/PROTOCOL.md`, "Wire", gives it table by table.
+/// Returns the bytes of a message, as `docs/PROTOCOL.md`, "Wire", gives them table by table.
 #[tactic(auto, unfolding(crate::specs::Spelling::spelling, st_messages::specs::Fits::fits))]
 pub fn encode(alloc: Global, message: &Message) -> Result<Vec<u8>, AllocError>
     requires { fits.fits message.now ≡ true }

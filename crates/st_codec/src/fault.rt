@@ -5,19 +5,19 @@ ghost use Rattle.st_codec.specs.Reading as reading;
 use crate::refusal::CodecRefusal;
 use std::alloc::{AllocError, AllocFailed};
 
-/// What is wrong with the bytes of a message: the first fault from the left.
+/// The first fault, from the left, of the bytes of a message.
 #[derive(Clone, Copy, Debug, PartialEq, Eq)]
 pub enum Fault {
     Short,
     Long,
     Kind,
-    /// A field is out of its range; so many bytes stand from its beginning to the end.
+    /// A field is out of range; the value is the number of bytes from its beginning to the end.
     Value(usize),
     Version,
 }
 
 impl Fault {
-    /// The fault in a message of so many bytes.
+    /// Returns the fault as a refusal of a message of `length` bytes.
     pub(crate) fn in_message(self, len: usize) -> CodecRefusal
         ensures { result ≡ reading.refusal_of len self }
     {

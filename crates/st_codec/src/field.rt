@@ -7,7 +7,7 @@ use st_messages::PatchBytes;
 use st_messages::range::within;
 use std::alloc::Global;
 
-/// The fault of a field that begins where these bytes begin.
+/// Returns the fault of a field that begins where these bytes begin.
 pub(crate) fn out_of_range(bytes: &[u8]) -> ReadError
     ensures { result ≡ reading.out_of_range bytes.now }
 {
@@ -61,7 +61,7 @@ pub(crate) fn read_word64(bytes: &[u8]) -> Result<(u64, &[u8]), ReadError>
     Ok((number, rest))
 }
 
-/// A byte from `least` to `most`.
+/// Reads a byte from `least` to `most`.
 #[tactic(auto, unfolding(crate::specs::Reading::byte_in))]
 pub(crate) fn read_byte_in(least: u64, most: u64, bytes: &[u8]) -> Result<(u8, &[u8]), ReadError>
     ensures { reading.Gives (λ x. (x.0, x.1.now)) result (reading.byte_in least most bytes.now) }
@@ -111,7 +111,7 @@ pub(crate) fn read_grant(bytes: &[u8]) -> Result<(GrantNo, &[u8]), ReadError>
     Ok((GrantNo(number), rest))
 }
 
-/// A page at `least` or above it.
+/// Reads a page number that is at least `least`.
 #[tactic(auto, unfolding(crate::specs::Reading::page_at))]
 pub(crate) fn read_page(least: u64, bytes: &[u8]) -> Result<(PageNo, &[u8]), ReadError>
     ensures { reading.Gives (λ x. (x.0, x.1.now)) result (reading.page_at least bytes.now) }

@@ -1,5 +1,5 @@
 ghost use Rattle.std.specs.Prelude.{◌≡◌, ◌≤◌, ◌+◌, ℕ, IfOk, OnOk, OnErr, None, length};
-ghost use Rattle.st_codec.specs.Frames as rules;
+ghost use Rattle.st_codec.specs.Frames as frames;
 
 use crate::decoding::decode;
 use crate::refusal::CodecRefusal;
@@ -7,20 +7,20 @@ use st_messages::Message;
 use std::alloc::{AllocError, Global};
 use std::marker::Model;
 
-/// What a stream of frames begins with.
+/// The first bytes of a stream of frames.
 #[derive(Clone, Copy, Debug, PartialEq, Eq)]
 pub enum Front {
     /// Less than a whole frame.
     Partial,
     /// A length above 65,536.
     TooLong(u32),
-    /// A frame with so many bytes behind its length.
+    /// A frame with this number of bytes behind its length.
     Whole(usize),
 }
 
 #[tactic(auto, unfolding(crate::specs::Frames::front))]
 fn front_of(rest: &[u8]) -> Front
-    ensures front { result ≡ rules.front rest.now }
+    ensures front { result ≡ frames.front rest.now }
     ensures whole { (n : ℕ) → result ≡ Front.Whole n → 4 + n ≤ length rest.now }
 {
     if rest.len() < 4 {
@@ -37,8 +37,8 @@ fn front_of(rest: &[u8]) -> Front
     Front::Whole(number as usize)
 }
 
-/// Reads messages from a stream of frames that comes in any pieces. Contracts see it as the offset of the next frame,
-/// the bytes that are held, and the refusal, once one was given. `docs/PROTOCOL.md`, "Wire", describes frames.
+/// Reads messages from a stream of frames that arrives in pieces of any size. Contracts see it as the offset of the next
+/// frame, the bytes that are held, and the refusal, once one was returned. `docs/PROTOCOL.md`, "Wire", describes frames.
 #[derive(Drop)]
 pub struct FrameReader {
     alloc: Global,
@@ -61,7 +61,7 @@ impl Model for FrameReader {
 
 impl FrameReader {
     pub fn new(alloc: Global) -> FrameReader
-        ensures { result ≡ rules.fresh }
+        ensures { result ≡ frames.fresh }
     {
         FrameReader {
             alloc,
@@ -72,14 +72,14 @@ impl FrameReader {
         }
     }
 
-    /// The place in the stream of the frame that is next or was refused.
+    /// Returns the offset in the stream of the frame that is next or was refused.
     pub fn offset(&self) -> u64
         ensures { result ≡ self.now.offset }
     {
         self.offset
     }
 
-    /// How many bytes of the stream are held from there on.
+    /// Returns the number of bytes of the stream that are held from that offset.
     pub fn held(&self) -> usize
         ensures { result ≡ length self.now.rest }
     {
@@ -93,7 +93,7 @@ impl FrameReader {
         rest
     }
 
-    /// Gives up the bytes that were read, once they are at least half of all: so that each byte moves a few times.
+    /// Drops the bytes that were read once they are at least half of all bytes, so that each byte is moved only a few times.
     fn compact(&mut self) -> Result<(), AllocError>
         ensures { self.new ≡ self.old }
     {
@@ -105,9 +105,9 @@ impl FrameReader {
         Ok(())
     }
 
-    /// Takes the next piece of the stream. Want of memory changes nothing.
+    /// Takes the next piece of the stream. If it runs out of memory, nothing changes.
     pub fn feed(&mut self, piece: &[u8]) -> Result<(), AllocError>
-        ensures fed { OnOk result (self.new ≡ rules.fed self.old piece.now) }
+        ensures fed { OnOk result (self.new ≡ frames.fed self.old piece.now) }
         ensures memory { OnErr result (self.new ≡ self.old) }
     {
         self.compact()?;
@@ -122,7 +122,7 @@ impl FrameReader {
     ) -> Result<Option<Result<Message, CodecRefusal>>, AllocError>
         requires whole { 4 + len ≤ length self.old.rest }
         requires open { self.old.refusal ≡ None }
-        ensures answer { IfOk result (λ answer. (self.new, answer) ≡ rules.next_whole self.old len) }
+        ensures answer { IfOk result (λ answer. (self.new, answer) ≡ frames.next_whole self.old len) }
         ensures memory { OnErr result (self.new ≡ self.old) }
     {
         let (_, body) = self.rest().split_at(4);
@@ -141,11 +141,11 @@ impl FrameReader {
         }
     }
 
-    /// The next message, or the refusal of its frame, which stays; none where less than a whole frame is held. Want of
-    /// memory changes nothing.
+    /// Returns the next message; or the refusal of its frame, which it returns from then on; or none if less than a whole
+    /// frame is held. If it runs out of memory, nothing changes.
     #[tactic(auto, unfolding(crate::specs::Frames::next))]
     pub fn next(&mut self) -> Result<Option<Result<Message, CodecRefusal>>, AllocError>
-        ensures answer { IfOk result (λ answer. (self.new, answer) ≡ rules.next self.old) }
+        ensures answer { IfOk result (λ answer. (self.new, answer) ≡ frames.next self.old) }
         ensures memory { OnErr result (self.new ≡ self.old) }
     {
         if let Some(refusal) = self.refusal {

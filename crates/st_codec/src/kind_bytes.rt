@@ -1,5 +1,5 @@
 ghost use Rattle.std.specs.Prelude.{◌≡◌};
-ghost use Rattle.st_codec.specs.KindBytes as rules;
+ghost use Rattle.st_codec.specs.KindBytes as kind_bytes;
 
 use st_messages::Kind;
 
@@ -31,9 +31,9 @@ const KINDS: [Kind; 25] = [
     Kind::Done,
 ];
 
-/// The version byte.
+/// Returns the version byte.
 pub(crate) fn version_of(kind: Kind) -> u8
-    ensures { result ≡ rules.version_of kind }
+    ensures { result ≡ kind_bytes.version_of kind }
 {
     match kind {
         Kind::Patch => 2,
@@ -41,9 +41,9 @@ pub(crate) fn version_of(kind: Kind) -> u8
     }
 }
 
-/// The kind byte.
+/// Returns the kind byte.
 pub(crate) fn number_of(kind: Kind) -> u8
-    ensures { result ≡ rules.number_of kind }
+    ensures { result ≡ kind_bytes.number_of kind }
 {
     match kind {
         Kind::Hello => 1,
@@ -74,10 +74,10 @@ pub(crate) fn number_of(kind: Kind) -> u8
     }
 }
 
-/// The kind with these two bytes.
+/// Returns the kind that has these two bytes.
 #[tactic(auto, unfolding(crate::specs::KindBytes::kind_of))]
 pub(crate) fn kind_of(version: u8, number: u8) -> Option<Kind>
-    ensures { result ≡ rules.kind_of version number }
+    ensures { result ≡ kind_bytes.kind_of version number }
 {
     KINDS
         .iter()

@@ -16,12 +16,12 @@ pub fn one_spelling()
     ensures bytes { (bytes : List ℕ) (m n : Message) → Spells bytes m → Spells bytes n → m ≡ n }
 {}
 
-/// Bytes that follow a message are a fault of their own.
+/// Bytes that follow a message are refused by a fault of their own (`Long`).
 pub fn bytes_that_follow()
     ensures { (m : Message) (after : List ℕ) → fits.fits m ≡ true → 0 < length after → reading.decoded (spells.spelling m ++ after) ≡ Err CodecRefusal.Long }
 {}
 
-/// How long a message's spelling is, from its fields alone.
+/// The length of a message's spelling follows from its fields.
 pub fn spelled_size()
     ensures { (m : Message) → length (spells.spelling m) ≡ sizes.size_of m }
 {}
@@ -31,7 +31,7 @@ pub fn fits_a_frame()
     ensures { (m : Message) → fits.fits m ≡ true → sizes.size_of m ≤ 65536 }
 {}
 
-/// What a reader of frames gives doesn't depend on how the stream was cut into pieces.
+/// What a reader of frames returns does not depend on how the stream was cut into pieces.
 pub fn frames_in_any_pieces()
     // After any pieces and calls of `next` the stream so far is the frames of the messages given, and what is held.
     ensures reads { (moves : List streams.Move) → streams.AreBytes (streams.stream_of moves) → streams.Reads (streams.stream_of moves) (streams.ran moves streams.start) }

@@ -1,6 +1,6 @@
 use thiserror::Error;
 
-/// Why bytes are no message. `docs/PROTOCOL.md`, "Wire", says which one is answered.
+/// Why bytes are not a message. `docs/PROTOCOL.md`, "Wire", says which refusal is returned.
 #[derive(Clone, Copy, Debug, PartialEq, Eq, Error)]
 pub enum CodecRefusal {
     /// The bytes end inside a field.
@@ -12,16 +12,16 @@ pub enum CodecRefusal {
     /// No message of this version has this kind.
     #[error("no such kind of message")]
     Kind,
-    /// A field is out of its range; it begins at this byte of the message.
+    /// A field that begins at this byte of the message is out of range.
     #[error("the field at byte {0} is out of its range")]
     Value(u64),
     /// The version is neither 1 nor 2.
     #[error("no such version")]
     Version,
-    /// A frame's length is above 65,536.
+    /// The length of a frame is above 65,536.
     #[error("a frame of {0} bytes is too long")]
     FrameTooLong(u32),
-    /// There was no memory for the message's own lists.
+    /// Reading ran out of memory for the lists of the message.
     #[error("out of memory")]
     Memory,
 }

@@ -26,7 +26,7 @@ pub(crate) trait RowBytes: Row {
         requires { (least : ℕ) × (Self.is_row least self.now ≡ true) }
         ensures { OnOk result (out.new.items ≡ out.old.items ++ spell self.now) };
 
-    /// A row in front of the bytes, which is to be at least this, and the bytes after it.
+    /// Reads a row, whose key is at least this number, and returns it with the bytes behind it.
     ghost row_at: { ℕ → List ℕ → Result (Self × List ℕ) Fault };
 
     fn read(alloc: Global, least: u64, bytes: &[u8]) -> Result<(Self, &[u8]), ReadError>
@@ -174,7 +174,7 @@ pub(crate) fn put_names(out: &mut Vec<u8>, rows: &NameRows) -> Result<(), AllocE
     put_rows(out, rows)
 }
 
-/// Whether an entry is a directory.
+/// Reads whether an entry is a directory.
 #[tactic(auto, unfolding(crate::specs::Reading::entry_at))]
 fn read_entry(bytes: &[u8]) -> Result<(bool, &[u8]), ReadError>
     ensures { reading.Gives (λ x. (x.0, x.1.now)) result (reading.entry_at bytes.now) }

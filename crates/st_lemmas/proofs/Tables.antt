@@ -1,7 +1,7 @@
 -- Tests; members of lists; look-ups after a filter, a change in place and one more row.
 use Rattle.std.proofs.Common.{◌≡◌, ◌≢◌, ℕ, ◌⊎◌, Bool, true, false, ◌&&◌, ◌||◌, List, [], ◌∷◌, ◌++◌, refl, ap, ◌∙◌, subst, inl, inr, eqb}
 use Rattle.std.specs.Prelude.{not, find, filter, map, cond, Option, Some, None, option_map}
-use Rattle.std.specs.List.{list_any}
+use Rattle.std.specs.List.{list_all, list_any}
 use Rattle.std.proofs.lemmas.Bool.Decides.{eqb_tells}
 use Rattle.st_lemmas.specs.Lists.{Has}
 
@@ -231,3 +231,16 @@ pub has_map_in : {A B : Type 0} (f : A → B) (xs : List A) (x : A) → Has x xs
 has_map_in f [] x h = elim h [ ]
 has_map_in f (y ∷ ys) x (inl e) = inl (ap f e)
 has_map_in f (y ∷ ys) x (inr i) = inr (has_map_in f ys x i)
+
+-- what each member passes, the list passes, and the other way round
+pub all_pass : {A : Type 0} (p : A → Bool) (xs : List A) → ((x : A) → Has x xs → p x ≡ true) → list_all p xs ≡ true
+all_pass p [] h = refl
+all_pass p (x ∷ xs) h = and_both (p x) (list_all p xs) (h x (inl refl)) (all_pass p xs (λ y i. h y (inr i)))
+
+pub each_passes : {A : Type 0} (p : A → Bool) (xs : List A) → list_all p xs ≡ true → (x : A) → Has x xs → p x ≡ true
+each_passes p [] e x h = elim h [ ]
+each_passes {A} p (y ∷ ys) e x h = go (and_true (p y) (list_all p ys) e) h (λ e i. each_passes p ys e x i)
+  where
+    go : (p y ≡ true) × (list_all p ys ≡ true) → (x ≡ y) ⊎ Has x ys → (list_all p ys ≡ true → Has x ys → p x ≡ true) → p x ≡ true
+    go q (inl i) r = ap p i ∙ q.0
+    go q (inr i) r = r q.1 i

@@ -51,7 +51,7 @@ is_page least n = between least 1048575 n
 abbrev pub is_mode : ℕ → ℕ → Mode → Bool
 is_mode least most m = between least most (modes.number_of m)
 
--- so many bytes
+-- this number of bytes
 abbrev pub has_length : ℕ → ℕ → List ℕ → Bool
 has_length least most bytes = between least most (length bytes)
 

@@ -3,26 +3,26 @@ ghost use Rattle.std.specs.Prelude.{◌≡◌, IfOk};
 use st_base::{LostRows, NameRows, PageBytes};
 use std::alloc::AllocError;
 
-/// What an application is answered; `docs/PROTOCOL.md`, "The cast", lists the answers.
+/// An answer to an application. `docs/PROTOCOL.md`, "The cast", lists the answers.
 #[derive(Drop)]
 pub enum AppAnswer {
     Written,
     Read(PageBytes),
     Hard,
     Cut,
-    /// The inode of the entry.
+    /// The inode number of the entry.
     Named(u32),
     Listed(NameRows),
-    /// The number of a refusal of the server's names.
+    /// The number of the refusal of the server's names.
     Refused(u8),
     Quiesced,
     NoFile,
-    /// The free blocks, and those that were asked for.
+    /// The number of free blocks, and the number of blocks that were requested.
     NoSpace(u64, u64),
-    /// The command that was reported failed.
+    /// The number of the disk command that failed.
     DiskFault(u64),
     OpsFull,
-    /// The epoch in which the request was sent, and the one that came, or 0.
+    /// The epoch in which the request was sent, and the new epoch, or 0.
     Uncertain(u64, u64),
     Lost(LostRows),
     DirtyFull,
@@ -39,7 +39,7 @@ impl Clone for AppAnswer {
 }
 
 impl AppAnswer {
-    /// The same answer, once more; a page is shared.
+    /// Returns a copy of the answer. A page is shared.
     pub fn copy(&self) -> Result<AppAnswer, AllocError>
         ensures { IfOk result (λ a. a ≡ self.now) }
     {

@@ -4,16 +4,16 @@ use crate::patch::PatchBytes;
 use st_base::{FileId, NameAsk, PageBytes, PageNo, ServerId};
 use std::alloc::AllocError;
 
-/// What an application asks of a client.
+/// A request of an application to its client.
 #[derive(Drop)]
 pub enum Ask {
     Write(FileId, PageNo, PageBytes),
     Read(FileId, PageNo),
     Sync(FileId),
-    /// All pages from this one on are dropped.
+    /// Drops all pages of the file from this one.
     Cut(FileId, PageNo),
     Name(ServerId, NameAsk),
-    /// The bytes from this place in the page on become these.
+    /// The bytes of the page from index `at` are replaced by these.
     Patch(FileId, PageNo, u16, PatchBytes),
 }
 
@@ -26,7 +26,7 @@ impl Clone for Ask {
 }
 
 impl Ask {
-    /// The same ask, once more; a page is shared.
+    /// Returns a copy of the request. A page is shared.
     pub fn copy(&self) -> Result<Ask, AllocError>
         ensures { IfOk result (λ a. a ≡ self.now) }
     {

@@ -1,10 +1,10 @@
 use crate::ask::Ask;
 use st_base::{ClientId, NodeId, Rows};
 
-/// The increments of an advance, one per node: clients in order, then servers in order.
+/// The increments of an advance of the clocks, one per node: first the clients in order, then the servers in order.
 pub type Steps = Rows<u64>;
 
-/// How many nodes and disks a world has, and how many blocks each disk has.
+/// The numbers of clients, servers and disks of a world, and the number of blocks of each disk.
 #[derive(Clone, Copy, Debug, PartialEq, Eq)]
 pub struct Counts {
     pub clients: u16,
@@ -13,16 +13,16 @@ pub struct Counts {
     pub blocks: u32,
 }
 
-/// What happens next in a world. Messages and disk commands go by their numbers from 1.
+/// An event of a world. Messages and disk commands are named by their numbers, from 1.
 #[derive(Drop)]
 pub enum Event {
     Tick(NodeId),
     App { client: ClientId, ask: Ask },
     Deliver(u64),
     Lose(u64),
-    /// Messages from the first node to the second can't be delivered from now on.
+    /// From now on no message from the first node to the second is delivered.
     Cut(NodeId, NodeId),
-    /// Messages from the first node to the second can be delivered again.
+    /// From now on messages from the first node to the second can be delivered again.
     Heal(NodeId, NodeId),
     Advance(Steps),
     Effect(u64),

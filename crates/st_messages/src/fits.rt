@@ -168,7 +168,7 @@ fn header_fits(kind: Kind, header: &Header) -> bool
 }
 
 impl Body {
-    /// The kind of the message that has this body.
+    /// Returns the kind of a message with this body.
     pub fn kind(&self) -> Kind
         ensures { result ≡ kinds.kind_of_body self.now }
     {
@@ -247,8 +247,8 @@ impl Ask {
 }
 
 impl Message {
-    /// Whether every field is in the range that `docs/PROTOCOL.md`, "Wire", gives it, so that the message can be
-    /// spelled. It takes no memory.
+    /// Returns whether every field is in its range (`docs/PROTOCOL.md`, "Wire"), so that the message has a spelling. It does
+    /// not allocate.
     #[tactic(auto, unfolding(crate::specs::Fits::fits))]
     pub fn fits(&self) -> bool
         ensures { result ≡ fits.fits self.now }

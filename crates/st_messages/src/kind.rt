@@ -1,7 +1,7 @@
 ghost use Rattle.std.specs.Prelude.{◌≡◌};
-ghost use Rattle.st_messages.specs.Kinds as rules;
+ghost use Rattle.st_messages.specs.Kinds as kinds;
 
-/// The kinds of messages. `Patch` is the application's ask in version 2; all others are of version 1.
+/// The kinds of messages. `Patch` is the application's request in version 2; all other kinds are in version 1.
 #[derive(Clone, Copy, Debug, PartialEq, Eq)]
 pub enum Kind {
     Hello,
@@ -31,18 +31,18 @@ pub enum Kind {
     Done,
 }
 
-/// Who sends or takes a message.
+/// Who sends or receives a message.
 #[derive(Clone, Copy, Debug, PartialEq, Eq)]
 pub enum Party {
     Client,
     Server,
     /// A client or a server.
     Node,
-    /// The surroundings of a node.
+    /// The node's own surroundings: its applications, disks and clock.
     Surroundings,
 }
 
-/// What a number of a header may be.
+/// The range of a number in a header.
 #[derive(Clone, Copy, Debug, PartialEq, Eq)]
 pub enum Need {
     Zero,
@@ -51,9 +51,9 @@ pub enum Need {
 }
 
 impl Party {
-    /// Whether the node of this number is one of them.
+    /// Returns whether the node with this number is one of them.
     pub fn includes(self, node: u16) -> bool
-        ensures { result ≡ rules.includes self node }
+        ensures { result ≡ kinds.includes self node }
     {
         match self {
             Party::Client => 1 <= node && node <= 16,
@@ -65,10 +65,10 @@ impl Party {
 }
 
 impl Need {
-    /// Whether the number is as needed.
+    /// Returns whether the number is in the range.
     #[tactic(auto, using(crate::proofs::Ranges::in_word64))]
     pub fn allows(self, number: u64) -> bool
-        ensures { result ≡ rules.allows self number }
+        ensures { result ≡ kinds.allows self number }
     {
         match self {
             Need::Zero => number == 0,
@@ -79,9 +79,9 @@ impl Need {
 }
 
 impl Kind {
-    /// Who sends it.
+    /// Returns who sends messages of this kind.
     pub fn sender(self) -> Party
-        ensures { result ≡ rules.sender self }
+        ensures { result ≡ kinds.sender self }
     {
         match self {
             Kind::Tick | Kind::App | Kind::Patch | Kind::Done => Party::Surroundings,
@@ -98,9 +98,9 @@ impl Kind {
         }
     }
 
-    /// Who takes it.
+    /// Returns who receives messages of this kind.
     pub fn receiver(self) -> Party
-        ensures { result ≡ rules.receiver self }
+        ensures { result ≡ kinds.receiver self }
     {
         match self {
             Kind::AppDone | Kind::Submit => Party::Surroundings,
@@ -121,9 +121,9 @@ impl Kind {
         }
     }
 
-    /// What its life may be.
+    /// Returns the range of the life in the header.
     pub fn life(self) -> Need
-        ensures { result ≡ rules.life_of self }
+        ensures { result ≡ kinds.life_of self }
     {
         match self {
             Kind::Tick | Kind::App | Kind::Patch | Kind::AppDone | Kind::Submit | Kind::Done =>
@@ -132,9 +132,9 @@ impl Kind {
         }
     }
 
-    /// What its epoch may be.
+    /// Returns the range of the epoch in the header.
     pub fn epoch(self) -> Need
-        ensures { result ≡ rules.epoch_of self }
+        ensures { result ≡ kinds.epoch_of self }
     {
         match self {
             Kind::Hello
@@ -148,9 +148,9 @@ impl Kind {
         }
     }
 
-    /// What its number may be.
+    /// Returns the range of the request number in the header.
     pub fn request(self) -> Need
-        ensures { result ≡ rules.request_of self }
+        ensures { result ≡ kinds.request_of self }
     {
         match self {
             Kind::Hello
@@ -168,9 +168,9 @@ impl Kind {
         }
     }
 
-    /// What its stamp may be.
+    /// Returns the range of the stamp in the header.
     pub fn stamp(self) -> Need
-        ensures { result ≡ rules.stamp_of self }
+        ensures { result ≡ kinds.stamp_of self }
     {
         match self {
             Kind::DemandSeen

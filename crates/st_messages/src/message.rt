@@ -7,8 +7,8 @@ use st_base::{
 };
 use std::alloc::AllocError;
 
-/// What stands in front of every message's body. A client is the node of its own number, a server is 32,768 and its
-/// number, and 0 is the node's own surroundings.
+/// The header of a message. The node number of a client is its own number, that of a server is its number plus 32,768,
+/// and 0 is the node's own surroundings.
 #[derive(Clone, Copy, Debug, PartialEq, Eq)]
 pub struct Header {
     pub from: u16,
@@ -19,7 +19,7 @@ pub struct Header {
     pub stamp: u64,
 }
 
-/// Why a server refuses a request; the number of each is its place in this list, from 1.
+/// Why a server refuses a request. The number of a reason is its position in this list, from 1.
 #[derive(Clone, Copy, Debug, PartialEq, Eq)]
 pub enum Why {
     Suspect,
@@ -34,7 +34,7 @@ pub enum Why {
     TooManyLocks,
 }
 
-/// What a client asks of a server's names.
+/// A client's request on a server's names.
 #[derive(Drop)]
 pub enum NameOp {
     Lookup {
@@ -49,7 +49,7 @@ pub enum NameOp {
         dir: u32,
         name: Name,
     },
-    /// `g` is the grant under which the client holds the file, 0 for a directory.
+    /// `g` is the number of the grant under which the client holds the file, or 0 for a directory.
     Remove {
         dir: u32,
         name: Name,
@@ -67,7 +67,7 @@ pub enum NameOp {
     },
 }
 
-/// What a server answers to it.
+/// A server's reply to a request on its names.
 #[derive(Drop)]
 pub enum NameReply {
     Ino(u32),
@@ -84,7 +84,7 @@ pub enum DiskResult {
     ReadDone(Tag, PageBytes),
 }
 
-/// What a message says, one variant per kind.
+/// The body of a message, one variant per kind.
 #[derive(Clone, Drop)]
 pub enum Body {
     Hello,
@@ -183,7 +183,7 @@ impl Clone for NameOp {
 }
 
 impl NameOp {
-    /// The same op, once more.
+    /// Returns a copy of the request.
     pub fn copy(&self) -> Result<NameOp, AllocError>
         ensures { IfOk result (λ o. o ≡ self.now) }
     {
@@ -233,7 +233,7 @@ impl Clone for NameReply {
 }
 
 impl NameReply {
-    /// The same reply, once more.
+    /// Returns a copy of the reply.
     pub fn copy(&self) -> Result<NameReply, AllocError>
         ensures { IfOk result (λ r. r ≡ self.now) }
     {
@@ -254,7 +254,7 @@ impl Clone for DiskResult {
 }
 
 impl DiskResult {
-    /// The same result, once more; a page is shared.
+    /// Returns a copy of the result. A page is shared.
     pub fn copy(&self) -> Result<DiskResult, AllocError>
         ensures { IfOk result (λ r. r ≡ self.now) }
     {
@@ -267,7 +267,7 @@ impl DiskResult {
 }
 
 impl Body {
-    /// The same body, once more; a page is shared.
+    /// Returns a copy of the body. A page is shared.
     pub fn copy(&self) -> Result<Body, AllocError>
         ensures { IfOk result (λ b. b ≡ self.now) }
     {
@@ -284,7 +284,7 @@ impl Clone for Message {
 }
 
 impl Message {
-    /// The same message, once more; a page is shared.
+    /// Returns a copy of the message. A page is shared.
     pub fn copy(&self) -> Result<Message, AllocError>
         ensures { IfOk result (λ m. m ≡ self.now) }
     {

@@ -8,7 +8,7 @@ use st_base::{BlockAt, ClientId, Command, FileId, Life, PageBytes, PageNo, Rows,
 use std::alloc::{AllocError, AllocFailed};
 use thiserror::Error;
 
-/// What a node notes of its own doing, for its surroundings.
+/// A node's note on what it did, for its surroundings.
 #[derive(Drop)]
 pub enum Note {
     Leased {
@@ -44,11 +44,11 @@ pub enum Note {
     },
 }
 
-/// What a step of a node gives to its surroundings.
+/// An output of a node's step to its surroundings.
 #[derive(Drop)]
 pub enum Output {
     Send(Message),
-    /// `command` is the client's own number.
+    /// `command` is the client's own number for the command.
     Submit {
         command: u64,
         at: BlockAt,
@@ -64,7 +64,7 @@ pub enum Output {
 /// The outputs of one step, in order.
 pub type Outputs = Rows<Output>;
 
-/// Why a step of a node gave nothing.
+/// Why a step of a node has no outputs.
 #[derive(Clone, Copy, Debug, PartialEq, Eq, Error)]
 pub enum StepFault {
     #[error("out of memory")]

@@ -1,18 +1,18 @@
-//! Whether a field is in its range.
+//! Tests of the ranges of single fields.
 ghost use Rattle.std.specs.Prelude.{◌≡◌};
 ghost use Rattle.st_messages.specs.Fits as fits;
 ghost use Rattle.st_messages.specs.Kinds as kinds;
 
 use st_base::{BlockAt, FileId, GrantNo, Mode, Tag};
 
-/// Whether the number is at least `least` and at most `most`.
+/// Returns whether the number is from `least` to `most`.
 pub fn within(least: u64, most: u64, number: u64) -> bool
     ensures { result ≡ kinds.between least most number }
 {
     least <= number && number <= most
 }
 
-/// Every number of eight bytes can be spelled.
+/// Returns true: every number of eight bytes is in range.
 #[tactic(auto, using(crate::proofs::Ranges::in_word64))]
 pub(crate) fn is_word(number: u64) -> bool
     ensures { result ≡ kinds.is_word64 number }
@@ -39,7 +39,7 @@ pub(crate) fn is_page(page: u32) -> bool
     within(0, 1_048_575, u64::from(page))
 }
 
-/// The mode of a lock that is held.
+/// Returns whether this is the mode of a lock that is held: S or X.
 pub(crate) fn is_held(mode: Mode) -> bool
     ensures { result ≡ fits.is_mode 1 2 mode }
 {
@@ -49,7 +49,7 @@ pub(crate) fn is_held(mode: Mode) -> bool
     }
 }
 
-/// The mode to which a lock is reduced.
+/// Returns whether a lock may be reduced to this mode: None or S.
 pub(crate) fn is_reduced(mode: Mode) -> bool
     ensures { result ≡ fits.is_mode 0 1 mode }
 {
@@ -90,7 +90,7 @@ pub(crate) fn is_same_block(a: BlockAt, b: BlockAt) -> bool
     a.disk.0 == b.disk.0 && a.block == b.block
 }
 
-/// Every number of four bytes can be spelled.
+/// Returns true: every number of four bytes is in range.
 #[tactic(auto, using(crate::proofs::Ranges::in_word32))]
 pub(crate) fn is_number(number: u32) -> bool
     ensures { result ≡ fits.is_word32 number }
@@ -107,8 +107,8 @@ pub(crate) fn is_any_block(at: BlockAt) -> bool
     is_number(at.block)
 }
 
-/// Whether a run of `count` pages from this one on is one that a message may name: from 1 to 64 pages, which end with the
-/// last page of a file at the latest.
+/// Returns whether a message may name `count` pages from this one: at most 64 and at least one, and none behind the last
+/// page of a file.
 pub fn is_count(page: u32, count: u16) -> bool
     ensures { result ≡ fits.is_count page count }
 {

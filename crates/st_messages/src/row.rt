@@ -9,17 +9,17 @@ use st_base::{
 
 /// A row of a message.
 pub trait Row {
-    /// The row fits where it is to be at least this.
+    /// The row is in range, and its key is at least this number.
     ghost is_row: { ℕ → Self → Bool };
 
-    /// The least that may follow it.
+    /// The least key that may follow the row.
     ghost next: { Self → ℕ };
 
-    /// Whether the row fits where it is to be at least `least`.
+    /// Returns whether the row is in range and its key is at least `least`.
     fn fits(&self, least: u64) -> bool
         ensures { result ≡ is_row least self.now };
 
-    /// The least that may follow the row.
+    /// Returns the least key that may follow the row.
     fn next(&self) -> u64
         ensures { result ≡ next self.now };
 }

@@ -1,5 +1,6 @@
 -- Steps made by hand, each of which breaks one promise and keeps the others.
 use Rattle.std.specs.Prelude.{ℕ, ◌==◌, Bool, true, false, List, [], ◌∷◌, ◌++◌, map, Option, Some, None, ⊤}
+use Rattle.std.specs.List.{list_any}
 use Rattle.st_base.specs.Page.{filled}
 use Rattle.st_base.specs.declared.mode.Mode.TheVariants as modes
 use Rattle.st_messages.specs.declared.answer.AppAnswer.TheVariants as answers
@@ -15,34 +16,69 @@ use Rattle.st_rules.specs.declared.log.Fate.{Fate}
 use Rattle.st_rules.specs.declared.log.Fate.TheVariants as fates
 use Rattle.st_rules.specs.declared.log.LogEntry.{LogEntry}
 use Rattle.st_rules.specs.declared.observation.Observation.{Observation}
-use Rattle.st_rules.specs.ClientState.{ClientSession, Association}
-use Rattle.st_rules.specs.World.{World, ClientSite}
+use Rattle.st_rules.specs.declared.observation.Observation.TheVariants as seen
+use Rattle.st_rules.specs.declared.authority.Suspect.{Suspect}
+use Rattle.st_rules.specs.declared.world.LeaseLife.{LeaseLife}
+use Rattle.st_rules.specs.Grace.{Grace}
+use Rattle.st_rules.specs.ClientState.{ClientState, ClientSession, Association}
+use Rattle.st_rules.specs.FlatLog.{accept, cut as cut_log}
+use Rattle.st_rules.specs.Client.{emptied}
 use Rattle.st_rules.specs.Server.{ServerNode}
-use Rattle.st_rules.specs.History.{Traced, TracedRun, TimerStart, trace, traced}
-use Rattle.st_rules.specs.Safety.{Step, steps, DirtyPagesStandAlone, ReadsReturnLastWrites, DropsHaveACause, HardStaysHard, HardIsHard, TheftsComeLate, LeasesAreDatedFromRequests, GraceWaits, NoConflictIsSent}
+use Rattle.st_rules.specs.World.{World, ClientSite}
+use Rattle.st_rules.specs.History.{Traced, History, TimerStart, LeaseDate, led_to, trace, traced, with_grant}
+use Rattle.st_rules.specs.Safety.{
+  Step,
+  steps,
+  DirtyPagesStandAlone,
+  ReadsReturnLastWrites,
+  DropsHaveACause,
+  HardStaysHard,
+  HardIsHard,
+  TheftsComeLate,
+  LeasesAreDatedFromRequests,
+  GraceWaits,
+  NoConflictIsSent,
+  TheReportTellsTheLog,
+  AnswersAreLogged,
+  AsksAreAnsweredOnce,
+  ChangesAreLocked,
+  ChangesGoInTheOrderOfLocks,
+  ExpiredLeasesEmptyClients,
+  TheHistoryIsTheWorlds,
+}
 use Rattle.st_rows.specs.Words.{c, life, epoch, page, stamp, g}
 use Rattle.st_rows.specs.ClientWords.{on, server}
-use Rattle.st_rows.specs.WorldWords.{ask, client_node, world_of, answered, sent, stolen, world_words_open}
+use Rattle.st_rows.specs.WorldWords.{ask, client_node, world_of, answered, cut, dropped, failed, read_out, sent, stolen, wrote, world_words_open}
 
--- The promises but for one, by its number.
+-- The promises but for some, by their numbers.
 abbrev pub unless_so : Bool → Type 0 → Type 0
 unless_so true fact = ⊤
 unless_so false fact = fact
 
-abbrev pub unless : ℕ → ℕ → Type 0 → Type 0
-unless n m fact = unless_so (n == m) fact
+abbrev pub is_same : ℕ → ℕ → Bool
+is_same m n = n == m
 
--- every promise is kept but for the one of this number
-pub record IsKeptBut (n : ℕ) (past : List Step) (x : Step) : Type 0 where
-  pub alone : unless n 1 (DirtyPagesStandAlone past x)
-  pub reads : unless n 2 (ReadsReturnLastWrites past x)
-  pub causes : unless n 3 (DropsHaveACause past x)
-  pub stays : unless n 4 (HardStaysHard past x)
-  pub hard : unless n 5 (HardIsHard past x)
-  pub thefts : unless n 6 (TheftsComeLate past x)
-  pub dates : unless n 7 (LeasesAreDatedFromRequests past x)
-  pub waits : unless n 8 (GraceWaits past x)
-  pub conflicts : unless n 9 (NoConflictIsSent past x)
+abbrev pub unless : List ℕ → ℕ → Type 0 → Type 0
+unless ns m fact = unless_so (list_any (is_same m) ns) fact
+
+-- every promise is kept but for those of these numbers
+pub record IsKeptBut (ns : List ℕ) (past : List Step) (x : Step) : Type 0 where
+  pub alone : unless ns 1 (DirtyPagesStandAlone past x)
+  pub reads : unless ns 2 (ReadsReturnLastWrites past x)
+  pub causes : unless ns 3 (DropsHaveACause past x)
+  pub stays : unless ns 4 (HardStaysHard past x)
+  pub hard : unless ns 5 (HardIsHard past x)
+  pub thefts : unless ns 6 (TheftsComeLate past x)
+  pub dates : unless ns 7 (LeasesAreDatedFromRequests past x)
+  pub waits : unless ns 8 (GraceWaits past x)
+  pub conflicts : unless ns 9 (NoConflictIsSent past x)
+  pub told : unless ns 10 (TheReportTellsTheLog past x)
+  pub logged : unless ns 11 (AnswersAreLogged past x)
+  pub once : unless ns 12 (AsksAreAnsweredOnce past x)
+  pub locked : unless ns 13 (ChangesAreLocked past x)
+  pub order : unless ns 14 (ChangesGoInTheOrderOfLocks past x)
+  pub emptied : unless ns 15 (ExpiredLeasesEmptyClients past x)
+  pub history : unless ns 16 (TheHistoryIsTheWorlds past x)
 
 -- A run in which a client writes a page, its lease is dated from a request that was sent at 400 and answered at 450, and an
 -- ask follows.
@@ -68,17 +104,20 @@ reading = ask 1 (asks.Read (on 1 2) (page 0))
 abbrev pub syncing : Event
 syncing = ask 1 (asks.Sync (on 1 2))
 
+abbrev pub writing : Event
+writing = ask 1 (asks.Write (on 1 3) (page 0) (filled 77))
+
+abbrev pub cutting : Event
+cutting = ask 1 (asks.Cut (on 1 2) (page 0))
+
 -- its steps, and where it led
 unfoldable pub past : Event → List Step
 past e = steps (prepared e) (traced (world_of 2 1 1 8))
 
-abbrev pub traced_of : TracedRun → Traced
-traced_of r = record { world = r.run.world; history = r.history }
-
 unfoldable pub here : Event → Traced
-here e = traced_of (trace (prepared e) (traced (world_of 2 1 1 8)))
+here e = led_to (trace (prepared e) (traced (world_of 2 1 1 8)))
 
--- The same run, behind which another client has a lease too.
+-- The same run, after which another client has a lease too.
 unfoldable pub met : List Event
 met = prepared (ask 2 (asks.Read (on 1 2) (page 0))) ++ (events.Deliver 7) ∷ (events.Deliver 8) ∷ []
 
@@ -86,7 +125,7 @@ unfoldable pub past_met : List Step
 past_met = steps met (traced (world_of 2 1 1 8))
 
 unfoldable pub here_met : Traced
-here_met = traced_of (trace met (traced (world_of 2 1 1 8)))
+here_met = led_to (trace met (traced (world_of 2 1 1 8)))
 
 -- A step in which nothing happens, and changes of it.
 abbrev pub still : Traced → Step
@@ -103,6 +142,10 @@ leaving change x = record x { after = record x.after { world = change x.after.wo
 -- it comes from another world
 abbrev pub coming : (World → World) → Step → Step
 coming change x = record x { before = record x.before { world = change x.before.world } }
+
+-- it leaves another history
+abbrev pub recalling : (History → History) → Step → Step
+recalling change x = record x { after = record x.after { history = change x.after.history } }
 
 -- another client has a row of the file
 abbrev pub other_row : LockRow
@@ -132,12 +175,17 @@ session_in n (Some s) = Some (session_dated n s)
 abbrev pub association_dated : ℕ → Association → Association
 association_dated n a = record a { session = session_in n a.session }
 
-abbrev pub site_dated : ℕ → ClientSite → ClientSite
-site_dated n site =
-    record site { node = record site.node { state = record site.node.state { associations = map (association_dated n) site.node.state.associations } } }
+abbrev pub state_with : (Association → Association) → ClientState → ClientState
+state_with change c = record c { associations = map change c.associations }
+
+abbrev pub site_with : (Association → Association) → ClientSite → ClientSite
+site_with change site = record site { node = record site.node { state = state_with change site.node.state } }
+
+abbrev pub each_association : (Association → Association) → World → World
+each_association change w = record w { clients = map (site_with change) w.clients }
 
 abbrev pub all_dated : ℕ → World → World
-all_dated n w = record w { clients = map (site_dated n) w.clients }
+all_dated n w = each_association (association_dated n) w
 
 -- every client with a session holds a lock on the file
 abbrev pub shared_lock : HeldLock
@@ -153,35 +201,87 @@ locked_in (Some s) = Some (session_locked s)
 abbrev pub association_locked : Association → Association
 association_locked a = record a { session = locked_in a.session }
 
-abbrev pub site_locked : ClientSite → ClientSite
-site_locked site =
-    record site { node = record site.node { state = record site.node.state { associations = map association_locked site.node.state.associations } } }
-
 abbrev pub all_locked : World → World
-all_locked w = record w { clients = map site_locked w.clients }
+all_locked w = each_association association_locked w
 
--- a timer runs for the client, since before any message was sent
-abbrev pub timer : TimerStart
-timer = record { server = server 1; client = c 1; clock = stamp 0; sent = 0 }
+-- the leases of the history end so
+abbrev pub date_ended : ℕ → LeaseDate → LeaseDate
+date_ended n d = record d { end = stamp n }
 
-abbrev pub with_early_timer : Step → Step
-with_early_timer x = record x { after = record x.after { history = record x.after.history { timers = timer ∷ [] } } }
+abbrev pub dates_ended : ℕ → History → History
+dates_ended n h = record h { dates = map (date_ended n) h.dates }
+
+-- a timer runs for the client, since so many messages were sent
+abbrev pub timer : ℕ → TimerStart
+timer n = record { server = server 1; client = c 1; sent = n }
+
+abbrev pub with_timer : ℕ → History → History
+with_timer n h = record h { timers = timer n ∷ [] }
+
+-- the server suspects the client
+abbrev pub suspicion : Suspect
+suspicion = record { client = c 1; start = stamp 1450 }
+
+abbrev pub node_suspecting : ServerNode → ServerNode
+node_suspecting node = record node { state = record node.state { authority = record node.state.authority { suspects = suspicion ∷ [] } } }
+
+abbrev pub suspecting : World → World
+suspecting w = record w { servers = map node_suspecting w.servers }
+
+-- a life of the client ended without a lease
+abbrev pub leaseless : LeaseLife
+leaseless = record { client = c 1; server = server 1; life = life 7; end = None; crashed = false }
+
+abbrev pub with_leaseless : World → World
+with_leaseless w = record w { ended = leaseless ∷ [] }
+
+-- nothing is known of dates, or of grants
+abbrev pub without_dates : History → History
+without_dates h = record h { dates = [] }
+
+abbrev pub without_grants : History → History
+without_grants h = record h { grants = [] }
+
+-- a client writes once more, and a file is cut
+abbrev pub written_by : ℕ → World → World
+written_by n w = record w { log = accept w.log (c n) (life 1) (on 1 2) (page 0) (filled 5) }
+
+abbrev pub cut_once : World → World
+cut_once w = record w { log = cut_log w.log (on 1 3) (page 0) }
+
+-- it is later than every lease end
+abbrev pub at_last : World → World
+at_last w = record w { clocks = stamp 2000 ∷ stamp 2000 ∷ stamp 3000 ∷ [] }
+
+-- each client has lost what it had
+abbrev pub all_emptied : World → World
+all_emptied w = each_association emptied w
 
 -- it is another event
 abbrev pub by_event : Event → Step → Step
 by_event e x = record x { event = e }
 
--- the server is in its second epoch, whose grace is over
-abbrev pub node_restarted : ServerNode → ServerNode
-node_restarted node =
-    record node { state = record node.state { stable = record node.state.stable { epoch = epoch 2 }; grace = Some (record { start = stamp 0; wait = 1 }) } }
+-- the server is in its second epoch, under this grace
+abbrev pub in_second : Option Grace → ServerNode → ServerNode
+in_second grace node = record node { state = record node.state { stable = record node.state.stable { epoch = epoch 2 }; grace = grace } }
 
-abbrev pub out_of_grace : World → World
-out_of_grace w = record w { servers = map node_restarted w.servers }
+-- a grace that was over at once, and none
+abbrev pub short_grace : Option Grace
+short_grace = Some (record { start = stamp 0; wait = 1 })
+
+abbrev pub never_grace : Option Grace
+never_grace = None
+
+abbrev pub second_epoch : Option Grace → World → World
+second_epoch grace w = record w { servers = map (in_second grace) w.servers }
+
+-- a step of the first client
+abbrev pub ticking : Step → Step
+ticking x = record x { event = events.Tick (client_node 1) }
 
 -- the steps that break a promise each
 unfoldable pub stale_read : Step
-stale_read = seeing (answered 1 2 (answers.Read (filled 0)) ∷ []) (still (here reading))
+stale_read = by_event reading (seeing (answered 1 3 (answers.Read (filled 0)) ∷ []) (still (here reading)))
 
 unfoldable pub beside_a_lock : Step
 beside_a_lock = leaving with_other_row (still (here reading))
@@ -190,13 +290,13 @@ unfoldable pub beside_a_held_lock : Step
 beside_a_held_lock = leaving all_locked (still here_met)
 
 unfoldable pub dropped_without_a_crash : Step
-dropped_without_a_crash = leaving (all_fated (fates.Gone causes.Crash)) (still (here reading))
-
-unfoldable pub dropped_by_another_command : Step
-dropped_by_another_command = by_event (events.Report 1 false) (leaving (all_fated (fates.Gone (causes.Failed 1))) (still (here reading)))
+dropped_without_a_crash = seeing (dropped 1 ∷ []) (leaving (all_fated (fates.Gone causes.Crash)) (still (here reading)))
 
 unfoldable pub dropped_without_a_report : Step
-dropped_without_a_report = leaving (all_fated (fates.Gone (causes.Failed 1))) (still (here reading))
+dropped_without_a_report = seeing (failed 1 1 ∷ []) (leaving (all_fated (fates.Gone (causes.Failed 1))) (still (here reading)))
+
+unfoldable pub dropped_by_another_command : Step
+dropped_by_another_command = by_event (events.Report 1 false) dropped_without_a_report
 
 unfoldable pub hard_no_more : Step
 hard_no_more = coming (all_fated fates.Hard) (still (here reading))
@@ -207,18 +307,94 @@ hard_too_early = seeing (answered 1 2 answers.Hard ∷ []) (still (here syncing)
 unfoldable pub stolen_early : Step
 stolen_early = seeing (stolen 1 1 1 ∷ []) (still (here reading))
 
+unfoldable pub stolen_as_another_life : Step
+stolen_as_another_life = seeing (stolen 1 1 7 ∷ []) (coming with_leaseless (still (here reading)))
+
 unfoldable pub dated_from_the_arrival : Step
-dated_from_the_arrival = leaving (all_dated 450) (still (here reading))
+dated_from_the_arrival = recalling (dates_ended 1450) (leaving (all_dated 450) (still (here reading)))
 
 unfoldable pub replied_behind_a_timer : Step
-replied_behind_a_timer = with_early_timer (still (here reading))
+replied_behind_a_timer = recalling (with_timer 0) (leaving suspecting (still (here reading)))
 
 unfoldable pub grace_too_short : Step
-grace_too_short = leaving out_of_grace (still (here reading))
+grace_too_short = leaving (second_epoch short_grace) (still (here reading))
+
+unfoldable pub grace_never_begun : Step
+grace_never_begun = leaving (second_epoch never_grace) (still (here reading))
 
 unfoldable pub conflict_sent : Step
 conflict_sent = seeing (sent 7 32769 1 1 1 1 400 (bodies.Nack why.Conflict 2 2) ∷ []) (still (here reading))
 
+unfoldable pub hard_and_pending : Step
+hard_and_pending = seeing (seen.Hardened 1 ∷ []) (still (here reading))
+
+unfoldable pub hard_twice : Step
+hard_twice = seeing (seen.Hardened 1 ∷ []) (coming (all_fated fates.Hard) (leaving (all_fated fates.Hard) (still (here reading))))
+
+unfoldable pub written_and_not_logged : Step
+written_and_not_logged = seeing (answered 1 2 answers.Written ∷ []) (still (here writing))
+
+unfoldable pub cut_and_not_logged : Step
+cut_and_not_logged = seeing (answered 1 2 answers.Cut ∷ []) (still (here cutting))
+
+-- a cut from before the ask
+unfoldable pub past_cut : List Step
+past_cut = seeing (cut 1 1 2 0 ∷ []) (still (traced (world_of 2 1 1 8))) ∷ past cutting
+
+-- a client writes once more: who it is, which of its asks it is, the number that is told, and the grant number
+abbrev pub writing_again : ℕ → Event
+writing_again n = ask n (asks.Write (on 1 2) (page 0) (filled 5))
+
+abbrev pub logs_again : ℕ → ℕ → List Observation → Step
+logs_again n grant lines =
+    by_event (writing_again n) (seeing lines (recalling (with_grant (on 1 2) (g grant)) (leaving (written_by n) (still (here reading)))))
+
+abbrev pub writes_again : ℕ → ℕ → ℕ → ℕ → Step
+writes_again n op index grant = logs_again n grant (wrote index n 1 2 0 (filled 5) ∷ answered n op answers.Written ∷ [])
+
+unfoldable pub written_under_another_number : Step
+written_under_another_number = writes_again 1 3 5 4294967297
+
+unfoldable pub written_and_not_answered : Step
+written_and_not_answered = logs_again 1 4294967297 (wrote 2 1 1 2 0 (filled 5) ∷ [])
+
+unfoldable pub answered_twice : Step
+answered_twice = seeing (answered 1 1 answers.Quiesced ∷ []) (still (here reading))
+
+unfoldable pub written_without_a_lock : Step
+written_without_a_lock = writes_again 2 1 2 4294967297
+
+unfoldable pub written_under_a_lesser_grant : Step
+written_under_a_lesser_grant = writes_again 1 3 2 4294967296
+
+unfoldable pub cut_without_a_lock : Step
+cut_without_a_lock = seeing (cut 2 1 3 0 ∷ []) (recalling (with_grant (on 1 3) (g 4294967298)) (leaving cut_once (still (here reading))))
+
+-- a step at a lease's end
+abbrev pub late : Step → Step
+late x = ticking (coming at_last (leaving at_last x))
+
+unfoldable pub kept_after_the_end : Step
+kept_after_the_end = late (still (here reading))
+
+unfoldable pub submitted_after_the_end : Step
+submitted_after_the_end = seeing (read_out 1 1 1 1 0 ∷ []) (leaving all_emptied (late (still (here reading))))
+
+unfoldable pub read_after_the_end : Step
+read_after_the_end = by_event reading (seeing (answered 1 3 (answers.Read (filled 77)) ∷ []) (leaving all_emptied (late (still (here reading)))))
+
+unfoldable pub timer_unknown : Step
+timer_unknown = leaving suspecting (still (here reading))
+
+unfoldable pub timer_without_a_suspect : Step
+timer_without_a_suspect = recalling (with_timer 9) (still (here reading))
+
+unfoldable pub date_unknown : Step
+date_unknown = recalling without_dates (still (here reading))
+
+unfoldable pub grant_unknown : Step
+grant_unknown = recalling without_grants (still (here reading))
+
 unfoldable pub broken_open : ⊤
-unfolding world_words_open prepared past here met past_met here_met stale_read beside_a_lock beside_a_held_lock dropped_without_a_crash dropped_by_another_command dropped_without_a_report hard_no_more hard_too_early stolen_early dated_from_the_arrival replied_behind_a_timer grace_too_short conflict_sent
+unfolding world_words_open prepared past here met past_met here_met past_cut stale_read beside_a_lock beside_a_held_lock dropped_without_a_crash dropped_by_another_command dropped_without_a_report hard_no_more hard_too_early stolen_early stolen_as_another_life dated_from_the_arrival replied_behind_a_timer grace_too_short grace_never_begun conflict_sent hard_and_pending hard_twice written_and_not_logged cut_and_not_logged written_under_another_number written_and_not_answered answered_twice written_without_a_lock written_under_a_lesser_grant cut_without_a_lock kept_after_the_end submitted_after_the_end read_after_the_end timer_unknown timer_without_a_suspect date_unknown grant_unknown
 broken_open = tt

@@ -15,11 +15,11 @@ use Rattle.st_rows.specs.Tables.{living, sessions, shared, table}
 use Rattle.st_rows.specs.Words.{at}
 use Rattle.st_rows.specs.WorldWords.{world_of, world_words_open}
 
--- a world whose messages have so many bytes
+-- a world whose messages have this number of bytes
 abbrev pub with_bytes : ℕ → World → World
 with_bytes n w = record w { net = record w.net { bytes = n } }
 
--- a world of two clients and a server whose messages have so many bytes
+-- a world of two clients and a server whose messages have this number of bytes
 abbrev pub filled_to : ℕ → World
 filled_to n = with_bytes n (world_of 2 1 1 8)
 
@@ -31,7 +31,7 @@ with_command w = record w { disks = disks.submit w.disks (commands.Read (at 1 0)
 abbrev pub after : List Event → World
 after es = (run es (world_of 2 1 1 8)).world
 
--- a server whose first client has locks on so many files, from 10 on
+-- a server whose first client has locks on this number of files, from file 10
 abbrev pub crowded_server : ℕ → ServerState
 crowded_server count = record (server_with 8) { locks = table count (map shared (numbers 10 count)) []; sessions = sessions (living 1 1 0 None ∷ []) }
 

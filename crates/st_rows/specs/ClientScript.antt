@@ -7,7 +7,7 @@ use Rattle.st_rules.specs.Client.{client_step, fresh_client, crash, start, clien
 use Rattle.st_rows.specs.Script.{settings}
 use Rattle.st_rows.specs.Words.{c, stamp}
 
--- the first client of a world with so many servers
+-- the first client of a world with this number of servers
 unfoldable pub client_of : ℕ → ClientState
 client_of servers = fresh_client (c 1) settings servers
 

@@ -56,7 +56,7 @@ dirtied p = record { ino = 2; page = page p; bytes = filled 7; version = p + 1; 
 abbrev pub cleaned : ℕ → CleanPage
 cleaned p = record { ino = 2; page = page p; bytes = filled 7 }
 
--- with the first so many pages dirty, and one more mapped
+-- with this number of pages dirty, from the first, and one more mapped
 unfoldable pub dirty_client : ℕ → ClientState
 dirty_client n =
     client_with
@@ -67,7 +67,7 @@ dirty_client n =
       commands = [];
     })
 
--- with the first so many pages clean, page 0 the newest, and one more mapped
+-- with this number of pages clean, from the first, page 0 the newest, and one more mapped
 unfoldable pub clean_client : ℕ → ClientState
 clean_client n =
     client_with one_lock (record { extents = map mapped (numbers 0 (n + 1)); pages = record no_pages { clean = map cleaned (numbers 0 n) }; commands = [] })
@@ -78,7 +78,7 @@ shared ino = record { ino = ino; g = g ino; mode = modes.S }
 abbrev pub seen : ℕ → SeenGrant
 seen ino = record { ino = ino; g = g ino }
 
--- with so many shared locks, from the file 1001 on, each under a grant of its file's number
+-- with this number of shared locks, from the file 1001 on, each under a grant of its file's number
 unfoldable pub locked_client : ℕ → ClientState
 locked_client n = client_with (record { rows = map shared (numbers 1001 n); seen = map seen (numbers 1001 n); demanded = [] }) empty_store
 

@@ -19,7 +19,7 @@ deep =
     ++ (entry_in 1 (codes "d") 10 true ∷ entry_in 10 (codes "e") 11 true ∷ entry_in 10 (codes "ee") 12 false ∷ entry_in 10 (codes "Z") 13 false ∷ []))
     14
 
--- so many files in the root
+-- this number of files in the root
 abbrev pub crowd : ℕ → NameEntry
 crowd ino = entry_in 1 (100 ∷ ino ∷ []) ino false
 

@@ -14,7 +14,7 @@ settings = record { lease = 1000; renew = 500; quiesce = 700; flush = 850; deman
 abbrev pub grainy_settings : Config
 grainy_settings = record settings { grain = 5 }
 
--- the only server of a world with one disk of so many blocks
+-- the only server of a world with one disk of this number of blocks
 unfoldable pub server_with : ℕ → ServerState
 server_with blocks = fresh_server (record { 0 = 1 }) settings 1 1 blocks
 

@@ -40,7 +40,7 @@ demand to sent (Some since) = record { to = to; sent = stamp sent; since = Some 
 abbrev pub table : ℕ → List LockRow → List Waiter → Locks
 table grants rows waiters = record { epoch = epoch 1; grants = grants; rows = rows; waiters = waiters }
 
--- a client's shared locks of so many files, from 2 on
+-- a client's shared locks on this number of files, from file 2
 abbrev pub shared : ℕ → LockRow
 shared ino = lock ino 1 ino modes.S None
 

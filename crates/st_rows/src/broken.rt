@@ -1,93 +1,234 @@
-ghost use Rattle.st_rows.specs.Broken.{IsKeptBut, beside_a_held_lock, beside_a_lock, conflict_sent, dated_from_the_arrival, dropped_by_another_command, dropped_without_a_crash, dropped_without_a_report, grace_too_short, hard_no_more, hard_too_early, past, past_met, reading, replied_behind_a_timer, stale_read, stolen_early, syncing};
-ghost use Rattle.st_rules.specs.Safety.{DirtyPagesStandAlone, DropsHaveACause, GraceWaits, HardIsHard, HardStaysHard, LeasesAreDatedFromRequests, NoConflictIsSent, ReadsReturnLastWrites, TheftsComeLate};
+ghost use Rattle.std.specs.Prelude.{◌∷◌, []};
+ghost use Rattle.st_rows.specs.Broken.{IsKeptBut, answered_twice, beside_a_held_lock, beside_a_lock, conflict_sent, cut_and_not_logged, cut_without_a_lock, cutting, date_unknown, dated_from_the_arrival, dropped_by_another_command, dropped_without_a_crash, dropped_without_a_report, grace_never_begun, grace_too_short, grant_unknown, hard_and_pending, hard_no_more, hard_too_early, hard_twice, kept_after_the_end, past, past_cut, past_met, read_after_the_end, reading, replied_behind_a_timer, stale_read, stolen_as_another_life, stolen_early, submitted_after_the_end, syncing, timer_unknown, timer_without_a_suspect, writing, written_and_not_answered, written_and_not_logged, written_under_a_lesser_grant, written_under_another_number, written_without_a_lock};
+ghost use Rattle.st_rules.specs.Safety.{AnswersAreLogged, AsksAreAnsweredOnce, ChangesAreLocked, ChangesGoInTheOrderOfLocks, DirtyPagesStandAlone, DropsHaveACause, ExpiredLeasesEmptyClients, GraceWaits, HardIsHard, HardStaysHard, LeasesAreDatedFromRequests, NoConflictIsSent, ReadsReturnLastWrites, TheHistoryIsTheWorlds, TheReportTellsTheLog, TheftsComeLate};
 
 /// A page that is dirty while another client has a row of its file.
 #[tactic(auto, unfolding(crate::specs::Broken::broken_open))]
 pub fn a_dirty_page_beside_a_lock_is_refused()
     ensures broken { ¬ DirtyPagesStandAlone (past reading) beside_a_lock }
-    ensures kept { IsKeptBut 1 (past reading) beside_a_lock }
+    ensures kept { IsKeptBut (1 ∷ []) (past reading) beside_a_lock }
 {}
 
 /// A page that is dirty while another client holds a lock on its file.
 #[tactic(auto, unfolding(crate::specs::Broken::broken_open))]
 pub fn a_dirty_page_beside_a_held_lock_is_refused()
     ensures broken { ¬ DirtyPagesStandAlone past_met beside_a_held_lock }
-    ensures kept { IsKeptBut 1 past_met beside_a_held_lock }
+    ensures kept { IsKeptBut (1 ∷ []) past_met beside_a_held_lock }
 {}
 
 /// A read that is answered with another page's bytes.
 #[tactic(auto, unfolding(crate::specs::Broken::broken_open))]
 pub fn a_stale_read_is_refused()
     ensures broken { ¬ ReadsReturnLastWrites (past reading) stale_read }
-    ensures kept { IsKeptBut 2 (past reading) stale_read }
+    ensures kept { IsKeptBut (2 ∷ []) (past reading) stale_read }
 {}
 
 /// A write that is dropped by a crash that never was.
 #[tactic(auto, unfolding(crate::specs::Broken::broken_open))]
 pub fn a_drop_without_a_crash_is_refused()
     ensures broken { ¬ DropsHaveACause (past reading) dropped_without_a_crash }
-    ensures kept { IsKeptBut 3 (past reading) dropped_without_a_crash }
+    ensures kept { IsKeptBut (3 ∷ []) (past reading) dropped_without_a_crash }
 {}
 
 /// A write that is dropped by a failed command which was not its page's last write.
 #[tactic(auto, unfolding(crate::specs::Broken::broken_open))]
 pub fn a_drop_by_another_command_is_refused()
     ensures broken { ¬ DropsHaveACause (past reading) dropped_by_another_command }
-    ensures kept { IsKeptBut 3 (past reading) dropped_by_another_command }
+    ensures kept { IsKeptBut (3 ∷ []) (past reading) dropped_by_another_command }
 {}
 
 /// A write that is dropped without a failed report.
 #[tactic(auto, unfolding(crate::specs::Broken::broken_open))]
 pub fn a_drop_without_a_report_is_refused()
     ensures broken { ¬ DropsHaveACause (past reading) dropped_without_a_report }
-    ensures kept { IsKeptBut 3 (past reading) dropped_without_a_report }
+    ensures kept { IsKeptBut (3 ∷ []) (past reading) dropped_without_a_report }
 {}
 
-/// A write that was hard and is so no more.
+/// A write that was hard and is so no more. No line tells that, so the report doesn't tell the log either.
 #[tactic(auto, unfolding(crate::specs::Broken::broken_open))]
 pub fn a_write_that_is_hard_no_more_is_refused()
     ensures broken { ¬ HardStaysHard (past reading) hard_no_more }
-    ensures kept { IsKeptBut 4 (past reading) hard_no_more }
+    ensures kept { IsKeptBut (4 ∷ 10 ∷ []) (past reading) hard_no_more }
 {}
 
 /// A sync that is answered hard while a write of its file is pending.
 #[tactic(auto, unfolding(crate::specs::Broken::broken_open))]
 pub fn a_sync_answered_too_early_is_refused()
     ensures broken { ¬ HardIsHard (past syncing) hard_too_early }
-    ensures kept { IsKeptBut 5 (past syncing) hard_too_early }
+    ensures kept { IsKeptBut (5 ∷ []) (past syncing) hard_too_early }
 {}
 
 /// A theft before the victim's lease end.
 #[tactic(auto, unfolding(crate::specs::Broken::broken_open))]
 pub fn an_early_theft_is_refused()
     ensures broken { ¬ TheftsComeLate (past reading) stolen_early }
-    ensures kept { IsKeptBut 6 (past reading) stolen_early }
+    ensures kept { IsKeptBut (6 ∷ []) (past reading) stolen_early }
+{}
+
+/// A theft that names a life without a lease, before the end of another lease of the victim.
+#[tactic(auto, unfolding(crate::specs::Broken::broken_open))]
+pub fn a_theft_under_another_life_is_refused()
+    ensures broken { ¬ TheftsComeLate (past reading) stolen_as_another_life }
+    ensures kept { IsKeptBut (6 ∷ []) (past reading) stolen_as_another_life }
 {}
 
 /// A lease that is dated from its reply's arrival.
 #[tactic(auto, unfolding(crate::specs::Broken::broken_open))]
 pub fn a_date_of_the_arrival_is_refused()
     ensures broken { ¬ LeasesAreDatedFromRequests (past reading) dated_from_the_arrival }
-    ensures kept { IsKeptBut 7 (past reading) dated_from_the_arrival }
+    ensures kept { IsKeptBut (7 ∷ []) (past reading) dated_from_the_arrival }
 {}
 
 /// A lease whose reply was sent after a timer of its client began.
 #[tactic(auto, unfolding(crate::specs::Broken::broken_open))]
 pub fn a_reply_behind_a_timer_is_refused()
     ensures broken { ¬ LeasesAreDatedFromRequests (past reading) replied_behind_a_timer }
-    ensures kept { IsKeptBut 7 (past reading) replied_behind_a_timer }
+    ensures kept { IsKeptBut (7 ∷ []) (past reading) replied_behind_a_timer }
 {}
 
 /// A grace that ends before a client's lease.
 #[tactic(auto, unfolding(crate::specs::Broken::broken_open))]
 pub fn a_grace_that_is_too_short_is_refused()
     ensures broken { ¬ GraceWaits (past reading) grace_too_short }
-    ensures kept { IsKeptBut 8 (past reading) grace_too_short }
+    ensures kept { IsKeptBut (8 ∷ []) (past reading) grace_too_short }
+{}
+
+/// A second epoch that begins without a grace, before the end of a client's lease of the first.
+#[tactic(auto, unfolding(crate::specs::Broken::broken_open))]
+pub fn an_epoch_without_a_grace_is_refused()
+    ensures broken { ¬ GraceWaits (past reading) grace_never_begun }
+    ensures kept { IsKeptBut (8 ∷ []) (past reading) grace_never_begun }
 {}
 
 /// A refusal of a reassertion for a conflict.
 #[tactic(auto, unfolding(crate::specs::Broken::broken_open))]
 pub fn a_conflict_that_is_sent_is_refused()
     ensures broken { ¬ NoConflictIsSent (past reading) conflict_sent }
-    ensures kept { IsKeptBut 9 (past reading) conflict_sent }
+    ensures kept { IsKeptBut (9 ∷ []) (past reading) conflict_sent }
+{}
+
+/// A write that is told to be hard and stays pending.
+#[tactic(auto, unfolding(crate::specs::Broken::broken_open))]
+pub fn a_hard_entry_that_stays_pending_is_refused()
+    ensures broken { ¬ TheReportTellsTheLog (past reading) hard_and_pending }
+    ensures kept { IsKeptBut (10 ∷ []) (past reading) hard_and_pending }
+{}
+
+/// A write that is told to be hard and was hard before.
+#[tactic(auto, unfolding(crate::specs::Broken::broken_open))]
+pub fn an_entry_told_hard_twice_is_refused()
+    ensures broken { ¬ TheReportTellsTheLog (past reading) hard_twice }
+    ensures kept { IsKeptBut (10 ∷ []) (past reading) hard_twice }
+{}
+
+/// A write that is told under a number that is not the next one.
+#[tactic(auto, unfolding(crate::specs::Broken::broken_open))]
+pub fn an_entry_under_another_number_is_refused()
+    ensures broken { ¬ TheReportTellsTheLog (past reading) written_under_another_number }
+    ensures kept { IsKeptBut (10 ∷ []) (past reading) written_under_another_number }
+{}
+
+/// A write that is answered and not logged.
+#[tactic(auto, unfolding(crate::specs::Broken::broken_open))]
+pub fn an_answer_that_is_not_logged_is_refused()
+    ensures broken { ¬ AnswersAreLogged (past writing) written_and_not_logged }
+    ensures kept { IsKeptBut (11 ∷ []) (past writing) written_and_not_logged }
+{}
+
+/// A cut that is answered and not logged.
+#[tactic(auto, unfolding(crate::specs::Broken::broken_open))]
+pub fn a_cut_that_is_not_logged_is_refused()
+    ensures broken { ¬ AnswersAreLogged (past cutting) cut_and_not_logged }
+    ensures kept { IsKeptBut (11 ∷ []) (past cutting) cut_and_not_logged }
+{}
+
+/// A cut that is answered and was logged only before it was asked.
+#[tactic(auto, unfolding(crate::specs::Broken::broken_open))]
+pub fn a_cut_from_before_the_ask_is_refused()
+    ensures broken { ¬ AnswersAreLogged past_cut cut_and_not_logged }
+    ensures kept { IsKeptBut (11 ∷ []) past_cut cut_and_not_logged }
+{}
+
+/// A write that is logged and not answered.
+#[tactic(auto, unfolding(crate::specs::Broken::broken_open))]
+pub fn a_write_that_is_not_answered_is_refused()
+    ensures broken { ¬ AsksAreAnsweredOnce (past reading) written_and_not_answered }
+    ensures kept { IsKeptBut (12 ∷ []) (past reading) written_and_not_answered }
+{}
+
+/// An ask that is answered a second time.
+#[tactic(auto, unfolding(crate::specs::Broken::broken_open))]
+pub fn a_second_answer_is_refused()
+    ensures broken { ¬ AsksAreAnsweredOnce (past reading) answered_twice }
+    ensures kept { IsKeptBut (12 ∷ []) (past reading) answered_twice }
+{}
+
+/// A write that is logged for a client without a lease or a lock.
+#[tactic(auto, unfolding(crate::specs::Broken::broken_open))]
+pub fn a_write_without_a_lock_is_refused()
+    ensures broken { ¬ ChangesAreLocked (past reading) written_without_a_lock }
+    ensures kept { IsKeptBut (13 ∷ []) (past reading) written_without_a_lock }
+{}
+
+/// A cut of a file on which the server has no exclusive row.
+#[tactic(auto, unfolding(crate::specs::Broken::broken_open))]
+pub fn a_cut_without_a_lock_is_refused()
+    ensures broken { ¬ ChangesAreLocked (past reading) cut_without_a_lock }
+    ensures kept { IsKeptBut (13 ∷ []) (past reading) cut_without_a_lock }
+{}
+
+/// A write that is accepted under a lesser grant number than the one before it.
+#[tactic(auto, unfolding(crate::specs::Broken::broken_open))]
+pub fn a_write_under_a_lesser_grant_is_refused()
+    ensures broken { ¬ ChangesGoInTheOrderOfLocks (past reading) written_under_a_lesser_grant }
+    ensures kept { IsKeptBut (14 ∷ []) (past reading) written_under_a_lesser_grant }
+{}
+
+/// A client that takes a step at its lease end and keeps what it had.
+#[tactic(auto, unfolding(crate::specs::Broken::broken_open))]
+pub fn a_client_that_keeps_what_it_had_is_refused()
+    ensures broken { ¬ ExpiredLeasesEmptyClients (past reading) kept_after_the_end }
+    ensures kept { IsKeptBut (15 ∷ []) (past reading) kept_after_the_end }
+{}
+
+/// A client that submits a command in the step in which it loses its lease.
+#[tactic(auto, unfolding(crate::specs::Broken::broken_open))]
+pub fn a_command_after_the_end_is_refused()
+    ensures broken { ¬ ExpiredLeasesEmptyClients (past reading) submitted_after_the_end }
+    ensures kept { IsKeptBut (15 ∷ []) (past reading) submitted_after_the_end }
+{}
+
+/// A client that answers a read in the step in which it loses its lease.
+#[tactic(auto, unfolding(crate::specs::Broken::broken_open))]
+pub fn a_read_after_the_end_is_refused()
+    ensures broken { ¬ ExpiredLeasesEmptyClients (past reading) read_after_the_end }
+    ensures kept { IsKeptBut (15 ∷ []) (past reading) read_after_the_end }
+{}
+
+/// A server that suspects a client while the history has no timer.
+#[tactic(auto, unfolding(crate::specs::Broken::broken_open))]
+pub fn a_timer_that_is_not_remembered_is_refused()
+    ensures broken { ¬ TheHistoryIsTheWorlds (past reading) timer_unknown }
+    ensures kept { IsKeptBut (16 ∷ []) (past reading) timer_unknown }
+{}
+
+/// A timer of the history while no server suspects the client.
+#[tactic(auto, unfolding(crate::specs::Broken::broken_open))]
+pub fn a_timer_without_a_suspect_is_refused()
+    ensures broken { ¬ TheHistoryIsTheWorlds (past reading) timer_without_a_suspect }
+    ensures kept { IsKeptBut (16 ∷ []) (past reading) timer_without_a_suspect }
+{}
+
+/// A lease that does not stand among the dates.
+#[tactic(auto, unfolding(crate::specs::Broken::broken_open))]
+pub fn a_lease_without_a_date_is_refused()
+    ensures broken { ¬ TheHistoryIsTheWorlds (past reading) date_unknown }
+    ensures kept { IsKeptBut (16 ∷ []) (past reading) date_unknown }
+{}
+
+/// An entry of the log that has no grant.
+#[tactic(auto, unfolding(crate::specs::Broken::broken_open))]
+pub fn an_entry_without_a_grant_is_refused()
+    ensures broken { ¬ TheHistoryIsTheWorlds (past reading) grant_unknown }
+    ensures kept { IsKeptBut (16 ∷ []) (past reading) grant_unknown }
 {}

@@ -1,6 +1,6 @@
 ghost use Rattle.std.specs.Prelude.{◌≡◌, ◌∷◌, [], None, Some, false, true};
 ghost use Rattle.st_base.specs.declared.mode.Mode.TheVariants as modes;
-ghost use Rattle.st_rules.specs.Client as rules;
+ghost use Rattle.st_rules.specs.Client as client;
 ghost use Rattle.st_rules.specs.ClientLease as leases;
 ghost use Rattle.st_rules.specs.ClientLocks as locks;
 ghost use Rattle.st_rules.specs.ClientPages as pages;
@@ -47,16 +47,16 @@ pub fn a_lease_is_renewed_by_later_stamps()
 /// What a client tells the world of its lease and pages, with a session and without one.
 #[tactic(auto, unfolding(crate::specs::ClientTables::client_tables_open))]
 pub fn a_client_tells_of_its_leases()
-    ensures phase { rules.phase_with (dirty_client 1) (server 1) (stamp 850) ≡ Some phases.Flush }
-    ensures end { rules.lease_end_with (dirty_client 1) (server 1) ≡ Some (stamp 1000) }
-    ensures dirty { rules.has_dirty_with (dirty_client 1) (server 1) ≡ true }
-    ensures unwritten { rules.has_write_with (dirty_client 1) (server 1) ≡ false }
-    ensures written { rules.has_write_with (left ((Given 850 Tick) ∷ []) (dirty_client 1)) (server 1) ≡ true }
-    ensures hard { rules.has_dirty_with (left ((Given 850 Tick) ∷ (Given 850 (Done 1 (Some None))) ∷ []) (dirty_client 1)) (server 1) ≡ false }
-    ensures no_phase { rules.phase_with (client_of 2) (server 2) (stamp 0) ≡ None }
-    ensures no_end { rules.lease_end_with (client_of 2) (server 2) ≡ None }
-    ensures lost { rules.lives (left ((Given 1000 Tick) ∷ []) (dirty_client 1)) ≡ life 2 ∷ [] }
-    ensures started { rules.lives (left (Restarted ∷ Restarted ∷ []) (client_of 2)) ≡ life 3 ∷ life 3 ∷ [] }
+    ensures phase { client.phase_with (dirty_client 1) (server 1) (stamp 850) ≡ Some phases.Flush }
+    ensures end { client.lease_end_with (dirty_client 1) (server 1) ≡ Some (stamp 1000) }
+    ensures dirty { client.has_dirty_with (dirty_client 1) (server 1) ≡ true }
+    ensures unwritten { client.has_write_with (dirty_client 1) (server 1) ≡ false }
+    ensures written { client.has_write_with (left ((Given 850 Tick) ∷ []) (dirty_client 1)) (server 1) ≡ true }
+    ensures hard { client.has_dirty_with (left ((Given 850 Tick) ∷ (Given 850 (Done 1 (Some None))) ∷ []) (dirty_client 1)) (server 1) ≡ false }
+    ensures no_phase { client.phase_with (client_of 2) (server 2) (stamp 0) ≡ None }
+    ensures no_end { client.lease_end_with (client_of 2) (server 2) ≡ None }
+    ensures lost { client.lives (left ((Given 1000 Tick) ∷ []) (dirty_client 1)) ≡ life 2 ∷ [] }
+    ensures started { client.lives (left (Restarted ∷ Restarted ∷ []) (client_of 2)) ≡ life 3 ∷ life 3 ∷ [] }
 {}
 
 /// Lost pages of a file are told once, by rising page; those of other files stay.

@@ -1,5 +1,5 @@
--- A run goes on from where it led, and a traced run is the run.
-use Rattle.std.proofs.Common.{◌≡◌, List, [], ◌∷◌, ◌++◌, Option, Some, None, Result, Ok, Err, refl, ap}
+-- A run goes on from where it led, a traced run is the run, and so are the steps.
+use Rattle.std.proofs.Common.{◌≡◌, List, [], ◌∷◌, ◌++◌, length, map, take, Option, Some, None, Result, Ok, Err, refl, ap}
 use Rattle.st_messages.specs.declared.event.Event.{Event}
 use Rattle.st_rules.specs.declared.observation.Observation.{Observation}
 use Rattle.st_rules.specs.declared.observation.WorldRefusal.{WorldRefusal}
@@ -7,6 +7,7 @@ use Rattle.st_rules.specs.World.{World}
 use Rattle.st_rules.specs.Events.{Scene, world_step}
 use Rattle.st_rules.specs.Run.{Run, RunsInParts, behind, go_on, run, run_on}
 use Rattle.st_rules.specs.History.{Traced, TracedRunIsRun, trace, trace_on, traced_after}
+use Rattle.st_rules.specs.Safety.{StepsEndWithTheRun, StepsTakeTheEvents, StepsTellTheRun, event_of, left_by, seen_of, steps, steps_on}
 
 chained : {A : Type 0} {x y z : A} → x ≡ y → y ≡ z → x ≡ z
 chained p q = rw p q
@@ -38,3 +39,36 @@ pub traced_is_run : TracedRunIsRun
 unfolding trace run
 traced_is_run [] t = refl
 traced_is_run (e ∷ es) t = first_traced es e t (world_step t.world e) (traced_is_run es)
+
+-- the first step of a run
+first_event : (es : List Event) (e : Event) (t : Traced) (x : Result Scene WorldRefusal) → ((u : Traced) → map event_of (steps es u) ≡ take (length (run es u.world).seen) es) → map event_of (steps_on (steps es) t e x) ≡ take (length (go_on (run es) t.world x).seen) (e ∷ es)
+unfolding steps_on go_on
+first_event es e t (Err f) rest = refl
+first_event es e t (Ok sc) rest = ap (λ l. e ∷ l) (rest (traced_after e t sc))
+
+pub take_the_events : StepsTakeTheEvents
+unfolding steps run
+take_the_events [] t = refl
+take_the_events (e ∷ es) t = first_event es e t (world_step t.world e) (take_the_events es)
+
+-- what is observed at the first step
+first_told : (es : List Event) (e : Event) (t : Traced) (x : Result Scene WorldRefusal) → ((u : Traced) → map seen_of (steps es u) ≡ (run es u.world).seen) → map seen_of (steps_on (steps es) t e x) ≡ (go_on (run es) t.world x).seen
+unfolding steps_on go_on
+first_told es e t (Err f) rest = refl
+first_told es e t (Ok sc) rest = ap (λ l. sc.seen ∷ l) (rest (traced_after e t sc))
+
+pub tell_the_run : StepsTellTheRun
+unfolding steps run
+tell_the_run [] t = refl
+tell_the_run (e ∷ es) t = first_told es e t (world_step t.world e) (tell_the_run es)
+
+-- where the first step leads
+first_left : (es : List Event) (e : Event) (t : Traced) (x : Result Scene WorldRefusal) → ((u : Traced) → (left_by u (steps es u)).world ≡ (run es u.world).world) → (left_by t (steps_on (steps es) t e x)).world ≡ (go_on (run es) t.world x).world
+unfolding steps_on go_on left_by
+first_left es e t (Err f) rest = refl
+first_left es e t (Ok sc) rest = rest (traced_after e t sc)
+
+pub end_with_the_run : StepsEndWithTheRun
+unfolding steps run left_by
+end_with_the_run [] t = refl
+end_with_the_run (e ∷ es) t = first_left es e t (world_step t.world e) (end_with_the_run es)

@@ -102,7 +102,7 @@ unfoldable pub place_pages : FileId → List PageNo → Extents → Extents
 place_pages f [] x = x
 place_pages f (p ∷ ps) x = place_pages f ps (place_on x f p (free_blocks x))
 
--- so many pages from a page on
+-- this number of pages from a page on
 abbrev pub pages_from : PageNo → ℕ → List PageNo
 pages_from p count = map page_no (numbers p.0 count)
 

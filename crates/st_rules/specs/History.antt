@@ -1,34 +1,35 @@
--- History: what only proofs need, as a record beside the world that the same events move. No code keeps it.
-use Rattle.std.specs.Prelude.{◌≡◌, ℕ, Bool, ◌&&◌, not, ◌==◌, List, [], ◌∷◌, ◌++◌, length, filter, take, Option, Some, None, Result, Ok, Err, ⊤}
+-- History: what only promises need, as a record beside the world that the same events move. No code keeps it.
+use Rattle.std.specs.Prelude.{◌≡◌, ℕ, Bool, ◌&&◌, not, ◌==◌, List, [], ◌∷◌, ◌++◌, length, find, filter, Option, Some, None, option_map, unwrap_or, Result, Ok, Err, ⊤}
 use Rattle.st_base.specs.declared.ids.ClientId.{ClientId}
 use Rattle.st_base.specs.declared.ids.ServerId.{ServerId}
 use Rattle.st_base.specs.declared.ids.Life.{Life}
 use Rattle.st_base.specs.declared.ids.Epoch.{Epoch}
+use Rattle.st_base.specs.declared.ids.GrantNo.{GrantNo}
+use Rattle.st_base.specs.declared.ids.FileId.{FileId}
 use Rattle.st_base.specs.declared.ids.Stamp.{Stamp}
 use Rattle.st_base.specs.declared.ids.NodeId.TheVariants as nodes
+use Rattle.st_base.specs.declared.mode.Mode.TheVariants as modes
+use Rattle.st_base.specs.Mode.{covers}
 use Rattle.st_messages.specs.declared.event.Event.{Event}
 use Rattle.st_messages.specs.declared.event.Event.TheVariants as events
+use Rattle.st_rules.specs.declared.client.HeldLock.{HeldLock}
+use Rattle.st_rules.specs.declared.locks.LockRow.{LockRow}
 use Rattle.st_rules.specs.declared.observation.Observation.{Observation}
 use Rattle.st_rules.specs.declared.observation.Observation.TheVariants as seen
 use Rattle.st_rules.specs.declared.observation.WorldRefusal.{WorldRefusal}
 use Rattle.st_rules.specs.Keys.{same_client, same_server}
+use Rattle.st_rules.specs.ClientLocks.{is_lock_on}
 use Rattle.st_rules.specs.ClientState.{ClientSession, Association}
 use Rattle.st_rules.specs.Client.{association_with}
-use Rattle.st_rules.specs.World.{World, ClientSite, site_of, clock_of}
+use Rattle.st_rules.specs.Server.{ServerNode}
+use Rattle.st_rules.specs.World.{World, ClientSite, site_of, node_of}
 use Rattle.st_rules.specs.Events.{Scene, world_step, present_life}
 use Rattle.st_rules.specs.Run.{Run, run}
 
--- A timer that runs: the client's clock when it started, and how many messages had been sent before the event that started it.
+-- A timer that runs, and how many messages had been sent before the event that started it.
 pub record TimerStart : Type 0 where
   pub server : ServerId
   pub client : ClientId
-  pub clock : Stamp
-  pub sent : ℕ
-
--- A grace: all clients' clocks when it began, in order, and how many messages had been sent.
-pub record GraceStart : Type 0 where
-  pub server : ServerId
-  pub clocks : List Stamp
   pub sent : ℕ
 
 -- A lease: the epoch whose reply dated it last, and its end.
@@ -39,17 +40,41 @@ pub record LeaseDate : Type 0 where
   pub epoch : Epoch
   pub end : Stamp
 
--- The history of a run: the timers that run, the present epochs that began with a grace, every lease that was dated, and
--- the increments of every advance.
+-- An entry of the log: its file, and the grant number of the lock under which it was accepted.
+pub record EntryGrant : Type 0 where
+  pub file : FileId
+  pub g : GrantNo
+
+-- The history of a run: the timers that run, every lease that was dated, and the grant of each entry of the log, in its order.
 pub record History : Type 0 where
   pub timers : List TimerStart
-  pub graces : List GraceStart
   pub dates : List LeaseDate
-  pub advances : List (List ℕ)
+  pub grants : List EntryGrant
 
 -- before the first event
 abbrev pub no_history : History
-no_history = record { timers = []; graces = []; dates = []; advances = [] }
+no_history = record { timers = []; dates = []; grants = [] }
+
+-- What a client has of a server.
+
+-- of a client that is there
+abbrev pub association_at : ServerId → Option ClientSite → Option Association
+association_at s None = None
+association_at s (Some site) = association_with site.node.state s
+
+-- what a client of the world has of a server
+abbrev pub association_of : World → ClientId → ServerId → Option Association
+association_of w c s = association_at s (site_of w c)
+
+-- the locks of a session
+abbrev pub locks_of_session : Option ClientSession → List HeldLock
+locks_of_session None = []
+locks_of_session (Some s) = s.locks.rows
+
+-- the locks that a client has listed of a server
+abbrev pub locks_at : Option Association → List HeldLock
+locks_at None = []
+locks_at (Some a) = locks_of_session a.session
 
 -- Timers.
 
@@ -63,7 +88,7 @@ is_timer_at s t = same_server t.server s
 
 -- a timer that starts in an event, from a world
 abbrev pub timer_start : World → ServerId → ClientId → TimerStart
-timer_start w s c = record { server = s; client = c; clock = clock_of w (nodes.Client c); sent = length w.net.messages }
+timer_start w s c = record { server = s; client = c; sent = length w.net.messages }
 
 -- with this timer
 abbrev pub with_timer : TimerStart → History → History
@@ -85,14 +110,9 @@ abbrev pub epoch_at : Option Association → Epoch
 epoch_at None = record { 0 = 0 }
 epoch_at (Some a) = epoch_at_session a.session
 
--- the epoch in which a client has a session with a server
-abbrev pub epoch_of_site : ServerId → Option ClientSite → Epoch
-epoch_of_site s None = record { 0 = 0 }
-epoch_of_site s (Some site) = epoch_at (association_with site.node.state s)
-
 -- a lease that was dated by an event that left this world
 abbrev pub lease_date : World → ClientId → ServerId → Stamp → LeaseDate
-lease_date w c s end = record { client = c; server = s; life = present_life w c s; epoch = epoch_of_site s (site_of w c); end = end }
+lease_date w c s end = record { client = c; server = s; life = present_life w c s; epoch = epoch_at (association_of w c s); end = end }
 
 -- a lease of the same life
 abbrev pub is_date_of : LeaseDate → LeaseDate → Bool
@@ -102,11 +122,55 @@ is_date_of d e = same_client e.client d.client && (same_server e.server d.server
 abbrev pub with_date : LeaseDate → History → History
 with_date d h = record h { dates = filter (λ e. not (is_date_of d e)) h.dates ++ d ∷ [] }
 
--- What is observed moves the history: a timer starts with a suspicion and ends with a theft, and a lease is dated.
+-- Grants: a write or a patch is accepted under its client's exclusive lock on the file, and a cut under the exclusive row that the
+-- file's server has of it, as the event left them.
+
+-- an exclusive lock on a file
+abbrev pub is_exclusive_on : ℕ → HeldLock → Bool
+is_exclusive_on ino l = is_lock_on ino l && covers l.mode modes.X
+
+-- an exclusive row on a file
+abbrev pub is_exclusive_row : ℕ → LockRow → Bool
+is_exclusive_row ino r = (r.ino == ino) && covers r.mode modes.X
+
+-- a lock's grant number
+abbrev pub grant_of_lock : HeldLock → GrantNo
+grant_of_lock l = l.g
+
+-- a row's grant number
+abbrev pub grant_of_row : LockRow → GrantNo
+grant_of_row r = r.g
+
+-- the rows of a server that is there
+abbrev pub rows_at : Option ServerNode → List LockRow
+rows_at None = []
+rows_at (Some node) = node.state.locks.rows
+
+-- the grant number that was found, or 0
+abbrev pub grant_or_zero : Option GrantNo → GrantNo
+grant_or_zero g = unwrap_or g (record { 0 = 0 })
+
+-- the grant number of a client's exclusive lock on a file, or 0
+abbrev pub lock_grant : World → ClientId → FileId → GrantNo
+lock_grant w c f = grant_or_zero (option_map grant_of_lock (find (is_exclusive_on f.ino) (locks_at (association_of w c f.server))))
+
+-- the grant number of the exclusive row on a file at its server, or 0
+abbrev pub row_grant : World → FileId → GrantNo
+row_grant w f = grant_or_zero (option_map grant_of_row (find (is_exclusive_row f.ino) (rows_at (node_of w f.server))))
+
+-- with the grant of one more entry
+abbrev pub with_grant : FileId → GrantNo → History → History
+with_grant f g h = record h { grants = h.grants ++ record { file = f; g = g } ∷ [] }
+
+-- What is observed moves the history: a timer starts with a suspicion and ends with a theft, a lease is dated, and an entry joins
+-- the log under its grant.
 unfoldable pub recall : World → World → History → Observation → History
 recall before after h (seen.Suspected s c start) = with_timer (timer_start before s c) h
 recall before after h (seen.Stolen s c life) = without_timer s c h
 recall before after h (seen.Leased c s end) = with_date (lease_date after c s end) h
+recall before after h (seen.Wrote index c f p bytes) = with_grant f (lock_grant after c f) h
+recall before after h (seen.Patched index c f p at bytes) = with_grant f (lock_grant after c f) h
+recall before after h (seen.CutAt index f p) = with_grant f (row_grant after f) h
 recall before after h o = h
 
 -- what was observed at an event, in order
@@ -114,36 +178,18 @@ unfoldable pub recall_all : World → World → List Observation → History →
 recall_all before after [] h = h
 recall_all before after (o ∷ os) h = recall_all before after os (recall before after h o)
 
--- A server that stops has no timers and no grace; one that starts is in grace; and an advance is remembered.
-abbrev pub without_server : ServerId → History → History
-without_server s h = record h { timers = filter (λ t. not (is_timer_at s t)) h.timers; graces = filter (λ g. not (same_server g.server s)) h.graces }
-
--- the clients' clocks
-abbrev pub client_clocks : World → List Stamp
-client_clocks w = take (length w.clients) w.clocks
-
--- a grace that begins in an event, from a world
-abbrev pub grace_start : World → ServerId → GraceStart
-grace_start w s = record { server = s; clocks = client_clocks w; sent = length w.net.messages }
-
--- with this grace
-abbrev pub with_grace : GraceStart → History → History
-with_grace g h = record h { graces = h.graces ++ g ∷ [] }
-
--- with one more advance
-abbrev pub with_advance : List ℕ → History → History
-with_advance steps h = record h { advances = h.advances ++ steps ∷ [] }
+-- a server that stops has no timers
+abbrev pub without_timers : ServerId → History → History
+without_timers s h = record h { timers = filter (λ t. not (is_timer_at s t)) h.timers }
 
 -- by the event
-unfoldable pub remember : World → Event → History → History
-remember w (events.Advance steps) h = with_advance steps h
-remember w (events.Crash (nodes.Server s)) h = without_server s h
-remember w (events.Start (nodes.Server s)) h = with_grace (grace_start w s) h
-remember w e h = h
+unfoldable pub remember : Event → History → History
+remember (events.Crash (nodes.Server s)) h = without_timers s h
+remember e h = h
 
 -- the history after an event, by the event and by what was observed
 abbrev pub history_after : World → Event → Scene → History → History
-history_after w e sc h = recall_all w sc.world sc.seen (remember w e h)
+history_after w e sc h = recall_all w sc.world sc.seen (remember e h)
 
 -- A traced run: the world beside its history.
 pub record Traced : Type 0 where
@@ -158,6 +204,10 @@ traced w = record { world = w; history = no_history }
 pub record TracedRun : Type 0 where
   pub run : Run
   pub history : History
+
+-- where a traced run led
+abbrev pub led_to : TracedRun → Traced
+led_to r = record { world = r.run.world; history = r.history }
 
 -- a traced run without events
 abbrev pub no_traced : Traced → Option WorldRefusal → TracedRun

@@ -26,4 +26,6 @@ pub mod WorldInvariants
 pub mod Run
 pub mod History
 pub mod Report
+pub mod Lines
+pub mod Dating
 pub mod Safety

@@ -1,16 +1,20 @@
 -- What is promised: what safe means, over the steps of a run. No rule of a machine is used here but look-ups; the promise on
 -- old messages says which rules they leave alone.
-use Rattle.std.specs.Prelude.{◌≡◌, ℕ, ◌+◌, Bool, true, false, ◌&&◌, ◌||◌, not, ◌==◌, nat_le, nat_lt, if◌then◌else◌, List, [], ◌∷◌, ◌++◌, length, filter_map, map, Option, Some, None, is_some, Result, Ok, Err, ⊤}
+use Rattle.std.specs.Prelude.{◌≡◌, ℕ, ◌+◌, Bool, true, false, ◌&&◌, ◌||◌, not, ◌==◌, nat_le, nat_lt, if◌then◌else◌, List, [], ◌∷◌, ◌++◌, length, filter_map, map, take, Option, Some, None, is_some, Result, Ok, Err, ⊤}
 use Rattle.std.specs.List.{list_all, list_any}
 use Rattle.st_base.specs.declared.ids.ClientId.{ClientId}
 use Rattle.st_base.specs.declared.ids.ServerId.{ServerId}
 use Rattle.st_base.specs.declared.ids.Life.{Life}
 use Rattle.st_base.specs.declared.ids.Epoch.{Epoch}
 use Rattle.st_base.specs.declared.ids.FileId.{FileId}
+use Rattle.st_base.specs.declared.ids.PageNo.{PageNo}
 use Rattle.st_base.specs.declared.ids.Stamp.{Stamp}
 use Rattle.st_base.specs.declared.ids.NodeId.TheVariants as nodes
 use Rattle.st_base.specs.declared.config.Config.{Config}
 use Rattle.st_base.specs.Config.{check}
+use Rattle.st_base.specs.declared.disk.BlockAt.{BlockAt}
+use Rattle.st_base.specs.declared.disk.Command.{Command}
+use Rattle.st_base.specs.declared.disk.Command.TheVariants as commands
 use Rattle.st_messages.specs.declared.ask.Ask.{Ask}
 use Rattle.st_messages.specs.declared.ask.Ask.TheVariants as asks
 use Rattle.st_messages.specs.declared.answer.AppAnswer.{AppAnswer}
@@ -19,13 +23,11 @@ use Rattle.st_messages.specs.declared.message.Message.{Message}
 use Rattle.st_messages.specs.declared.message.Header.{Header}
 use Rattle.st_messages.specs.declared.message.Body.{Body}
 use Rattle.st_messages.specs.declared.message.Body.TheVariants as bodies
-use Rattle.st_messages.specs.declared.message.Why.{Why}
 use Rattle.st_messages.specs.declared.message.Why.TheVariants as why
 use Rattle.st_messages.specs.declared.event.Event.{Event}
 use Rattle.st_messages.specs.declared.event.Event.TheVariants as events
 use Rattle.st_messages.specs.Fits.{is_ask}
 use Rattle.st_rules.specs.declared.pages.DirtyPage.{DirtyPage}
-use Rattle.st_rules.specs.declared.client.HeldLock.{HeldLock}
 use Rattle.st_rules.specs.declared.input.ServerInput.TheVariants as serving
 use Rattle.st_rules.specs.declared.client.ClientInput.TheVariants as inputs
 use Rattle.st_rules.specs.declared.log.Cause.{Cause}
@@ -39,19 +41,27 @@ use Rattle.st_rules.specs.declared.observation.Observation.TheVariants as seen
 use Rattle.st_rules.specs.declared.observation.WorldRefusal.{WorldRefusal}
 use Rattle.st_rules.specs.declared.sessions.Session.{Session}
 use Rattle.st_rules.specs.declared.world.SentMessage.{SentMessage}
-use Rattle.st_rules.specs.Keys.{same_client, same_server, same_file, server_node}
+use Rattle.st_rules.specs.declared.world.IssuedCommand.{IssuedCommand}
+use Rattle.st_rules.specs.declared.world.LeaseLife.{LeaseLife}
+use Rattle.st_rules.specs.Keys.{same_client, same_server, same_file, same_page, server_node}
 use Rattle.st_rules.specs.ClientLocks.{is_lock_on}
-use Rattle.st_rules.specs.ClientState.{ClientState, ClientSession, Association, ClientTurn}
+use Rattle.st_rules.specs.ClientPages.{Store, is_dirty_of}
+use Rattle.st_rules.specs.ClientState.{ClientState, ClientSession, Association, ClientTurn, server_of}
+use Rattle.st_rules.specs.Client.{is_any}
 use Rattle.st_rules.specs.Client as client
 use Rattle.st_rules.specs.FlatLog as log
+use Rattle.st_rules.specs.Authority as authority
 use Rattle.st_rules.specs.Grace as grace
 use Rattle.st_rules.specs.Locks as locks
 use Rattle.st_rules.specs.Server as server
 use Rattle.st_rules.specs.Server.{ServerNode}
 use Rattle.st_rules.specs.Sessions as sessions
-use Rattle.st_rules.specs.World.{World, ClientSite, site_of, node_of, all_clients, all_servers, clock_of, numbered, with_numbered, lease_end_of, fresh_world}
-use Rattle.st_rules.specs.Events.{Scene, world_step, present_life, is_hard_fate, last_write}
-use Rattle.st_rules.specs.History.{Traced, History, TimerStart, LeaseDate, traced, traced_after}
+use Rattle.st_rules.specs.World.{World, ClientSite, site_of, node_of, same_node, all_clients, all_servers, clock_of, message_of, receiver_of, issued_of, server_of_disk, numbered, present_end, lease_end_of, fresh_world}
+use Rattle.st_rules.specs.Events.{Scene, world_step, present_life, present_lives, is_same_instance, is_hard_fate, last_write}
+use Rattle.st_rules.specs.Run.{run}
+use Rattle.st_rules.specs.Lines.{AtEach, IsLogTold, lines_open}
+use Rattle.st_rules.specs.Dating.{dates_it, dating_open}
+use Rattle.st_rules.specs.History.{Traced, History, LeaseDate, EntryGrant, association_of, locks_at, is_timer_of, is_exclusive_on, is_exclusive_row, rows_at, traced, traced_after}
 
 -- The steps of a run: what stood before an event, the event, what was observed, and what it left.
 pub record Step : Type 0 where
@@ -74,11 +84,39 @@ unfoldable pub steps : List Event → Traced → List Step
 steps [] t = []
 steps (e ∷ es) t = steps_on (steps es) t e (world_step t.world e)
 
+-- The steps are the run: they take its events in order, up to the first that is refused; what was observed at them, in order, is what
+-- was observed in the run; and the last of them left the run's last world.
+
+-- the event of a step
+abbrev pub event_of : Step → Event
+event_of x = x.event
+
+-- what was observed at a step
+abbrev pub seen_of : Step → List Observation
+seen_of x = x.seen
+
+-- what the last of these steps left, where they began from there
+unfoldable pub left_by : Traced → List Step → Traced
+left_by t [] = t
+left_by t (x ∷ xs) = left_by x.after xs
+
+-- the steps of a run take as many of its events as it had observations of
+abbrev pub StepsTakeTheEvents : Type 0
+StepsTakeTheEvents = (es : List Event) (t : Traced) → map event_of (steps es t) ≡ take (length (run es t.world).seen) es
+
+-- what is observed at the steps of a run is what is observed in the run
+abbrev pub StepsTellTheRun : Type 0
+StepsTellTheRun = (es : List Event) (t : Traced) → map seen_of (steps es t) ≡ (run es t.world).seen
+
+-- the steps of a run end with the run's last world
+abbrev pub StepsEndWithTheRun : Type 0
+StepsEndWithTheRun = (es : List Event) (t : Traced) → (left_by t (steps es t)).world ≡ (run es t.world).world
+
 -- A promise speaks of a step and of the steps before it.
 abbrev pub Promise : Type 1
 Promise = List Step → Step → Type 0
 
--- a promise is kept at each of these steps, behind those that stand before them
+-- a promise is kept at each of these steps, after those that stand before them
 unfoldable pub Throughout : Promise → List Step → List Step → Type 0
 Throughout promise past [] = ⊤
 Throughout promise past (x ∷ rest) = promise past x × Throughout promise (past ++ x ∷ []) rest
@@ -96,25 +134,6 @@ lasts_at clock s (Some site) = site.node.running && is_before clock (client.leas
 -- the lease of a client at a server lasts
 abbrev pub lasts : World → ClientId → ServerId → Bool
 lasts w c s = lasts_at (clock_of w (nodes.Client c)) s (site_of w c)
-
--- what a client has of a server
-abbrev pub association_at : ServerId → Option ClientSite → Option Association
-association_at s None = None
-association_at s (Some site) = client.association_with site.node.state s
-
--- what a client of the world has of a server
-abbrev pub association_of : World → ClientId → ServerId → Option Association
-association_of w c s = association_at s (site_of w c)
-
--- the locks of a session
-abbrev pub locks_of_session : Option ClientSession → List HeldLock
-locks_of_session None = []
-locks_of_session (Some s) = s.locks.rows
-
--- the locks that a client has listed of a server
-abbrev pub locks_at : Option Association → List HeldLock
-locks_at None = []
-locks_at (Some a) = locks_of_session a.session
 
 -- the dirty pages that a client has listed of a server
 abbrev pub dirty_at : Option Association → List DirtyPage
@@ -172,40 +191,253 @@ abbrev pub ask_in : ClientId → Event → Option Ask
 ask_in c (events.App d ask) = ask_of_client c d ask
 ask_in c e = None
 
--- the event of a step
-abbrev pub event_of : Step → Event
-event_of x = x.event
-
 -- what a client was asked under a number, up to a step
 abbrev pub ask_of : List Step → Step → ClientId → ℕ → Option Ask
 ask_of past x c op = numbered (filter_map (ask_in c) (map event_of (past ++ x ∷ []))) op
 
--- The log at an observation: the one before the event, with what was observed before.
-abbrev pub with_fate : ℕ → Fate → Option LogEntry → List LogEntry → List LogEntry
-with_fate index fate None es = es
-with_fate index fate (Some e) es = with_numbered index (record e { fate = fate }) es
-
--- an entry of the log has this fate
-abbrev pub fated : List LogEntry → ℕ → Fate → List LogEntry
-fated es index fate = with_fate index fate (log.entry_at es index) es
-
--- the log behind an observation of a step that left this world; the life of an entry is its client's present one
-unfoldable pub log_behind : World → List LogEntry → Observation → List LogEntry
-log_behind w es (seen.Wrote index c f p bytes) = log.accept es c (present_life w c f.server) f p bytes
-log_behind w es (seen.Patched index c f p at bytes) = log.patch es c (present_life w c f.server) f p at bytes
-log_behind w es (seen.CutAt index f p) = log.cut es f p
-log_behind w es (seen.Hardened index) = fated es index fates.Hard
-log_behind w es (seen.Dropped index cause) = fated es index (fates.Gone cause)
-log_behind w es o = es
-
--- a fact of each observation and the log at it
-unfoldable pub AtEach : (List LogEntry → Observation → Type 0) → World → List LogEntry → List Observation → Type 0
-AtEach fact w es [] = ⊤
-AtEach fact w es (o ∷ os) = fact es o × AtEach fact w (log_behind w es o) os
-
 -- a fact of each observation of a step and the log at it
 abbrev pub AtEachOf : Step → (List LogEntry → Observation → Type 0) → Type 0
 AtEachOf x fact = AtEach fact x.after.world x.before.world.log x.seen
+
+-- The report tells the log: after each event the log is what the lines of that event make of the log before it, in their order.
+-- The line of a new entry has the next number, and a line that makes an entry hard or drops it names an entry that is pending at that line.
+abbrev pub TheReportTellsTheLog : Promise
+TheReportTellsTheLog past x = IsLogTold x.after.world x.before.world.log x.seen
+
+-- Answers are logged: `written` follows directly the line of the write or the patch that was asked, with its client, file, page,
+-- bytes and, for a patch, place in the page. `cut` comes only after a cut of the file from the page that was asked, since then.
+abbrev pub IsLoggedWrite : ClientId → Option Ask → Observation → Type 0
+IsLoggedWrite c (Some (asks.Write f p bytes)) (seen.Wrote i d g q old) = seen.Wrote i d g q old ≡ seen.Wrote i c f p bytes
+IsLoggedWrite c (Some (asks.Patch f p at bytes)) (seen.Patched i d g q place old) = seen.Patched i d g q place old ≡ seen.Patched i c f p at bytes
+IsLoggedWrite c asked o = ⊥
+
+-- the line before the answer, where there is one
+abbrev pub IsLoggedAfter : ClientId → Option Ask → Option Observation → Type 0
+IsLoggedAfter c asked None = ⊥
+IsLoggedAfter c asked (Some o) = IsLoggedWrite c asked o
+
+-- a cut of a file from a page
+abbrev pub is_cut_at : FileId → PageNo → Observation → Bool
+is_cut_at f p (seen.CutAt index g q) = same_file g f && same_page q p
+is_cut_at f p o = false
+
+-- how many asks a client had
+abbrev pub asks_at : Option ClientSite → ℕ
+asks_at None = 0
+asks_at (Some site) = site.asks
+
+-- a step after a client's ask of this number
+abbrev pub is_after_ask : ClientId → ℕ → Step → Bool
+is_after_ask c op x = nat_le op (asks_at (site_of x.before.world c))
+
+-- a step after the ask in which the file was cut from the page
+abbrev pub cuts_after : ClientId → ℕ → FileId → PageNo → Step → Bool
+cuts_after c op f p x = is_after_ask c op x && list_any (is_cut_at f p) x.seen
+
+-- what was asked is a cut, and it was done
+abbrev pub was_cut : List Step → ClientId → ℕ → Option Ask → Bool
+was_cut past c op (Some (asks.Cut f p)) = list_any (cuts_after c op f p) past
+was_cut past c op asked = false
+
+-- an answer that is neither `written` nor `cut` owes nothing
+abbrev pub IsLoggedAnswer : List Step → Step → Option Observation → ClientId → ℕ → AppAnswer → Type 0
+IsLoggedAnswer past x line c op answers.Written = IsLoggedAfter c (ask_of past x c op) line
+IsLoggedAnswer past x line c op answers.Cut = was_cut past c op (ask_of past x c op) ≡ true
+IsLoggedAnswer past x line c op answer = ⊤
+
+-- an observation that is no answer owes nothing
+abbrev pub IsLogged : List Step → Step → Option Observation → Observation → Type 0
+IsLogged past x line (seen.Answered c op answer) = IsLoggedAnswer past x line c op answer
+IsLogged past x line o = ⊤
+
+-- each of these observations, after the line before it
+unfoldable pub AreLogged : List Step → Step → Option Observation → List Observation → Type 0
+AreLogged past x line [] = ⊤
+AreLogged past x line (o ∷ os) = IsLogged past x line o × AreLogged past x (Some o) os
+
+-- Answers are logged
+abbrev pub AnswersAreLogged : Promise
+AnswersAreLogged past x = AreLogged past x None x.seen
+
+-- Asks are answered once: each answer goes to an ask of its client that was not answered before, and the line of a write or a patch
+-- is followed directly by a `written` to its client. So each such line is of one ask, and no ask has two.
+abbrev pub is_answer_to : ClientId → ℕ → Observation → Bool
+is_answer_to c op (seen.Answered d n answer) = same_client d c && (n == op)
+is_answer_to c op o = false
+
+-- the ask was answered in a step
+abbrev pub answers_in : ClientId → ℕ → Step → Bool
+answers_in c op x = list_any (is_answer_to c op) x.seen
+
+-- the ask was answered in earlier steps, or by earlier lines
+abbrev pub was_answered : List Step → List Observation → ClientId → ℕ → Bool
+was_answered past lines c op = list_any (answers_in c op) past || list_any (is_answer_to c op) lines
+
+-- it is the first answer to something that was asked
+abbrev pub is_first_answer : List Step → Step → List Observation → ClientId → ℕ → Bool
+is_first_answer past x lines c op = is_some (ask_of past x c op) && not (was_answered past lines c op)
+
+-- an observation that is no answer owes nothing
+abbrev pub is_answered_once : List Step → Step → List Observation → Observation → Bool
+is_answered_once past x lines (seen.Answered c op answer) = is_first_answer past x lines c op
+is_answered_once past x lines o = true
+
+-- each of these observations, after these lines
+unfoldable pub all_answered_once : List Step → Step → List Observation → List Observation → Bool
+all_answered_once past x lines [] = true
+all_answered_once past x lines (o ∷ os) = is_answered_once past x lines o && all_answered_once past x (lines ++ o ∷ []) os
+
+-- a client is answered `written`
+abbrev pub is_written_to : ClientId → Observation → Bool
+is_written_to c (seen.Answered d op answers.Written) = same_client d c
+is_written_to c o = false
+
+-- the first of these lines answers a client `written`
+abbrev pub begins_written : ClientId → List Observation → Bool
+begins_written c [] = false
+begins_written c (o ∷ os) = is_written_to c o
+
+-- the line of a write or a patch is followed by its answer
+abbrev pub is_followed : Observation → List Observation → Bool
+is_followed (seen.Wrote index c f p bytes) os = begins_written c os
+is_followed (seen.Patched index c f p at bytes) os = begins_written c os
+is_followed o os = true
+
+-- each of these lines is followed by what it owes
+unfoldable pub all_followed : List Observation → Bool
+all_followed [] = true
+all_followed (o ∷ os) = is_followed o os && all_followed os
+
+-- Asks are answered once
+abbrev pub AsksAreAnsweredOnce : Promise
+AsksAreAnsweredOnce past x = all_answered_once past x [] x.seen && all_followed x.seen ≡ true
+
+-- Changes are locked: after an event that logged a write or a patch, its client's lease lasts, the client has an exclusive lock on
+-- the file, and the page is dirty. After one that logged a cut, the file's server runs and has an exclusive row on the file.
+abbrev pub has_exclusive : ℕ → Option Association → Bool
+has_exclusive ino a = list_any (is_exclusive_on ino) (locks_at a)
+
+-- the page is dirty
+abbrev pub has_dirty_page : ℕ → PageNo → Option Association → Bool
+has_dirty_page ino p a = list_any (is_dirty_of ino p) (dirty_at a)
+
+-- a client's change of a page, after the event
+abbrev pub changes_alone : World → ClientId → FileId → PageNo → Bool
+changes_alone w c f p = lasts w c f.server && (has_exclusive f.ino (association_of w c f.server) && has_dirty_page f.ino p (association_of w c f.server))
+
+-- a running server has an exclusive row on the file
+abbrev pub cuts_under : ℕ → Option ServerNode → Bool
+cuts_under ino None = false
+cuts_under ino (Some node) = node.running && list_any (is_exclusive_row ino) (rows_at (Some node))
+
+-- an observation that logs no change owes nothing
+abbrev pub is_change_locked : World → Observation → Bool
+is_change_locked w (seen.Wrote index c f p bytes) = changes_alone w c f p
+is_change_locked w (seen.Patched index c f p at bytes) = changes_alone w c f p
+is_change_locked w (seen.CutAt index f p) = cuts_under f.ino (node_of w f.server)
+is_change_locked w o = true
+
+-- Changes are locked
+abbrev pub ChangesAreLocked : Promise
+ChangesAreLocked past x = list_all (is_change_locked x.after.world) x.seen ≡ true
+
+-- Changes go in the order of locks: the grant numbers under which a file's entries were accepted never fall along the log.
+abbrev pub is_no_lesser : EntryGrant → EntryGrant → Bool
+is_no_lesser e later = not (same_file later.file e.file) || nat_le e.g.0 later.g.0
+
+-- each later entry of the same file has no lesser grant number
+unfoldable pub never_fall : List EntryGrant → Bool
+never_fall [] = true
+never_fall (e ∷ es) = list_all (is_no_lesser e) es && never_fall es
+
+-- Changes go in the order of locks
+abbrev pub ChangesGoInTheOrderOfLocks : Promise
+ChangesGoInTheOrderOfLocks past x = never_fall x.after.history.grants ≡ true
+
+-- An expired lease empties its client: where a client takes a step while its lease at a server is over, then after the step it is
+-- in its next life there and has no session, page, known place or command of that server, and in the step nothing was submitted
+-- to that server's disks and no read or write of its files was answered.
+abbrev pub is_told_at : IssuedCommand → Option ClientSite → Bool
+is_told_at k None = false
+is_told_at k (Some site) = is_same_instance k site
+
+-- the client is told the end of a command
+abbrev pub is_told : World → ClientId → Option IssuedCommand → Bool
+is_told w c None = false
+is_told w c (Some k) = same_client k.client c && is_told_at k (site_of w c)
+
+-- the client is who gets the message
+abbrev pub is_receiver : ClientId → Option SentMessage → Bool
+is_receiver c None = false
+is_receiver c (Some m) = same_node (receiver_of m) (nodes.Client c)
+
+-- the client takes a step in this event
+abbrev pub takes_step : World → ClientId → Event → Bool
+takes_step w c (events.Tick n) = same_node n (nodes.Client c)
+takes_step w c (events.App d ask) = same_client d c
+takes_step w c (events.Deliver k) = is_receiver c (message_of w k)
+takes_step w c (events.Report k ok) = is_told w c (issued_of w k)
+takes_step w c e = false
+
+-- a clock has come to a lease end
+abbrev pub has_reached : Stamp → Option Stamp → Bool
+has_reached clock None = false
+has_reached clock (Some end) = nat_le end.0 clock.0
+
+-- a client's lease at a server is over
+abbrev pub is_expired : World → ClientId → ServerId → Bool
+is_expired w c s = has_reached (clock_of w (nodes.Client c)) (present_end w s (site_of w c))
+
+-- the client takes a step while its lease at the server is over
+abbrev pub steps_expired : Step → ClientId → ServerId → Bool
+steps_expired x c s = takes_step x.before.world c x.event && is_expired x.before.world c s
+
+-- nothing is known of pages, and no command is out
+abbrev pub is_empty_store : Store → Bool
+is_empty_store st = not (is_any st.extents) && (not (is_any st.pages.clean) && (not (is_any st.pages.dirty) && not (is_any st.commands)))
+
+-- the life after this one, without a session and with nothing of pages
+abbrev pub is_emptied : Life → Option Association → Bool
+is_emptied life None = false
+is_emptied life (Some a) = (a.life.0 == life.0 + 1) && (not (is_some a.session) && is_empty_store a.store)
+
+-- the block of a command
+abbrev pub block_of : Command → BlockAt
+block_of (commands.Read at) = at
+block_of (commands.Write at tag bytes) = at
+
+-- a read or a write that was answered
+abbrev pub is_use : AppAnswer → Bool
+is_use (answers.Read bytes) = true
+is_use answers.Written = true
+is_use answer = false
+
+-- the ask was one of this server
+abbrev pub is_of_server : ServerId → Option Ask → Bool
+is_of_server s None = false
+is_of_server s (Some ask) = same_server (server_of ask) s
+
+-- a command for the server's disks, or an answered read or write of its files
+abbrev pub uses_server : List Step → Step → ServerId → Observation → Bool
+uses_server past x s (seen.Submitted k c number what) = same_server (server_of_disk x.after.world (block_of what)) s
+uses_server past x s (seen.Answered c op answer) = is_use answer && is_of_server s (ask_of past x c op)
+uses_server past x s o = false
+
+-- the client is emptied, and used nothing of the server
+abbrev pub is_discarded : List Step → Step → ClientId → ServerId → Bool
+is_discarded past x c s = is_emptied (present_life x.before.world c s) (association_of x.after.world c s) && not (list_any (uses_server past x s) x.seen)
+
+-- a client whose lease is not over owes nothing
+abbrev pub is_lost_whole : List Step → Step → ClientId → ServerId → Bool
+is_lost_whole past x c s = not (steps_expired x c s) || is_discarded past x c s
+
+-- a client, at each server
+abbrev pub all_lost_whole : List Step → Step → ClientId → Bool
+all_lost_whole past x c = list_all (is_lost_whole past x c) (all_servers x.before.world)
+
+-- An expired lease empties its client
+abbrev pub ExpiredLeasesEmptyClients : Promise
+ExpiredLeasesEmptyClients past x = list_all (all_lost_whole past x) (all_clients x.before.world) ≡ true
 
 -- Reads return the last write: each answer of a read has the page's bytes in the log at that answer. These are zeros, changed
 -- by the writes, patches and cuts that touch the page and are not gone, in the order of the log.
@@ -311,80 +543,31 @@ IsHardAt past x es o = is_hard_at past x es o ≡ true
 abbrev pub HardIsHard : Promise
 HardIsHard past x = AtEachOf x (IsHardAt past x)
 
--- Thefts come late: when a client's locks are stolen, its clock has reached the lease end of that life, or the life had no
--- lease there.
+-- Thefts come late: when a client's locks are stolen, its clock has reached the lease end of that life, or the life had no lease
+-- there; and it has reached the end of every lease that the client ever had at that server, in whichever life.
 abbrev pub is_past : Stamp → Option Stamp → Bool
 is_past clock None = true
 is_past clock (Some end) = nat_le end.0 clock.0
 
+-- a lease of this client at this server has come to its end; or it is another lease
+abbrev pub is_date_past : ServerId → ClientId → Stamp → LeaseDate → Bool
+is_date_past s c clock d = not (same_server d.server s && same_client d.client c) || nat_le d.end.0 clock.0
+
+-- every lease of this client at this server has come to its end
+abbrev pub all_dates_past : Traced → ServerId → ClientId → Bool
+all_dates_past t s c = list_all (is_date_past s c (clock_of t.world (nodes.Client c))) t.history.dates
+
 -- a theft that is late, or another observation
-abbrev pub is_late : World → Observation → Bool
-is_late w (seen.Stolen s c life) = is_past (clock_of w (nodes.Client c)) (lease_end_of w c s life)
-is_late w o = true
+abbrev pub is_late : Traced → Observation → Bool
+is_late t (seen.Stolen s c life) = is_past (clock_of t.world (nodes.Client c)) (lease_end_of t.world c s life) && all_dates_past t s c
+is_late t o = true
 
 -- Thefts come late
 abbrev pub TheftsComeLate : Promise
-TheftsComeLate past x = list_all (is_late x.before.world) x.seen ≡ true
+TheftsComeLate past x = list_all (is_late x.before) x.seen ≡ true
 
 -- Leases are dated from a request: a lease's date is the client's own reading when it sent a request of this life, and the
 -- server sent that request's reply before any timer that runs for this client now.
-
--- a request: what a client sends but a seen demand
-abbrev pub is_request : Body → Bool
-is_request (bodies.DemandSeen ino g) = false
-is_request body = true
-
--- a request of a client's life to a server, with this stamp
-abbrev pub is_request_at : ClientId → ServerId → Life → Stamp → Message → Bool
-is_request_at c s life date m =
-    ((m.header.from == c.0) && (m.header.to == server_node s)) && (is_request m.body && ((m.header.life == life.0) && (m.header.stamp == date.0)))
-
--- a refusal of the client itself or of its epoch, by which no lease is renewed
-abbrev pub refuses_client : Why → Bool
-refuses_client why.Suspect = true
-refuses_client why.NoSession = true
-refuses_client why.OtherEpoch = true
-refuses_client why.Grace = true
-refuses_client why.GraceOver = true
-refuses_client why.Conflict = true
-refuses_client w = false
-
--- a message that may date a lease: neither such a refusal, nor a demand or a grant that answers no request
-abbrev pub may_date : ℕ → Body → Bool
-may_date number (bodies.Nack w a b) = not (refuses_client w)
-may_date number (bodies.Demand ino g to) = false
-may_date number (bodies.Granted ino g mode) = not (number == 0)
-may_date number body = true
-
--- a reply to a request, by which a lease may be dated
-abbrev pub is_reply_to : Message → Message → Bool
-is_reply_to q m =
-    (may_date m.header.number m.body && ((m.header.from == q.header.to) && (m.header.to == q.header.from)))
-    && ((m.header.life == q.header.life) && ((m.header.number == q.header.number) && (m.header.stamp == q.header.stamp)))
-
--- a timer of this client started after so many messages
-abbrev pub started_after : ServerId → ClientId → ℕ → TimerStart → Bool
-started_after s c k t = not (same_server t.server s && same_client t.client c) || nat_le k t.sent
-
--- every timer that runs for this client started after so many messages
-abbrev pub is_before_timers : History → ServerId → ClientId → ℕ → Bool
-is_before_timers h s c k = list_all (started_after s c k) h.timers
-
--- a message of the network is a reply to this request, sent before the timers
-unfoldable pub replied_from : ℕ → Traced → ServerId → ClientId → Message → List SentMessage → Bool
-replied_from number t s c q [] = false
-replied_from number t s c q (m ∷ ms) = (is_reply_to q m.message && is_before_timers t.history s c number) || replied_from (number + 1) t s c q ms
-
--- the request was replied to before the timers
-abbrev pub is_replied : Traced → ServerId → ClientId → Message → Bool
-is_replied t s c q = replied_from 1 t s c q t.world.net.messages
-
--- a message that dates a lease, sent at its stamp
-abbrev pub dates_it : Traced → World → ClientId → ServerId → Life → Stamp → Observation → Bool
-dates_it now before c s life date (seen.Sent k q) = is_request_at c s life date q && (((clock_of before (nodes.Client c)).0 == date.0) && is_replied now s c q)
-dates_it now before c s life date o = false
-
--- a step in which such a message was sent
 abbrev pub dates_in : Traced → ClientId → ServerId → Life → Stamp → Step → Bool
 dates_in now c s life date x = list_any (dates_it now x.before.world c s life date) x.seen
 
@@ -410,38 +593,27 @@ all_dated steps now c = list_all (is_dated steps now c) (all_servers now.world)
 abbrev pub LeasesAreDatedFromRequests : Promise
 LeasesAreDatedFromRequests past x = list_all (all_dated (past ++ x ∷ []) x.after) (all_clients x.after.world) ≡ true
 
--- Grace waits: when a server's grace is over, every client that was not reasserted in this epoch has reached the end of each
--- lease that it had from an earlier epoch of that server.
-abbrev pub is_reasserted_body : Body → Bool
-is_reasserted_body bodies.Reasserted = true
-is_reasserted_body body = false
-
--- a reply that accepts a client's reassertion in this epoch
-abbrev pub accepts_in : ServerId → ClientId → Epoch → SentMessage → Bool
-accepts_in s c epoch m =
-    is_reasserted_body m.message.body && ((m.message.header.from == server_node s) && ((m.message.header.to == c.0) && (m.message.header.epoch == epoch.0)))
-
--- a client was reasserted in this epoch
-abbrev pub was_reasserted : World → ServerId → ClientId → Epoch → Bool
-was_reasserted w s c epoch = list_any (accepts_in s c epoch) w.net.messages
-
--- a lease of an earlier epoch of this client at this server has come to its end; or it is another lease
+-- Grace waits: while a server runs outside grace, every client has reached the end of each lease that it had from an earlier epoch
+-- of that server, also where it was reasserted, and also where the server began its epoch without a grace.
 abbrev pub is_waited_for : ServerId → ClientId → Epoch → Stamp → LeaseDate → Bool
 is_waited_for s c epoch clock d = not (same_server d.server s && (same_client d.client c && nat_lt d.epoch.0 epoch.0)) || nat_le d.end.0 clock.0
 
--- a client was reasserted, or its leases of earlier epochs have come to their end
+-- a client's leases of earlier epochs have come to their end
 abbrev pub client_waited_for : Traced → ServerId → Epoch → ClientId → Bool
-client_waited_for t s epoch c = was_reasserted t.world s c epoch || list_all (is_waited_for s c epoch (clock_of t.world (nodes.Client c))) t.history.dates
+client_waited_for t s epoch c = list_all (is_waited_for s c epoch (clock_of t.world (nodes.Client c))) t.history.dates
 
--- a running server whose grace is over
+-- a server that runs and has no grace on
 abbrev pub is_out_of_grace : Stamp → ServerNode → Bool
-is_out_of_grace clock node = node.running && (is_some node.state.grace && not (grace.is_on node.state.grace clock))
+is_out_of_grace clock node = node.running && not (grace.is_on node.state.grace clock)
 
--- a server that began its epoch with a grace
+-- all clients' leases of earlier epochs have come to their end
+abbrev pub all_waited_for : Traced → ServerId → ServerNode → Bool
+all_waited_for t s node = list_all (client_waited_for t s node.state.stable.epoch) (all_clients t.world)
+
+-- a server in grace, or one that waited for all clients
 abbrev pub node_waited : Traced → ServerId → Option ServerNode → Bool
 node_waited t s None = true
-node_waited t s (Some node) =
-    not (is_out_of_grace (clock_of t.world (nodes.Server s)) node) || list_all (client_waited_for t s node.state.stable.epoch) (all_clients t.world)
+node_waited t s (Some node) = not (is_out_of_grace (clock_of t.world (nodes.Server s)) node) || all_waited_for t s node
 
 -- a server waited for all clients
 abbrev pub has_waited : Traced → ServerId → Bool
@@ -464,6 +636,63 @@ is_no_conflict o = true
 -- No conflict is ever sent
 abbrev pub NoConflictIsSent : Promise
 NoConflictIsSent past x = list_all is_no_conflict x.seen ≡ true
+
+-- The history is the world's: a client has a timer in the history exactly where a running server suspects it; each present lease,
+-- and each that a life had when it ended, stands among the dates with its end; and each entry of the log has one grant, of its file.
+abbrev pub agree : Bool → Bool → Bool
+agree true b = b
+agree false b = not b
+
+-- the history has a timer
+abbrev pub has_timer : History → ServerId → ClientId → Bool
+has_timer h s c = list_any (is_timer_of s c) h.timers
+
+-- a running server suspects a client
+abbrev pub suspects_at : ClientId → Option ServerNode → Bool
+suspects_at c None = false
+suspects_at c (Some node) = node.running && is_some (authority.suspect_of node.state.authority c)
+
+-- a client at a server has a timer in both, or in neither
+abbrev pub agree_on_timer : Traced → ServerId → ClientId → Bool
+agree_on_timer t s c = agree (has_timer t.history s c) (suspects_at c (node_of t.world s))
+
+-- a server's timers
+abbrev pub agree_on_timers : Traced → ServerId → Bool
+agree_on_timers t s = list_all (agree_on_timer t s) (all_clients t.world)
+
+-- a date of a life with this end
+abbrev pub is_date_with : LeaseLife → Stamp → LeaseDate → Bool
+is_date_with e end d = (same_client d.client e.client && same_server d.server e.server) && ((d.life.0 == e.life.0) && (d.end.0 == end.0))
+
+-- a lease end stands among the dates; or the life had no lease
+abbrev pub has_date : History → LeaseLife → Option Stamp → Bool
+has_date h e None = true
+has_date h e (Some end) = list_any (is_date_with e end) h.dates
+
+-- a life's lease end stands among the dates
+abbrev pub is_dated_life : History → LeaseLife → Bool
+is_dated_life h e = has_date h e e.end
+
+-- all lives, the present ones and those that ended
+abbrev pub all_lives : World → List LeaseLife
+all_lives w = present_lives w.clients ++ w.ended
+
+-- each entry of the log has one grant, of its file
+unfoldable pub fit_log : List EntryGrant → List LogEntry → Bool
+fit_log [] [] = true
+fit_log [] (e ∷ es) = false
+fit_log (g ∷ gs) [] = false
+fit_log (g ∷ gs) (e ∷ es) = same_file g.file e.of.file && fit_log gs es
+
+-- The history is the world's
+pub record IsWorldsHistory (t : Traced) : Type 0 where
+  pub timers : list_all (agree_on_timers t) (all_servers t.world) ≡ true
+  pub dates : list_all (is_dated_life t.history) (all_lives t.world) ≡ true
+  pub grants : fit_log t.history.grants t.world.log ≡ true
+
+-- The history is the world's, after every event
+abbrev pub TheHistoryIsTheWorlds : Promise
+TheHistoryIsTheWorlds past x = IsWorldsHistory x.after
 
 -- Old messages change nothing. At a client, a message of another life than its present one, or of another epoch than its
 -- session's, leaves a step as it was after the losses, so that only the passes follow. But a refusal of an epoch from a later
@@ -496,7 +725,10 @@ is_old c m = list_all (is_old_at m.header m.body) c.associations
 
 -- Old messages change nothing at a client
 abbrev pub OldMessagesChangeNoClient : Type 0
-OldMessagesChangeNoClient = (t : ClientTurn) (now : Stamp) (m : Message) → is_old t.state m ≡ true → client.take_input t now (inputs.Control m) ≡ t
+OldMessagesChangeNoClient =
+    (t : ClientTurn) (now : Stamp) (m : Message)
+    → is_old t.state m ≡ true
+    → client.take_input t now (inputs.Control m) ≡ t
 
 -- At a server, a request of another epoch that is no greeting, and any request of a life below its session's, leaves the state
 -- as it was after the thefts, so that only the passes follow.
@@ -520,8 +752,9 @@ is_of_past_life s m = is_below m.header (sessions.session_of s.sessions (server.
 -- Old messages change nothing at a server
 abbrev pub OldMessagesChangeNoServer : Type 0
 OldMessagesChangeNoServer =
-    (t : server.Turn) (now : Stamp) (m : Message) → is_of_other_epoch t.state m || is_of_past_life t.state m ≡ true →
-    (server.take_input t now (serving.Control m)).state ≡ t.state
+    (t : server.Turn) (now : Stamp) (m : Message)
+    → is_of_other_epoch t.state m || is_of_past_life t.state m ≡ true
+    → (server.take_input t now (serving.Control m)).state ≡ t.state
 
 -- The heads of schedules: settings without a fault, and counts in their ranges; the first form has no grain.
 pub record IsHead (k : Config) (clients servers disks blocks form : ℕ) : Type 0 where
@@ -553,6 +786,13 @@ pub record IsSafe (xs : List Step) : Type 0 where
   pub dates : Throughout LeasesAreDatedFromRequests [] xs
   pub waits : Throughout GraceWaits [] xs
   pub conflicts : Throughout NoConflictIsSent [] xs
+  pub told : Throughout TheReportTellsTheLog [] xs
+  pub logged : Throughout AnswersAreLogged [] xs
+  pub once : Throughout AsksAreAnsweredOnce [] xs
+  pub locked : Throughout ChangesAreLocked [] xs
+  pub order : Throughout ChangesGoInTheOrderOfLocks [] xs
+  pub emptied : Throughout ExpiredLeasesEmptyClients [] xs
+  pub history : Throughout TheHistoryIsTheWorlds [] xs
 
 -- a run from the world of a head
 abbrev pub IsSafeRun : World → List Event → Type 0
@@ -561,9 +801,10 @@ IsSafeRun w es = IsSafe (steps es (traced w))
 -- Every run is safe, from the world of every head and over every list of events, up to the first that is refused
 abbrev pub EveryRunIsSafe : Type 0
 EveryRunIsSafe =
-    (k : Config) (clients servers disks blocks form : ℕ) (es : List Event) →
-    IsHead k clients servers disks blocks form → list_all (is_event (clients + servers)) es ≡ true →
-    IsSafeRun (fresh_world k clients servers disks blocks form) es
+    (k : Config) (clients servers disks blocks form : ℕ) (es : List Event)
+    → IsHead k clients servers disks blocks form
+    → list_all (is_event (clients + servers)) es ≡ true
+    → IsSafeRun (fresh_world k clients servers disks blocks form) es
 
 -- All that is promised: every run is safe, and old messages change nothing.
 pub record IsAllPromised : Type 0 where
@@ -571,7 +812,7 @@ pub record IsAllPromised : Type 0 where
   pub clients : OldMessagesChangeNoClient
   pub servers : OldMessagesChangeNoServer
 
--- opens all of this file
+-- opens all of this file and of the two that it stands on
 unfoldable pub safety_open : ⊤
-unfolding steps_on steps Throughout ask_of_client log_behind AtEach keep_hard replied_from
+unfolding lines_open dating_open steps_on steps left_by Throughout ask_of_client AreLogged all_answered_once all_followed never_fall fit_log keep_hard
 safety_open = tt

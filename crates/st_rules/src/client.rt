@@ -4,7 +4,7 @@ use st_base::{BlockAt, GrantNo, Mode, PageBytes, PageNo, Stamp, Tag};
 use st_messages::{Ask, Body, Message};
 use std::alloc::AllocError;
 
-/// What comes to a client.
+/// An input of a client.
 #[derive(Drop)]
 pub enum ClientInput {
     /// Time passed.
@@ -14,15 +14,15 @@ pub enum ClientInput {
         ask: Ask,
     },
     Control(Message),
-    /// A disk command ended: it failed, or it wrote its block, or it found this in its block.
+    /// A disk command ended: it failed (`None`), it wrote its block (`Some(None)`), or it read this tag and these bytes.
     Done {
         command: u64,
         result: Option<Option<(Tag, PageBytes)>>,
     },
 }
 
-/// What a client may do at a moment under its lease at a server: nothing without one; read and write pages; hold what it
-/// has; write out what is dirty; or discard it all, when the lease is over.
+/// What a client may do at a moment under its lease at a server: nothing without a lease; read and write pages; keep what it
+/// has; write out its dirty pages; or discard everything, if the lease is over.
 #[derive(Clone, Copy, Debug, PartialEq, Eq)]
 pub enum StandingKind {
     Idle,
@@ -70,24 +70,24 @@ pub struct Release {
     pub to: Mode,
 }
 
-/// What becomes of a demand.
+/// The result of a demand.
 #[derive(Clone, Copy, Debug, PartialEq, Eq)]
 pub enum Asked {
-    /// The lock is to be lowered.
+    /// The lock must be lowered.
     Reduce,
     NotHeld,
     /// The lock has a later grant.
     Stale,
 }
 
-/// Where a mapped page lies, and the birth of its mapping.
+/// The block of a mapped page, and the birth of its mapping.
 #[derive(Clone, Copy, Debug, PartialEq, Eq)]
 pub struct Mapping {
     pub at: BlockAt,
     pub birth: u64,
 }
 
-/// What a client knows of a page's place: its mapping, or that it has none.
+/// What a client knows of the mapping of a page: the mapping, or that the page has none.
 #[derive(Clone, Copy, Debug, PartialEq, Eq)]
 pub struct KnownExtent {
     pub ino: u32,
@@ -95,7 +95,7 @@ pub struct KnownExtent {
     pub mapping: Option<Mapping>,
 }
 
-/// A page that a client has as it is on its disk.
+/// A page in a client's cache that is as on its disk.
 #[derive(Drop)]
 pub struct CleanPage {
     pub ino: u32,
@@ -103,21 +103,21 @@ pub struct CleanPage {
     pub bytes: PageBytes,
 }
 
-/// Why a page is not written.
+/// Why a write of a page is refused.
 #[derive(Clone, Copy, Debug, PartialEq, Eq)]
 pub enum WriteRefusal {
     /// 64 other pages are dirty.
     DirtyFull,
 }
 
-/// What a disk command is for: to read its page, or to write the version of it that it carries.
+/// What a disk command does: it reads its page, or it writes this version of it.
 #[derive(Clone, Copy, Debug, PartialEq, Eq)]
 pub enum IoKind {
     Read,
     Write(u64),
 }
 
-/// A disk command that was not yet reported, by the client's own number.
+/// A disk command that was not reported yet. `number` is the client's own number for it.
 #[derive(Clone, Copy, Debug, PartialEq, Eq)]
 pub struct PageCommand {
     pub number: u64,
@@ -139,8 +139,8 @@ pub enum Ended {
     Failed,
 }
 
-/// A page that was dirty when a lease was lost and of which no application was told, and the command that was to write
-/// it, or 0.
+/// A page that was dirty when a lease was lost and of which no application was told yet, and the command that should have
+/// written it, or 0.
 #[derive(Clone, Copy, Debug, PartialEq, Eq)]
 pub struct LostPage {
     pub ino: u32,
@@ -148,7 +148,7 @@ pub struct LostPage {
     pub command: u64,
 }
 
-/// A request that was sent and not yet answered, and when it was last sent.
+/// A request that was sent and not answered yet, and when it was last sent.
 #[derive(Drop)]
 pub struct Request {
     pub number: u64,
@@ -156,17 +156,17 @@ pub struct Request {
     pub sent: Stamp,
 }
 
-/// How far an operation has come that asks a server to cut a file or for a name.
+/// The stage of an operation that asks a server to cut a file or to change or find a name.
 #[derive(Clone, Copy, Debug, PartialEq, Eq)]
 pub enum Stage {
     Unsent,
     /// Its request is the outstanding one.
     Sent,
-    /// Its request ended without an answer to it.
+    /// Its request ended without a reply to it.
     Stuck,
 }
 
-/// What an application asked and was not yet answered.
+/// A request of an application that was not answered yet.
 #[derive(Drop)]
 pub struct Operation {
     pub op: u32,
@@ -195,7 +195,7 @@ fn copy_result(
 }
 
 impl ClientInput {
-    /// The same input, once more; a page is shared.
+    /// Returns a copy of the input. A page is shared.
     pub fn copy(&self) -> Result<ClientInput, AllocError>
         ensures { IfOk result (λ i. i ≡ self.now) }
     {
@@ -215,7 +215,7 @@ impl ClientInput {
 }
 
 impl CleanPage {
-    /// The same page, once more; its bytes are shared.
+    /// Returns a copy of the page. Its bytes are shared.
     pub fn copy(&self) -> Result<CleanPage, AllocError>
         ensures { IfOk result (λ c. c ≡ self.now) }
     {
@@ -228,7 +228,7 @@ impl CleanPage {
 }
 
 impl Request {
-    /// The same request, once more.
+    /// Returns a copy of the request.
     pub fn copy(&self) -> Result<Request, AllocError>
         ensures { IfOk result (λ r. r ≡ self.now) }
     {
@@ -241,7 +241,7 @@ impl Request {
 }
 
 impl Operation {
-    /// The same operation, once more; a page is shared.
+    /// Returns a copy of the operation. A page is shared.
     pub fn copy(&self) -> Result<Operation, AllocError>
         ensures { IfOk result (λ o. o ≡ self.now) }
     {

@@ -3,7 +3,7 @@ ghost use Rattle.std.specs.Prelude.{◌≡◌, IfOk};
 use st_base::{BlockAt, Command, PageBytes, Tag};
 use std::alloc::AllocError;
 
-/// A block, by its place, with its tag and its bytes.
+/// A block of a disk, with its tag and its bytes.
 #[derive(Drop)]
 pub struct Block {
     pub at: BlockAt,
@@ -19,7 +19,7 @@ pub enum Report {
     Failed,
 }
 
-/// A disk command, with its marks and, of a read that had its effect, the block as it was then.
+/// A disk command: whether it had its effect, how it was reported, and the block that a read found at its effect.
 #[derive(Drop)]
 pub struct DiskCommand {
     pub what: Command,
@@ -28,20 +28,20 @@ pub struct DiskCommand {
     pub sample: Option<Block>,
 }
 
-/// Why a disk command takes no effect or no report; the value is the command's number.
+/// Why the effect or the report of a disk command is refused. The value is the command's number.
 #[derive(Clone, Copy, Debug, PartialEq, Eq)]
 pub enum CommandRefusal {
     NoCommand(u64),
-    /// It had its effect, or its report, before.
+    /// It had its effect, or was reported, before.
     Twice(u64),
-    /// It had no effect, so that it is not reported as a success.
+    /// It had no effect, so it cannot be reported as a success.
     NotEffected(u64),
-    /// It was reported, so that it has no further effect.
+    /// It was reported, so it can have no effect any more.
     Reported(u64),
 }
 
 impl Block {
-    /// The same block, once more; its page is shared.
+    /// Returns a copy of the block. Its page is shared.
     pub fn copy(&self) -> Result<Block, AllocError>
         ensures { IfOk result (λ b. b ≡ self.now) }
     {
@@ -63,7 +63,7 @@ fn copy_sample(sample: &Option<Block>) -> Result<Option<Block>, AllocError>
 }
 
 impl DiskCommand {
-    /// The same command with its marks, once more; its pages are shared.
+    /// Returns a copy of the command. Its pages are shared.
     pub fn copy(&self) -> Result<DiskCommand, AllocError>
         ensures { IfOk result (λ c. c ≡ self.now) }
     {

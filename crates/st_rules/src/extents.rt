@@ -1,6 +1,6 @@
 use st_base::{BlockAt, FileId, PageNo};
 
-/// Where a page of a file lies. The birth tells this mapping of the page from every other one of its server.
+/// The block on which a page of a file lies. The birth tells this mapping from every other mapping of its server.
 #[derive(Clone, Copy, Debug, PartialEq, Eq)]
 pub struct Extent {
     pub file: FileId,
@@ -12,6 +12,6 @@ pub struct Extent {
 /// Why pages are not mapped.
 #[derive(Clone, Copy, Debug, PartialEq, Eq)]
 pub enum AllocateRefusal {
-    /// How many blocks are free, and how many pages have none.
+    /// The number of free blocks, and the number of pages that need one.
     NoSpace { free: u64, asked: u64 },
 }

@@ -3,7 +3,7 @@ ghost use Rattle.std.specs.Prelude.{◌≡◌, IfOk};
 use st_messages::Message;
 use std::alloc::AllocError;
 
-/// What comes to a server.
+/// An input of a server.
 #[derive(Drop)]
 pub enum ServerInput {
     /// Time passed.
@@ -12,7 +12,7 @@ pub enum ServerInput {
 }
 
 impl ServerInput {
-    /// The same input, once more.
+    /// Returns a copy of the input.
     pub fn copy(&self) -> Result<ServerInput, AllocError>
         ensures { IfOk result (λ i. i ≡ self.now) }
     {

@@ -2,7 +2,7 @@ ghost use Rattle.std.specs.Prelude.{ℕ, ◌<◌};
 ghost use Rattle.st_base.specs.declared.config.Config.{Config};
 ghost use Rattle.st_rules.specs.Leases.{AcceptedIsInBound, InBoundIsAccepted, InBoundIsRated, IsStealWait, RatedIsInBound, steal_wait};
 
-/// Where a lease stands at a moment.
+/// The phase of a lease at a moment.
 #[derive(Clone, Copy, Debug, PartialEq, Eq)]
 pub enum Phase {
     Valid,
@@ -12,8 +12,8 @@ pub enum Phase {
     Expired,
 }
 
-/// The first two nodes, by their places, of which the one's clock ran ahead of the other's by more than the bound, and
-/// by how much: the denominator times the one's gain without the numerator times the other's.
+/// The first pair of nodes, by position, where the clock of node `m` ran ahead of the clock of node `n` by more than the
+/// bound. `excess` is `den` times the gain of `m`, minus `num` times the gain of `n`.
 #[derive(Clone, Copy, Debug, PartialEq, Eq)]
 pub struct Excess {
     pub m: usize,
@@ -41,7 +41,7 @@ pub fn rated_advances_are_in_bound()
     ensures { RatedIsInBound }
 {}
 
-/// Without a grain, advances that keep clocks in bound that all run are each in bound.
+/// Without a grain, where all clocks run, advances that keep the clocks in bound over every interval are each in bound.
 pub fn advances_in_bound_are_rated()
     ensures { InBoundIsRated }
 {}

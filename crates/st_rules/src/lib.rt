@@ -37,6 +37,6 @@ pub use names::{EntryRefusal, NameEntry};
 pub use node::StepRefusal;
 pub use observation::{Observation, Summary, WorldRefusal};
 pub use pages::DirtyPage;
-pub use run::{runs_go_on_in_parts, traced_runs_are_runs};
+pub use run::{runs_go_on_in_parts, steps_are_the_run, traced_runs_are_runs};
 pub use sessions::{Hello, Session, SessionState, Taken};
 pub use world::{Carried, CutLink, FlushStep, IssuedCommand, LeaseLife, SentMessage};

@@ -4,14 +4,15 @@ use st_base::{ClientId, FileId, Life, PageBytes, PageNo};
 use st_messages::PatchBytes;
 use std::alloc::AllocError;
 
-/// Why an entry of the log is gone: its client crashed, or this command was to write it and failed.
+/// Why an entry of the log is gone: its client crashed, or the disk command with this number should have written it and
+/// failed.
 #[derive(Clone, Copy, Debug, PartialEq, Eq)]
 pub enum Cause {
     Crash,
     Failed(u64),
 }
 
-/// What became of an entry of the log.
+/// The fate of an entry of the log.
 #[derive(Clone, Copy, Debug, PartialEq, Eq)]
 pub enum Fate {
     Pending,
@@ -19,7 +20,8 @@ pub enum Fate {
     Gone(Cause),
 }
 
-/// Whose an entry of the log is, and which page it changes. A cut has client and life 0, and its first page.
+/// The client and the life of an entry of the log, and the page that it changes. A cut has client 0 and life 0, and the
+/// first page that it drops.
 #[derive(Clone, Copy, Debug, PartialEq, Eq)]
 pub struct LogOwner {
     pub client: ClientId,
@@ -32,7 +34,7 @@ pub struct LogOwner {
 #[derive(Drop)]
 pub enum Change {
     Write(PageBytes),
-    /// From this place in the page on.
+    /// The index of the first byte in the page, and the bytes.
     Patch(u16, PatchBytes),
     Cut,
 }
@@ -45,7 +47,7 @@ pub struct LogEntry {
     pub fate: Fate,
 }
 
-/// What an entry of the log is, without its bytes and its fate.
+/// An entry of the log without its bytes and its fate.
 #[derive(Clone, Copy, Debug, PartialEq, Eq)]
 pub enum EntryHead {
     Write {
@@ -67,7 +69,7 @@ pub enum EntryHead {
 }
 
 impl Change {
-    /// The same change, once more; a page is shared.
+    /// Returns a copy of the change. A page is shared.
     pub fn copy(&self) -> Result<Change, AllocError>
         ensures { IfOk result (λ c. c ≡ self.now) }
     {
@@ -80,7 +82,7 @@ impl Change {
 }
 
 impl LogEntry {
-    /// The same entry, once more; a page is shared.
+    /// Returns a copy of the entry. A page is shared.
     pub fn copy(&self) -> Result<LogEntry, AllocError>
         ensures { IfOk result (λ e. e ≡ self.now) }
     {

@@ -12,29 +12,29 @@ pub struct NameEntry {
     pub directory: bool,
 }
 
-/// Why a call on the names of a server is refused.
+/// Why a request on the names of a server is refused.
 #[derive(Clone, Copy, Debug, PartialEq, Eq)]
 pub enum EntryRefusal {
     /// There is no such entry, or no such directory.
     NoEntry,
-    /// The entry is there already.
+    /// The entry exists already.
     Exists,
-    /// The inode is no directory.
+    /// The inode is not a directory.
     NotDir,
     /// The entry is a directory.
     IsDir,
-    /// The directory has entries.
+    /// The directory is not empty.
     NotEmpty,
-    /// A directory would come under itself.
+    /// A directory would be moved under itself.
     Cycle,
-    /// The bytes are no name.
+    /// The bytes are not a name.
     BadName,
     /// There are 4,096 inodes.
     TooMany,
 }
 
 impl NameEntry {
-    /// The same entry, once more.
+    /// Returns a copy of the entry.
     pub fn copy(&self) -> Result<NameEntry, AllocError>
         ensures { IfOk result (λ e. e ≡ self.now) }
     {

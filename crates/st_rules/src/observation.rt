@@ -6,7 +6,7 @@ use st_messages::{AppAnswer, Message, PatchBytes};
 use std::alloc::AllocError;
 use thiserror::Error;
 
-/// What is seen of a world: one variant for each text of a report.
+/// An observation of a world: one variant for each kind of line in a report.
 #[derive(Clone, Drop)]
 pub enum Observation {
     /// Message `k` is sent.
@@ -14,7 +14,7 @@ pub enum Observation {
         k: u64,
         message: Message,
     },
-    /// Disk command `k` is submitted, under the client's own `number`.
+    /// Disk command `k` is submitted. `number` is the client's own number for it.
     Submitted {
         k: u64,
         client: ClientId,
@@ -76,7 +76,7 @@ pub enum Observation {
     },
 }
 
-/// What happened in a run, counted.
+/// The counts of a run.
 #[derive(Clone, Copy, Debug, PartialEq, Eq)]
 pub struct Summary {
     pub events: u64,
@@ -89,7 +89,7 @@ pub struct Summary {
     pub stolen: u64,
 }
 
-/// Why an event can't happen in a world.
+/// Why an event is refused in a world.
 #[derive(Clone, Copy, Debug, PartialEq, Eq, Error)]
 pub enum WorldRefusal {
     #[error("no such node")]
@@ -111,21 +111,21 @@ pub enum WorldRefusal {
     /// The greatest and the least increment.
     #[error("clocks differ too much: {0} and {1}")]
     ClockRate(u64, u64),
-    /// The client's clock, and the lease end that it reached.
+    /// The client's clock, and the end of the lease, which the clock reached.
     #[error("a disk command after its lease's end")]
     LateDisk(Stamp, Stamp),
     #[error("dirty pages were not flushed before the lease's end")]
     FlushMissed(ClientId, ServerId),
-    /// The bytes of all messages so far.
+    /// The number of bytes of all messages so far.
     #[error("{0} bytes of messages")]
     NetFull(u64),
-    /// The node that ran ahead, the one that it ran ahead of, and by how much.
+    /// The node whose clock ran ahead, the node that it ran ahead of, and the excess over the bound.
     #[error("clocks drifted apart")]
     ClockDrift(NodeId, NodeId, u128),
 }
 
 impl Observation {
-    /// The same observation, once more; pages are shared.
+    /// Returns a copy of the observation. Pages are shared.
     pub fn copy(&self) -> Result<Observation, AllocError>
         ensures { IfOk result (λ o. o ≡ self.now) }
     {

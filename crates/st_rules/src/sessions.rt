@@ -4,15 +4,15 @@ use st_base::{ClientId, Life};
 use st_messages::Body;
 use std::alloc::AllocError;
 
-/// Whether requests of a session's life are served: `last` is the greatest number that was, and `reply` what it was
-/// answered. A theft ends a session.
+/// The state of a session. While it is live, requests of its life are served: `last` is the greatest number that was
+/// served, and `reply` the reply to it. A theft ends a session.
 #[derive(Drop)]
 pub enum SessionState {
     Live { last: u64, reply: Option<Body> },
     Ended,
 }
 
-/// What a server keeps of a client that greeted it, or that reasserted its locks, in this epoch.
+/// A server's session with a client that greeted it, or that reasserted its locks, in this epoch.
 #[derive(Drop)]
 pub struct Session {
     pub client: ClientId,
@@ -20,26 +20,26 @@ pub struct Session {
     pub state: SessionState,
 }
 
-/// What becomes of a greeting.
+/// The result of a greeting.
 #[derive(Clone, Copy, Debug, PartialEq, Eq)]
 pub enum Hello {
-    /// The session of this life stands, old or new.
+    /// The session is of this life: it existed before or is new.
     Welcome,
-    /// A new session took the place of a living one of a lower life.
+    /// A new session replaced a live session of a lower life.
     Replaced,
-    /// The greeting is of a life that is past.
+    /// The greeting is of a life that has ended.
     Old,
-    /// The locks of a lower life still stand, so their end must be awaited.
+    /// Locks of a lower life still exist, so the client must wait until they are stolen.
     Wait,
 }
 
-/// What becomes of a request by its life, epoch and number.
+/// How a request is taken, by its life, epoch and number.
 #[derive(Clone, Copy, Drop)]
 pub enum Taken<R> {
     OtherEpoch,
     NoSession,
     Stale,
-    /// The last request once more, and the reply that was kept.
+    /// The last request again, with the reply that was kept.
     Again(R),
     Fresh,
     OutOfOrder,
@@ -55,7 +55,7 @@ fn copy_reply(reply: &Option<Body>) -> Result<Option<Body>, AllocError>
 }
 
 impl SessionState {
-    /// The same state, once more.
+    /// Returns a copy of the state.
     pub fn copy(&self) -> Result<SessionState, AllocError>
         ensures { IfOk result (λ s. s ≡ self.now) }
     {
@@ -70,7 +70,7 @@ impl SessionState {
 }
 
 impl Session {
-    /// The same session, once more.
+    /// Returns a copy of the session.
     pub fn copy(&self) -> Result<Session, AllocError>
         ensures { IfOk result (λ s. s ≡ self.now) }
     {

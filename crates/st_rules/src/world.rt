@@ -1,21 +1,21 @@
 use st_base::{ClientId, FileId, Life, NodeId, PageNo, ServerId, Stamp};
 use st_messages::Message;
 
-/// A message that was sent. One that is lost is delivered no more.
+/// A message that was sent. A lost message is never delivered again.
 #[derive(Drop)]
 pub struct SentMessage {
     pub message: Message,
     pub lost: bool,
 }
 
-/// A direction in which no message is delivered.
+/// A pair of nodes: no message from `from` to `to` is delivered.
 #[derive(Clone, Copy, Debug, PartialEq, Eq)]
 pub struct CutLink {
     pub from: NodeId,
     pub to: NodeId,
 }
 
-/// What a write command carries: the page, and the number of the log entry that it makes hard, or 0.
+/// What a write command carries: its page, and the number of the log entry that it makes hard, or 0.
 #[derive(Clone, Copy, Debug, PartialEq, Eq)]
 pub struct Carried {
     pub file: FileId,
@@ -23,8 +23,8 @@ pub struct Carried {
     pub index: u64,
 }
 
-/// Whose a disk command is: the client, its own number for it, how often the client had been started by then, and the
-/// server and the life under whose lease it was submitted. A write carries something.
+/// An issued disk command: its client, the client's own number for it, how often the client had been started before, and
+/// the server and the life under whose lease it was submitted. A write carries its page and log entry.
 #[derive(Clone, Copy, Debug, PartialEq, Eq)]
 pub struct IssuedCommand {
     pub client: ClientId,
@@ -35,7 +35,7 @@ pub struct IssuedCommand {
     pub carries: Option<Carried>,
 }
 
-/// A life of a client at a server: the end of its lease, where it has one, and whether a crash ended it.
+/// A life of a client at a server: the end of its lease, if it had one, and whether a crash ended the life.
 #[derive(Clone, Copy, Debug, PartialEq, Eq)]
 pub struct LeaseLife {
     pub client: ClientId,
@@ -45,7 +45,7 @@ pub struct LeaseLife {
     pub crashed: bool,
 }
 
-/// The lease end of a client at a server under which its last step that ended in the flush phase was taken.
+/// The last step of a client that ended in the flush phase at a server, by the lease end at that step.
 #[derive(Clone, Copy, Debug, PartialEq, Eq)]
 pub struct FlushStep {
     pub client: ClientId,

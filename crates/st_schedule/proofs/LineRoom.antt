@@ -24,12 +24,12 @@ use Rattle.st_schedule.proofs.Numbers.{own}
 abbrev pub is_unspaced : List ℕ → Bool
 is_unspaced w = list_all (λ b. not (b == 32)) w
 
--- a word without a space, of at most so many bytes
+-- a word without a space, of at most this number of bytes
 pub record Fills (most : ℕ) (w : List ℕ) : Type 0 where
   pub unspaced : is_unspaced w ≡ true
   pub short : length w ≤ most
 
--- words without spaces, that take at most so many bytes with a space before each
+-- words without spaces, that take at most this number of bytes with a space before each
 pub record Take (most : ℕ) (ws : List (List ℕ)) : Type 0 where
   pub unspaced : AllByRecursion (λ w. is_unspaced w ≡ true) ws
   pub short : room ws ≤ most

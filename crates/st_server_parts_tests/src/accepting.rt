@@ -1,6 +1,5 @@
-ghost use Rattle.std.specs.Prelude.{IsOk};
+ghost use Rattle.std.specs.Prelude.{◌≡◌};
 ghost use Rattle.std.specs.List.{IsDistinct};
-ghost use Rattle.st_base.specs.Config as settings;
 ghost use Rattle.st_locks.specs.Calls.{same_file};
 
 use crate::draws::Draws;

@@ -1,4 +1,5 @@
-//! The parts of a server beside plain lists and beside an independent reading of the rules: sessions, suspicion and grace.
+//! The parts of a server beside plain lists and beside an independent reading of the rules: extents, sessions, suspicion and
+//! grace.
 #![tactic(auto)]
 
 #[cfg(test)]
@@ -7,6 +8,8 @@ mod accepting;
 mod authority;
 #[cfg(test)]
 mod draws;
+#[cfg(test)]
+mod extents;
 #[cfg(test)]
 mod reassert;
 #[cfg(test)]

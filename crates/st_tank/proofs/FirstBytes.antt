@@ -85,7 +85,7 @@ lines_of-take (suc n) (b ∷ bs) = cut-step b n (lines_of (take n bs)) (lines_of
 
 -- What lines that are read may take.
 
--- so many bytes of what follows say how a reader that is so far goes on: the head and its newline, the events, the line
+-- this number of the bytes that follow says how a reader that is so far goes on: the head and its newline, the events, the line
 -- `end`, and one line more
 abbrev pub needs : Progress → ℕ
 needs progress.Nothing = 25700515
@@ -136,7 +136,7 @@ later_takes : (form : ℕ) (counts : Counts) (done : ℕ) (l : List ℕ) (y : Li
 unfolding later_line
 later_takes form counts done l y short h = line_takes form counts done l (line_event form (nodes_of counts) (split l)) y short refl h
 
--- a head is short: its numbers have at most so many digits
+-- a head is short: the digits of its numbers are bounded
 setting_length : (n : ℕ) → n ≤ MOST_SETTING → length (decimal n) ≤ 19
 setting_length n h = length-decimal-le 19 n (omega arith) (omega arith) (omega arith)
 
@@ -264,6 +264,6 @@ from_head-cut n (l ∷ ls) enough = elim (cases_lt (length l) n) [
       ∙ one_head (take n l) (omega (arith, length-take-le n l h)) ∙ sym (long_head l ls (omega arith))
 ]
 
--- so many bytes hold a head, all the events, the line `end` and one line more, or else one that is refused
+-- this number of bytes holds a head, all the events, the line `end` and one line more, or else one that is refused
 pub long_enough : (bytes : List ℕ) → report_of (take 25700515 bytes) ≡ report_of bytes
 long_enough bytes = ap from_head (lines_of-take 25700515 bytes) ∙ from_head-cut 25700515 (lines_of bytes) (omega arith)

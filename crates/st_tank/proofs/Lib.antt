@@ -1,3 +1,4 @@
+mod FilledRuns
 pub mod Newlines
 pub mod FirstBytes
 pub mod WholeSchedules

@@ -1,4 +1,3 @@
-use Rattle.std.proofs.Common.{refl}
 use Rattle.st_rows.specs.Broken.{broken_open}
 use Rattle.st_rows.proofs.Pages.{zeros_differ}
 use Rattle.st_rows.proofs.broken.a_stale_read_is_refused.Goals as goal
@@ -6,7 +5,3 @@ use Rattle.st_rows.proofs.broken.a_stale_read_is_refused.Goals as goal
 pub returns-clause-broken : goal.returns-clause-broken
 unfolding broken_open
 returns-clause-broken c = λ h. zeros_differ h.0
-
-pub returns-clause-kept : goal.returns-clause-kept
-unfolding broken_open
-returns-clause-kept c = record { alone = refl; reads = tt; causes = refl; stays = refl; hard = (refl, tt); thefts = refl; dates = refl; waits = refl; conflicts = refl }

@@ -1,5 +1,9 @@
-use Rattle.std.proofs.Common.{refl}
+-- Written by tools/world_rows.py.
+use Rattle.std.proofs.Common.{[], ◌∷◌, refl}
+use Rattle.st_base.specs.Page.{filled}
+use Rattle.st_rules.specs.declared.log.Fate.TheVariants as fates
 use Rattle.st_rows.specs.WorldWords.{world_words_open}
+use Rattle.st_rows.proofs.WorldLogs.{through, written}
 use Rattle.st_rows.proofs.world_safety.restart_is_safe.Goals as goal
 
 pub returns : goal.returns
@@ -15,4 +19,11 @@ returns c =
       dates = (refl, (refl, (refl, (refl, (refl, (refl, (refl, (refl, (refl, (refl, (refl, (refl, (refl, (refl, (refl, (refl, (refl, (refl, (refl, (refl, (refl, (refl, tt))))))))))))))))))))));
       waits = (refl, (refl, (refl, (refl, (refl, (refl, (refl, (refl, (refl, (refl, (refl, (refl, (refl, (refl, (refl, (refl, (refl, (refl, (refl, (refl, (refl, (refl, tt))))))))))))))))))))));
       conflicts = (refl, (refl, (refl, (refl, (refl, (refl, (refl, (refl, (refl, (refl, (refl, (refl, (refl, (refl, (refl, (refl, (refl, (refl, (refl, (refl, (refl, (refl, tt))))))))))))))))))))));
+      told = (record { entries = through ([]) refl refl; numbers = refl }, (record { entries = through ([]) refl refl; numbers = refl }, (record { entries = through ([]) refl refl; numbers = refl }, (record { entries = through ([]) refl refl; numbers = refl }, (record { entries = through ([]) refl refl; numbers = refl }, (record { entries = through ([]) refl refl; numbers = refl }, (record { entries = through (((written 1 1 1 2 0 (filled 77) fates.Pending) ∷ [])) refl refl; numbers = refl }, (record { entries = through (((written 1 1 1 2 0 (filled 77) fates.Pending) ∷ [])) refl refl; numbers = refl }, (record { entries = through (((written 1 1 1 2 0 (filled 77) fates.Pending) ∷ [])) refl refl; numbers = refl }, (record { entries = through (((written 1 1 1 2 0 (filled 77) fates.Pending) ∷ [])) refl refl; numbers = refl }, (record { entries = through (((written 1 1 1 2 0 (filled 77) fates.Pending) ∷ [])) refl refl; numbers = refl }, (record { entries = through (((written 1 1 1 2 0 (filled 77) fates.Pending) ∷ [])) refl refl; numbers = refl }, (record { entries = through (((written 1 1 1 2 0 (filled 77) fates.Pending) ∷ [])) refl refl; numbers = refl }, (record { entries = through (((written 1 1 1 2 0 (filled 77) fates.Pending) ∷ [])) refl refl; numbers = refl }, (record { entries = through (((written 1 1 1 2 0 (filled 77) fates.Pending) ∷ [])) refl refl; numbers = refl }, (record { entries = through (((written 1 1 1 2 0 (filled 77) fates.Pending) ∷ [])) refl refl; numbers = refl }, (record { entries = through (((written 1 1 1 2 0 (filled 77) fates.Pending) ∷ [])) refl refl; numbers = refl }, (record { entries = through (((written 1 1 1 2 0 (filled 77) fates.Pending) ∷ [])) refl refl; numbers = refl }, (record { entries = through (((written 1 1 1 2 0 (filled 77) fates.Pending) ∷ [])) refl refl; numbers = refl }, (record { entries = through (((written 1 1 1 2 0 (filled 77) fates.Pending) ∷ [])) refl refl; numbers = refl }, (record { entries = through (((written 1 1 1 2 0 (filled 77) fates.Pending) ∷ [])) refl refl; numbers = refl }, (record { entries = through (((written 1 1 1 2 0 (filled 77) fates.Pending) ∷ [])) refl refl; numbers = refl }, tt))))))))))))))))))))));
+      logged = ((tt, tt), ((tt, tt), ((tt, (tt, tt)), ((tt, tt), ((tt, tt), ((tt, tt), ((tt, (refl, tt)), ((tt, tt), ((tt, tt), ((tt, (tt, tt)), ((tt, (tt, tt)), (tt, ((tt, tt), (tt, (tt, (tt, ((tt, tt), ((tt, tt), ((tt, tt), ((tt, tt), ((tt, tt), ((tt, tt), tt))))))))))))))))))))));
+      once = (refl, (refl, (refl, (refl, (refl, (refl, (refl, (refl, (refl, (refl, (refl, (refl, (refl, (refl, (refl, (refl, (refl, (refl, (refl, (refl, (refl, (refl, tt))))))))))))))))))))));
+      locked = (refl, (refl, (refl, (refl, (refl, (refl, (refl, (refl, (refl, (refl, (refl, (refl, (refl, (refl, (refl, (refl, (refl, (refl, (refl, (refl, (refl, (refl, tt))))))))))))))))))))));
+      order = (refl, (refl, (refl, (refl, (refl, (refl, (refl, (refl, (refl, (refl, (refl, (refl, (refl, (refl, (refl, (refl, (refl, (refl, (refl, (refl, (refl, (refl, tt))))))))))))))))))))));
+      emptied = (refl, (refl, (refl, (refl, (refl, (refl, (refl, (refl, (refl, (refl, (refl, (refl, (refl, (refl, (refl, (refl, (refl, (refl, (refl, (refl, (refl, (refl, tt))))))))))))))))))))));
+      history = (record { timers = refl; dates = refl; grants = refl }, (record { timers = refl; dates = refl; grants = refl }, (record { timers = refl; dates = refl; grants = refl }, (record { timers = refl; dates = refl; grants = refl }, (record { timers = refl; dates = refl; grants = refl }, (record { timers = refl; dates = refl; grants = refl }, (record { timers = refl; dates = refl; grants = refl }, (record { timers = refl; dates = refl; grants = refl }, (record { timers = refl; dates = refl; grants = refl }, (record { timers = refl; dates = refl; grants = refl }, (record { timers = refl; dates = refl; grants = refl }, (record { timers = refl; dates = refl; grants = refl }, (record { timers = refl; dates = refl; grants = refl }, (record { timers = refl; dates = refl; grants = refl }, (record { timers = refl; dates = refl; grants = refl }, (record { timers = refl; dates = refl; grants = refl }, (record { timers = refl; dates = refl; grants = refl }, (record { timers = refl; dates = refl; grants = refl }, (record { timers = refl; dates = refl; grants = refl }, (record { timers = refl; dates = refl; grants = refl }, (record { timers = refl; dates = refl; grants = refl }, (record { timers = refl; dates = refl; grants = refl }, tt))))))))))))))))))))));
     }

@@ -1,0 +1,5 @@
+pub mod Pairs
+pub mod Clients
+pub mod Unseen
+pub mod Crashes
+pub mod Fold

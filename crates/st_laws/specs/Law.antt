@@ -1,0 +1,34 @@
+-- The client's half of the fold over events: what stands of a server and all its clients stands again after each event of a client.
+use Rattle.std.specs.Prelude.{◌≡◌, Bool, ℕ, Some, Ok}
+use Rattle.st_base.specs.declared.ids.NodeId.{NodeId}
+use Rattle.st_base.specs.declared.ids.NodeId.TheVariants as nodes
+use Rattle.st_messages.specs.declared.ask.Ask.{Ask}
+use Rattle.st_messages.specs.declared.event.Event.{Event}
+use Rattle.st_messages.specs.declared.event.Event.TheVariants as events
+use Rattle.st_rules.specs.declared.world.SentMessage.{SentMessage}
+use Rattle.st_rules.specs.Keys.{client}
+use Rattle.st_rules.specs.Server.{ServerNode}
+use Rattle.st_rules.specs.World.{World, message_of, receiver_of}
+use Rattle.st_rules.specs.Events.{Scene, world_step}
+use Rattle.st_assoc.specs.Assoc.{Config}
+use Rattle.st_views.specs.Halves.{Ghost}
+use Rattle.st_laws.specs.Stands.{Both, Both_stand, Grants_have_modes}
+
+-- an event of a client, or one that no node takes part in
+pub data Client_event (w : World) (e : Event) : Type 0 where
+  By_tick : (c : ℕ) → e ≡ events.Tick (nodes.Client (client c)) → Client_event w e
+  By_ask : (c : ℕ) (ask : Ask) → e ≡ events.App (client c) ask → Client_event w e
+  By_message : (c n : ℕ) (m : SentMessage) → e ≡ events.Deliver n → message_of w n ≡ Some m → receiver_of m ≡ nodes.Client (client c) → Client_event w e
+  By_report : (n : ℕ) (ok : Bool) → e ≡ events.Report n ok → Client_event w e
+  By_crash : (c : ℕ) → e ≡ events.Crash (nodes.Client (client c)) → Client_event w e
+  By_start : (c : ℕ) → e ≡ events.Start (nodes.Client (client c)) → Client_event w e
+  By_loss : (n : ℕ) → e ≡ events.Lose n → Client_event w e
+  By_cut : (a b : NodeId) → e ≡ events.Cut a b → Client_event w e
+  By_heal : (a b : NodeId) → e ≡ events.Heal a b → Client_event w e
+  By_effect : (n : ℕ) → e ≡ events.Effect n → Client_event w e
+
+-- After each of these events what stood of a server and all its clients stands again.
+abbrev pub Client_events_keep : Type 0
+Client_events_keep =
+    (k : Config) (s : ℕ) (w : World) (node : ServerNode) (ended : ℕ → ℕ → ℕ) (G : ℕ → Ghost) (e : Event) (sc : Scene) →
+    Both k s w node ended G → Grants_have_modes w → Client_event w e → world_step w e ≡ Ok sc → Both_stand k s sc.world node

@@ -1,0 +1,57 @@
+-- What stands between events of a server of the world and all its clients, on both sides of each association.
+use Rattle.std.specs.Prelude.{◌≡◌, ◌≢◌, ◌⊎◌, ℕ, ◌<◌, ◌≤◌, ◌+◌, true, false, List, length, Some, None}
+use Rattle.st_rules.specs.declared.world.LeaseLife.{LeaseLife}
+use Rattle.st_rules.specs.declared.world.SentMessage.{SentMessage}
+use Rattle.st_rules.specs.Keys.{client, server_node}
+use Rattle.st_rules.specs.ClientPages.{empty_store}
+use Rattle.st_rules.specs.ClientState.{Association}
+use Rattle.st_rules.specs.Server.{ServerNode, is_client_node}
+use Rattle.st_rules.specs.World.{World, ClientSite, node_of, server, site_of}
+use Rattle.st_base.specs.declared.ids.ServerId.{ServerId}
+use Rattle.st_assoc.specs.Assoc.{Config, Msg}
+use Rattle.st_lemmas.specs.Lists.{Has}
+use Rattle.st_views.specs.Halves.{Ghost}
+use Rattle.st_views.specs.Messages.{Fine}
+use Rattle.st_laws_client.specs.World.{Sim}
+use Rattle.st_laws_server.specs.Pair.{life_now, Ended_by}
+use Rattle.st_laws_server.specs.Stands.{Stands}
+
+-- the lives of a client at a server that are over are earlier ones
+abbrev pub All_past : ℕ → ℕ → ℕ → List LeaseLife → Type 0
+All_past c s life es = (e : LeaseLife) → Has e es → e.client.0 ≡ c → e.server.0 ≡ s → e.life.0 < life
+
+-- What stands of a client of the world at a server: its half of the association stands with the messages of the two, the lives that are
+-- over are earlier ones, and a client that does not run has nothing there.
+pub record Standing (k : Config) (s c : ℕ) (site : ClientSite) (es : List LeaseLife) (N : List Msg) : Type 0 where
+  pub association : Association
+  pub sim : Sim k (client c) (server s) site association N
+  pub past : All_past c s (life_now site.node.running association) es
+  pub stopped : site.node.running ≡ false → (association.session ≡ None) × (association.store ≡ empty_store)
+
+-- What stands of a server and all its clients: the server's side, each client's side, and no life that is over had a later lease end
+-- than the machine has of it.
+pub record Both (k : Config) (s : ℕ) (w : World) (node : ServerNode) (ended : ℕ → ℕ → ℕ) (G : ℕ → Ghost) : Type 0 where
+  pub stands : Stands k s ended w node G
+  pub clients : (c : ℕ) (site : ClientSite) → site_of w (client c) ≡ Some site → Standing k s c site w.ended (G c).net
+  pub ends : (c : ℕ) → Ended_by c s (ended c) w.ended
+  pub few : length w.clients ≤ 16
+
+-- It stands, with some ends of lives and some ghosts.
+pub record Both_stand (k : Config) (s : ℕ) (w : World) (node : ServerNode) : Type 0 where
+  pub ends_of : ℕ → ℕ → ℕ
+  pub ghosts : ℕ → Ghost
+  pub both : Both k s w node ends_of ghosts
+
+-- What the associations of a server do not see: the clients, the clocks and this server are as they were, and each message was there
+-- before, or is neither this server's nor a client's.
+pub record Unseen (s : ℕ) (w v : World) : Type 0 where
+  pub clients : v.clients ≡ w.clients
+  pub clocks : v.clocks ≡ w.clocks
+  pub ended : v.ended ≡ w.ended
+  pub config : v.config ≡ w.config
+  pub found : node_of v (server s) ≡ node_of w (server s)
+  pub messages : (m : SentMessage) → Has m v.net.messages → ((x : SentMessage) × Has x w.net.messages × (x.message ≡ m.message)) ⊎ ((m.message.header.from ≢ 32768 + s) × (is_client_node m.message.header.from ≡ true → ⊥))
+
+-- each grant that any server sent has a mode
+abbrev pub Grants_have_modes : World → Type 0
+Grants_have_modes w = (m : SentMessage) → Has m w.net.messages → (x : ServerId) → m.message.header.from ≡ server_node x → Fine m.message.body

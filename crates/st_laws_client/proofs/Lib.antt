@@ -1,0 +1,12 @@
+pub mod Goes
+pub mod Replies
+pub mod Effects
+pub mod Losses
+pub mod Reductions
+pub mod Requests
+pub mod Work
+pub mod Steps
+pub mod World
+pub mod Hard
+pub mod Sim
+pub mod Old

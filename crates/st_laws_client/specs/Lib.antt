@@ -1,0 +1,3 @@
+pub mod Shown
+pub mod Law
+pub mod World

@@ -1,0 +1,190 @@
+-- A rule at each server in turn: what is done at one leaves the pages of the others, and all stay as the log has them.
+use Rattle.std.proofs.Common.{◌≡◌, ℕ, Bool, true, false, List, [], ◌∷◌, ◌++◌, ◌==◌, Option, refl, sym, ap, ◌∙◌, subst, append_assoc}
+use Rattle.std.proofs.lemmas.Bool.{eqb-true, eq-eqb}
+use Rattle.st_base.specs.declared.ids.ClientId.{ClientId}
+use Rattle.st_base.specs.declared.ids.ServerId.{ServerId}
+use Rattle.st_base.specs.declared.ids.Life.{Life}
+use Rattle.st_messages.specs.declared.ask.Ask.{Ask}
+use Rattle.st_rules.specs.declared.log.LogEntry.{LogEntry}
+use Rattle.st_rules.specs.Keys.{same_server}
+use Rattle.st_rules.specs.ClientState.{Association, Turn, ClientTurn, enter, leave, at_these, at_each, with_associations}
+use Rattle.st_views.specs.Halves.{held_in}
+use Rattle.st_laws_client.specs.World.{logged}
+use Rattle.st_laws_copies.specs.Copies.{Right, Page_ok, Asked_so, Joined, Keeps, Copies, file_at}
+use Rattle.st_laws_copies.specs.Law.{Copies_at, All_copies, Differs, Apart}
+use Rattle.st_laws_copies.proofs.Away.{joined_content, joined_fates}
+use Rattle.st_laws_client.proofs.Steps.{nothing_more}
+
+-- Associations with the same servers and lives, in order.
+abbrev pub Same_places : List Association → List Association → Type 0
+Same_places [] [] = Unit {0}
+Same_places (a ∷ xs) (b ∷ ys) = record { there : b.server ≡ a.server; alive : b.life ≡ a.life; rest : Same_places xs ys }
+Same_places [] (b ∷ ys) = ⊥
+Same_places (a ∷ xs) [] = ⊥
+
+pub same_self : (xs : List Association) → Same_places xs xs
+same_self [] = record {}
+same_self (a ∷ xs) = record { there = refl; alive = refl; rest = same_self xs }
+
+pub same_next : (xs ys zs : List Association) → Same_places xs ys → Same_places ys zs → Same_places xs zs
+same_next [] [] [] p q = record {}
+same_next (a ∷ xs) (b ∷ ys) (d ∷ zs) p q = record { there = q.there ∙ p.there; alive = q.alive ∙ p.alive; rest = same_next xs ys zs p.rest q.rest }
+same_next [] (b ∷ ys) zs p q = absurd p
+same_next (a ∷ xs) [] zs p q = absurd p
+same_next [] [] (d ∷ zs) p q = absurd q
+same_next (a ∷ xs) (b ∷ ys) [] p q = absurd q
+
+-- one association among others
+same_amid : (past rest : List Association) (a b : Association) → b.server ≡ a.server → b.life ≡ a.life → Same_places (past ++ a ∷ rest) (past ++ b ∷ rest)
+same_amid [] rest a b e f = record { there = e; alive = f; rest = same_self rest }
+same_amid (x ∷ past) rest a b e f = record { there = refl; alive = refl; rest = same_amid past rest a b e f }
+
+-- Associations with the same servers, in order.
+abbrev pub Same_servers : List Association → List Association → Type 0
+Same_servers [] [] = Unit {0}
+Same_servers (a ∷ xs) (b ∷ ys) = record { there : b.server ≡ a.server; rest : Same_servers xs ys }
+Same_servers [] (b ∷ ys) = ⊥
+Same_servers (a ∷ xs) [] = ⊥
+
+pub servers_of : (xs ys : List Association) → Same_places xs ys → Same_servers xs ys
+servers_of [] [] p = record {}
+servers_of (a ∷ xs) (b ∷ ys) p = record { there = p.there; rest = servers_of xs ys p.rest }
+servers_of [] (b ∷ ys) p = absurd p
+servers_of (a ∷ xs) [] p = absurd p
+
+pub servers_self : (xs : List Association) → Same_servers xs xs
+servers_self [] = record {}
+servers_self (a ∷ xs) = record { there = refl; rest = servers_self xs }
+
+pub servers_next : (xs ys zs : List Association) → Same_servers xs ys → Same_servers ys zs → Same_servers xs zs
+servers_next [] [] [] p q = record {}
+servers_next (a ∷ xs) (b ∷ ys) (d ∷ zs) p q = record { there = q.there ∙ p.there; rest = servers_next xs ys zs p.rest q.rest }
+servers_next [] (b ∷ ys) zs p q = absurd p
+servers_next (a ∷ xs) [] zs p q = absurd p
+servers_next [] [] (d ∷ zs) p q = absurd q
+servers_next (a ∷ xs) (b ∷ ys) [] p q = absurd q
+
+pub servers_amid : (past rest : List Association) (a b : Association) → b.server ≡ a.server → Same_servers (past ++ a ∷ rest) (past ++ b ∷ rest)
+servers_amid [] rest a b e = record { there = e; rest = servers_self rest }
+servers_amid (x ∷ past) rest a b e = record { there = refl; rest = servers_amid past rest a b e }
+
+-- Servers that differ.
+differs_behind : (sv : ServerId) (xs ys : List Association) → Differs sv (xs ++ ys) → Differs sv ys
+differs_behind sv [] ys d = d
+differs_behind sv (x ∷ xs) ys d = differs_behind sv xs ys d.rest
+
+differs_same : (sv : ServerId) (xs ys : List Association) → Same_servers xs ys → Differs sv xs → Differs sv ys
+differs_same sv [] [] s d = d
+differs_same sv (x ∷ xs) (y ∷ ys) s d = record { one = ap (λ v. same_server sv v) s.there ∙ d.one; rest = differs_same sv xs ys s.rest d.rest }
+differs_same sv [] (y ∷ ys) s d = absurd s
+differs_same sv (x ∷ xs) [] s d = absurd s
+
+pub apart_same : (xs ys : List Association) → Same_servers xs ys → Apart xs → Apart ys
+apart_same [] [] s d = d
+apart_same (x ∷ xs) (y ∷ ys) s d = record { one = subst (λ v. Differs v ys) (sym s.there) (differs_same x.server xs ys s.rest d.one); rest = apart_same xs ys s.rest d.rest }
+apart_same [] (y ∷ ys) s d = absurd s
+apart_same (x ∷ xs) [] s d = absurd s
+
+-- an association is apart from those before and behind it
+same_back : (a b : ℕ) → (a == b) ≡ false → (b == a) ≡ false
+same_back a b e = go (b == a) refl
+  where
+    go : (x : Bool) → (b == a) ≡ x → x ≡ false
+    go true f = let z = eq-eqb a b (sym (eqb-true _ _ f)) in cc
+    go false f = refl
+
+server_back : (a b : ServerId) → same_server a b ≡ false → same_server b a ≡ false
+server_back a b e = same_back a.0 b.0 e
+
+before : (past rest : List Association) (a : Association) → Apart (past ++ a ∷ rest) → Differs a.server past
+before [] rest a d = record {}
+before (x ∷ past) rest a d = record { one = server_back x.server a.server (differs_behind x.server past (a ∷ rest) d.one).one; rest = before past rest a d.rest }
+
+behind : (past rest : List Association) (a : Association) → Apart (past ++ a ∷ rest) → Differs a.server rest
+behind [] rest a d = d.one
+behind (x ∷ past) rest a d = behind past rest a d.rest
+
+module _ (ask_of : ℕ → Option Ask) (c : ClientId) (lives : ServerId → Life) (es : List LogEntry) where
+  -- what stands at each association stands in a log that goes on by another server's entries
+  copies_away : (sv : ServerId) (l m : List LogEntry) (list : List Association) → Joined sv l m → Differs sv list → All_copies c lives l list → All_copies c lives m list
+  copies_away sv l m [] w d r = record {}
+  copies_away sv l m (a ∷ rest) w d r =
+      record {
+        one =
+            record {
+              pages = λ ino p. subst (λ b. Page_ok (held_in a.session ino).mode b a.store ino p) (sym (joined_content sv l m (file_at a.server ino) p w d.one)) (r.one.pages ino p);
+              fates = joined_fates c (lives a.server) a.server a.store sv l m w d.one r.one.fates;
+            };
+        rest = copies_away sv l m rest w d.rest r.rest;
+      }
+
+  copies_last : (l : List LogEntry) (list : List Association) (a : Association) → All_copies c lives l list → Copies_at c lives l a → All_copies c lives l (list ++ a ∷ [])
+  copies_last l [] a r p = record { one = p; rest = record {} }
+  copies_last l (x ∷ list) a r p = record { one = r.one; rest = copies_last l list a r.rest p }
+
+  -- the copies of a whole client within a step: those at the servers that are done, and those ahead
+  pub record Within (T : ClientTurn) (rest : List Association) : Type 0 where
+    pub done : All_copies c lives (logged c lives T.out es) T.state.associations
+    pub ahead : All_copies c lives (logged c lives T.out es) rest
+    pub right : Right ask_of c lives es T.out
+    pub asked : Asked_so ask_of T.state.operations
+
+  -- what a rule at each server makes of them
+  pub record Made (T : ClientTurn) (rest : List Association) (U : ClientTurn) : Type 0 where
+    pub within : Within T rest → Within U []
+    pub places : Same_places (T.state.associations ++ rest) U.state.associations
+
+  -- a premise of a rule, at each association
+  abbrev pub At_each : (List LogEntry → Association → Type 0) → List LogEntry → List Association → Type 0
+  At_each P l [] = Unit {0}
+  At_each P l (a ∷ rest) = record { one : P l a; rest : At_each P l rest }
+
+  -- a premise that stands in a log that goes on by another server's entries
+  abbrev pub Stays_away : (List LogEntry → Association → Type 0) → Type 0
+  Stays_away P = (a : Association) (sv : ServerId) (l m : List LogEntry) → Joined sv l m → same_server sv a.server ≡ false → P l a → P m a
+
+  premises_away : (P : List LogEntry → Association → Type 0) → Stays_away P → (sv : ServerId) (l m : List LogEntry) (list : List Association) → Joined sv l m → Differs sv list → At_each P l list → At_each P m list
+  premises_away P f sv l m [] w d r = record {}
+  premises_away P f sv l m (a ∷ rest) w d r = record { one = f a sv l m w d.one r.one; rest = premises_away P f sv l m rest w d.rest r.rest }
+
+  -- a rule that keeps the copies at each association keeps those of the client
+  pub these_keep : (P : List LogEntry → Association → Type 0) → Stays_away P → (rule : Turn → Turn) → ((t : Turn) → P (logged c lives t.out es) t.here → Keeps ask_of c lives es t (rule t)) →
+      (rest : List Association) (T : ClientTurn) → Apart (T.state.associations ++ rest) → At_each P (logged c lives T.out es) rest → Made T rest (at_these rule rest T)
+  unfolding at_these
+  these_keep P f rule k [] T d o = record { within = λ r. r; places = subst (λ xs. Same_places xs T.state.associations) (sym (nothing_more T.state.associations)) (same_self T.state.associations) }
+  these_keep P f rule k (a ∷ rest) T d o =
+      let t : Turn = enter T a in
+      let u : Turn = rule t in
+      let w : Keeps ask_of c lives es t u = k t o.one in
+      let j : Joined a.server (logged c lives T.out es) (logged c lives u.out es) = w.away.joined in
+      let s : Same_places (T.state.associations ++ a ∷ rest) (T.state.associations ++ u.here ∷ rest) = same_amid T.state.associations rest a u.here w.away.there w.away.alive in
+      let e : T.state.associations ++ u.here ∷ rest ≡ (T.state.associations ++ u.here ∷ []) ++ rest = sym (append_assoc T.state.associations (u.here ∷ []) rest) in
+      let m : Made (leave T u) rest (at_these rule rest (leave T u)) =
+      these_keep P f rule k rest (leave T u) (subst (λ xs. Apart xs) e (apart_same _ _ (servers_of _ _ s) d))
+      (premises_away P f a.server (logged c lives T.out es) (logged c lives u.out es) rest j (behind T.state.associations rest a d) o.rest) in
+      record {
+        within = λ r. m.within (next r (w.keep (record { pages = r.ahead.one.pages; right = r.right; asked = r.asked; fates = r.ahead.one.fates })) j);
+        places = same_next _ _ _ s (subst (λ xs. Same_places xs (at_these rule rest (leave T u)).state.associations) (sym e) m.places);
+      }
+    where
+      next : Within T (a ∷ rest) → Copies ask_of c lives es (rule (enter T a)) → Joined a.server (logged c lives T.out es) (logged c lives (rule (enter T a)).out es) → Within (leave T (rule (enter T a))) rest
+      next r x j =
+          let u : Turn = rule (enter T a) in
+          record {
+            done =
+                copies_last (logged c lives u.out es) T.state.associations u.here
+                (copies_away a.server (logged c lives T.out es) (logged c lives u.out es) T.state.associations j (before T.state.associations rest a d) r.done) (record { pages = x.pages; fates = x.fates });
+            ahead = copies_away a.server (logged c lives T.out es) (logged c lives u.out es) rest j (behind T.state.associations rest a d) r.ahead.rest;
+            right = x.right;
+            asked = x.asked;
+          }
+
+  pub each_keep : (P : List LogEntry → Association → Type 0) → Stays_away P → (rule : Turn → Turn) → ((t : Turn) → P (logged c lives t.out es) t.here → Keeps ask_of c lives es t (rule t)) →
+      (T : ClientTurn) → Apart T.state.associations → At_each P (logged c lives T.out es) T.state.associations → Made T [] (at_each rule T)
+  unfolding at_each
+  each_keep P f rule k T d o =
+      let m = these_keep P f rule k T.state.associations (with_associations [] T) d o in
+      record {
+        within = λ r. m.within (record { done = record {}; ahead = r.done; right = r.right; asked = r.asked });
+        places = subst (λ xs. Same_places xs (at_each rule T).state.associations) (sym (nothing_more T.state.associations)) m.places;
+      }

@@ -1,0 +1,12 @@
+pub mod Logs
+pub mod Copies
+pub mod Caches
+pub mod Hears
+pub mod Away
+pub mod Passes
+pub mod Hearing
+pub mod Ends
+pub mod Everywhere
+pub mod Losing
+pub mod Step
+pub mod Seen

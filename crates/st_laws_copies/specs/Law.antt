@@ -1,0 +1,120 @@
+-- The laws of the copies that a client has of a server's pages.
+use Rattle.std.specs.Prelude.{ℕ, ◌≡◌, ◌≤◌, true, false, List, [], ◌∷◌, Option, Some, None}
+use Rattle.st_base.specs.declared.ids.ClientId.{ClientId}
+use Rattle.st_base.specs.declared.ids.ServerId.{ServerId}
+use Rattle.st_base.specs.declared.ids.Life.{Life}
+use Rattle.st_base.specs.declared.ids.PageNo.{PageNo}
+use Rattle.st_base.specs.declared.ids.Stamp.{Stamp}
+use Rattle.st_messages.specs.declared.ask.Ask.{Ask}
+use Rattle.st_rules.specs.declared.log.LogEntry.{LogEntry}
+use Rattle.st_rules.specs.declared.client.ClientInput.{ClientInput}
+use Rattle.st_rules.specs.declared.observation.Observation.{Observation}
+use Rattle.st_rules.specs.declared.observation.Observation.TheVariants as seen
+use Rattle.st_messages.specs.declared.answer.AppAnswer.TheVariants as answers
+use Rattle.st_messages.specs.declared.output.Output.{Output}
+use Rattle.st_rules.specs.Lines.{AtEach}
+use Rattle.st_rules.specs.Safety as safety
+use Rattle.st_rules.specs.World.{World}
+use Rattle.st_rules.specs.Events.{client_says_all, quiet, present_life}
+use Rattle.st_rules.specs.Client as cl
+use Rattle.st_rules.specs.ClientState.{Association, ClientState, ClientTurn, Turn, client_turn}
+use Rattle.st_rules.specs.Keys.{same_server}
+use Rattle.st_rules.specs.FlatLog.{content, is_of_client}
+use Rattle.st_views.specs.Halves.{held_in}
+use Rattle.st_rules.specs.ClientPasses as cp
+use Rattle.st_laws_copies.specs.Copies.{Copies, Right, Asked_so, Page_ok, Fates_ok, file_at}
+use Rattle.st_laws_client.specs.World.{logged}
+use Rattle.st_laws_copies.specs.Owed.{Owed_at, Numbered}
+
+-- What stands of the copies at one server, by a log: each page is as the log has it, and an entry of the present life that is not hard
+-- has its page dirty.
+pub record Copies_at (c : ClientId) (lives : ServerId → Life) (es : List LogEntry) (a : Association) : Type 0 where
+  pub pages : (ino : ℕ) (p : PageNo) → Page_ok (held_in a.session ino).mode (content es (file_at a.server ino) p) a.store ino p
+  pub fates : Fates_ok c (lives a.server) a.server a.store es
+
+-- at each server
+abbrev pub All_copies : ClientId → (ServerId → Life) → List LogEntry → List Association → Type 0
+All_copies c lives es [] = Unit {0}
+All_copies c lives es (a ∷ rest) = record { one : Copies_at c lives es a; rest : All_copies c lives es rest }
+
+-- associations with other servers
+abbrev pub Differs : ServerId → List Association → Type 0
+Differs sv [] = Unit {0}
+Differs sv (a ∷ rest) = record { one : same_server sv a.server ≡ false; rest : Differs sv rest }
+
+-- associations with servers that differ from each other
+abbrev pub Apart : List Association → Type 0
+Apart [] = Unit {0}
+Apart (a ∷ rest) = record { one : Differs a.server rest; rest : Apart rest }
+
+-- no entry of this client at this server is of a later life
+abbrev pub Lived : ClientId → ServerId → Life → List LogEntry → Type 0
+Lived c sv life [] = Unit {0}
+Lived c sv life (e ∷ es) = record { one : is_of_client c e.of ≡ true → e.of.file.server ≡ sv → e.of.life.0 ≤ life.0; rest : Lived c sv life es }
+
+-- What stands between two steps at one server: the copies, by the association's own life, beyond which no entry is.
+pub record Stands_at (c : ClientId) (es : List LogEntry) (a : Association) : Type 0 where
+  pub pages : (ino : ℕ) (p : PageNo) → Page_ok (held_in a.session ino).mode (content es (file_at a.server ino) p) a.store ino p
+  pub fates : Fates_ok c a.life a.server a.store es
+  pub lived : Lived c a.server a.life es
+
+-- at each server
+abbrev pub All_stand : ClientId → List LogEntry → List Association → Type 0
+All_stand c es [] = Unit {0}
+All_stand c es (a ∷ rest) = record { one : Stands_at c es a; rest : All_stand c es rest }
+
+-- What stands of a client between two steps: its servers differ, the copies stand at each, and its operations are what was asked.
+pub record Client_stands (asked_as : ℕ → Option Ask) (c : ClientId) (es : List LogEntry) (s : ClientState) : Type 0 where
+  pub apart : Apart s.associations
+  pub copies : All_stand c es s.associations
+  pub asked : Asked_so asked_as s.operations
+
+-- what is owed at each server
+abbrev pub All_owed : ClientId → (ServerId → Life) → List LogEntry → ClientInput → List Association → Type 0
+All_owed c lives es input [] = Unit {0}
+All_owed c lives es input (a ∷ rest) = record { one : Owed_at c lives es input a; rest : All_owed c lives es input rest }
+
+-- these are the lives of associations
+abbrev pub Lives_are : (ServerId → Life) → List Association → Type 0
+Lives_are lives [] = Unit {0}
+Lives_are lives (a ∷ rest) = record { one : lives a.server ≡ a.life; rest : Lives_are lives rest }
+
+-- What a step makes of it: it stands again by the log behind the step, and each output is right by the log at it.
+pub record Step_keeps (asked_as : ℕ → Option Ask) (c : ClientId) (lives : ServerId → Life) (es : List LogEntry) (t : ClientTurn) : Type 0 where
+  pub stands : Client_stands asked_as c (logged c lives t.out es) t.state
+  pub right : Right asked_as c lives es t.out
+
+-- A client's step keeps the copies, whatever comes, under what other laws owe of the client behind its losses. The lives are those
+-- behind the step, under which its entries join the log.
+abbrev pub Steps_keep_copies : Type 0
+Steps_keep_copies =
+    (asked_as : ℕ → Option Ask) (c : ClientId) (lives : ServerId → Life) (es : List LogEntry) (s : ClientState) (now : Stamp) (input : ClientInput) →
+    Client_stands asked_as c es s → Numbered asked_as input → All_owed c lives es input (cl.losses (client_turn s []) now).state.associations → Lives_are lives (cl.client_step s now input).state.associations →
+    Step_keeps asked_as c lives es (cl.client_step s now input)
+
+-- an answer `written` comes right behind the line of the change that was asked
+abbrev pub Is_written : List safety.Step → safety.Step → Option Observation → Observation → Type 0
+Is_written past x line (seen.Answered c op answers.Written) = safety.IsLoggedAfter c (safety.ask_of past x c op) line
+Is_written past x line o = Unit {0}
+
+-- each of these lines, behind the line before it
+abbrev pub All_written : List safety.Step → safety.Step → Option Observation → List Observation → Type 0
+All_written past x line [] = Unit {0}
+All_written past x line (o ∷ os) = record { one : Is_written past x line o; rest : All_written past x (Some o) os }
+
+-- What is observed of a client's outputs: each answered read has the bytes of the log at it, each sync that is answered hard finds all of
+-- its file hard, and `written` comes right behind the line of the change that was asked.
+pub record Seen_right (past : List safety.Step) (x : safety.Step) (es : List LogEntry) (lines : List Observation) : Type 0 where
+  pub reads : AtEach (safety.IsLast past x) x.after.world es lines
+  pub syncs : AtEach (safety.IsHardAt past x) x.after.world es lines
+  pub written : All_written past x None lines
+
+-- In the world: where each output of a client is right by the log at it, so are the lines of its step.
+abbrev pub Steps_answer_right : Type 0
+Steps_answer_right =
+    (past : List safety.Step) (x : safety.Step) (c : ClientId) (before : ClientState) (os : List Output) (v : World) → ◌≡◌ {A = ServerId → Life} (present_life x.after.world c) (present_life v c) →
+    Right (safety.ask_of past x c) c (present_life v c) v.log os → Seen_right past x v.log (client_says_all c before os (quiet v)).seen
+
+-- The pass over the operations keeps the copies: pages have the bytes of the log, and every read is answered by it.
+abbrev pub Operations_keep_copies : Type 0
+Operations_keep_copies = (asks : ℕ → Option Ask) (c : ClientId) (lives : ServerId → Life) (es : List LogEntry) (n : Stamp) (t : Turn) → Copies asks c lives es t → Copies asks c lives es (cp.operations n t)

@@ -1,0 +1,20 @@
+//! What a client has of a server's pages is what the log says, through every rule of a client; and its answers are right by it.
+#![tactic(auto)]
+
+ghost use Rattle.st_laws_copies.specs.Law.{Operations_keep_copies, Steps_answer_right, Steps_keep_copies};
+
+/// The pass over the operations keeps the copies: pages have the bytes of the log, and reads are answered by it.
+pub fn operations_keep_copies()
+    ensures { Operations_keep_copies }
+{}
+
+/// A whole step of a client, whatever comes, keeps the copies at all its servers, under what other laws owe of it.
+pub fn steps_keep_copies()
+    ensures { Steps_keep_copies }
+{}
+
+/// In the world, a client whose outputs are right by the log answers its reads with the last writes, and its syncs only where
+/// the file is hard.
+pub fn steps_answer_right()
+    ensures { Steps_answer_right }
+{}

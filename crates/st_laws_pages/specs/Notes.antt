@@ -1,0 +1,42 @@
+-- What the notes of a client's step say of its pages: a page that was changed is dirty, under a lease that is not over.
+use Rattle.std.specs.Prelude.{◌≡◌, ℕ, ◌<◌, List, [], ◌∷◌, ◌++◌, Option, Some, None}
+use Rattle.st_base.specs.declared.config.Config.{Config}
+use Rattle.st_base.specs.declared.ids.FileId.{FileId}
+use Rattle.st_base.specs.declared.ids.PageNo.{PageNo}
+use Rattle.st_base.specs.declared.ids.Stamp.{Stamp}
+use Rattle.st_messages.specs.declared.output.Note.TheVariants as notes
+use Rattle.st_messages.specs.declared.output.Output.{Output}
+use Rattle.st_messages.specs.declared.output.Output.TheVariants as outputs
+use Rattle.st_rules.specs.declared.pages.DirtyPage.{DirtyPage}
+use Rattle.st_rules.specs.ClientLease as lease
+use Rattle.st_rules.specs.ClientPages as pages
+use Rattle.st_rules.specs.ClientState.{ClientSession, Association}
+use Rattle.st_lemmas.specs.Lists.{Has}
+
+-- a fact of the page that an output says to be changed
+abbrev pub Note_at : (FileId → PageNo → Type 0) → Output → Type 0
+Note_at Q (outputs.Note (notes.Accepted f p bytes)) = Q f p
+Note_at Q (outputs.Note (notes.Patched f p at bytes)) = Q f p
+Note_at Q o = Unit {0}
+
+-- the same of all pages that the outputs say to be changed
+abbrev pub Notes_all : (FileId → PageNo → Type 0) → List Output → Type 0
+Notes_all Q [] = Unit {0}
+Notes_all Q (o ∷ os) = record { one : Note_at Q o; rest : Notes_all Q os }
+
+-- A page that was changed is dirty at its server's association, whose lease is not over.
+pub record Is_changed (k : Config) (now : Stamp) (a : Association) (f : FileId) (p : PageNo) : Type 0 where
+  pub server : f.server ≡ a.server
+  pub session : ClientSession
+  pub is : a.session ≡ Some session
+  pub before : now.0 < (lease.end_of k session.lease).0
+  pub page : DirtyPage
+  pub dirty : pages.dirty_of a.store.pages f.ino p ≡ Some page
+
+-- at one of these associations
+abbrev pub Is_changed_at : Config → Stamp → List Association → FileId → PageNo → Type 0
+Is_changed_at k now al f p = (a : Association) × Has a al × Is_changed k now a f p
+
+-- what is dirty stays so
+abbrev pub Stays_dirty : Association → Association → Type 0
+Stays_dirty a b = (ino : ℕ) (p : PageNo) (d : DirtyPage) → pages.dirty_of a.store.pages ino p ≡ Some d → (e : DirtyPage) × (pages.dirty_of b.store.pages ino p ≡ Some e)

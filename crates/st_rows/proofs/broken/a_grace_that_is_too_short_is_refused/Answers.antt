@@ -1,7 +1,0 @@
-use Rattle.std.proofs.Common.{refl}
-use Rattle.st_rows.specs.Broken.{broken_open}
-use Rattle.st_rows.proofs.broken.a_grace_that_is_too_short_is_refused.Goals as goal
-
-pub returns-clause-kept : goal.returns-clause-kept
-unfolding broken_open
-returns-clause-kept c = record { alone = refl; reads = tt; causes = refl; stays = refl; hard = tt; thefts = refl; dates = refl; waits = tt; conflicts = refl }
