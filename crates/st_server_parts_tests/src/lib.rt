@@ -1,7 +1,9 @@
-//! The parts of a server beside plain lists and beside an independent reading of the rules: extents, sessions, suspicion and
-//! grace.
+//! The parts of a server beside plain lists and beside an independent reading of the rules: extents, sessions, suspicion,
+//! grace and reassertion.
 #![tactic(auto)]
 
+#[cfg(test)]
+mod accepting;
 #[cfg(test)]
 mod authority;
 #[cfg(test)]
