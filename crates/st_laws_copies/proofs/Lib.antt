@@ -11,3 +11,4 @@ pub mod Losing
 pub mod Step
 pub mod Seen
 pub mod Held
+pub mod Locked

@@ -3,6 +3,7 @@ use Rattle.std.specs.Prelude.{ℕ, ◌≡◌, ◌⊎◌, ◌≤◌, true, false,
 use Rattle.st_base.specs.declared.ids.ClientId.{ClientId}
 use Rattle.st_base.specs.declared.ids.ServerId.{ServerId}
 use Rattle.st_base.specs.declared.ids.Life.{Life}
+use Rattle.st_base.specs.declared.ids.NodeId.TheVariants as nodes
 use Rattle.st_base.specs.declared.ids.PageNo.{PageNo}
 use Rattle.st_base.specs.declared.ids.Stamp.{Stamp}
 use Rattle.st_messages.specs.declared.ask.Ask.{Ask}
@@ -16,7 +17,7 @@ use Rattle.st_messages.specs.declared.output.Note.TheVariants as notes
 use Rattle.st_messages.specs.declared.output.Output.TheVariants as outputs
 use Rattle.st_rules.specs.Lines.{AtEach}
 use Rattle.st_rules.specs.Safety as safety
-use Rattle.st_rules.specs.World.{World}
+use Rattle.st_rules.specs.World.{World, ClientSite, site_of, clock_of}
 use Rattle.st_rules.specs.Events.{client_says_all, quiet, present_life}
 use Rattle.st_rules.specs.Client as cl
 use Rattle.st_rules.specs.ClientState.{Association, ClientState, ClientTurn, Turn, client_turn}
@@ -30,6 +31,8 @@ use Rattle.st_laws_copies.specs.Owed.{Owed_at, Numbered}
 use Rattle.st_base.specs.declared.ids.FileId.{FileId}
 use Rattle.st_lemmas.specs.Lists.{Has}
 use Rattle.st_rules.specs.ClientPages.{dirty_of}
+use Rattle.std.specs.List.{list_all}
+use Rattle.st_laws_client.specs.Shown.{Lasts}
 
 -- What stands of the copies at one server, by a log: each page is as the log has it, and an entry of the present life that is not hard
 -- has its page dirty.
@@ -138,6 +141,19 @@ All_held xs (o ∷ os) = record { one : Note_held xs o; rest : All_held xs os }
 abbrev pub Changes_are_held : Type 0
 Changes_are_held =
     (asked_as : ℕ → Option Ask) (c : ClientId) (lives : ServerId → Life) (es : List LogEntry) (t : ClientTurn) → Step_keeps asked_as c lives es t → Lives_are lives t.state.associations → All_held t.state.associations t.out
+
+-- each lease that is held lasts
+abbrev pub All_last : ℕ → ℕ → List Association → Type 0
+All_last lease now [] = Unit {0}
+All_last lease now (a ∷ xs) = record { one : Lasts lease now a.session; rest : All_last lease now xs }
+
+-- In the world: where a client runs, its leases last, and each page that it changed is held, the lines of its step keep the promise that
+-- changes are locked.
+abbrev pub Changes_are_locked : Type 0
+Changes_are_locked =
+    (w v : World) (c : ClientId) (site : ClientSite) (before : ClientState) (os : List Output) → site_of w c ≡ Some site → site.node.running ≡ true → Apart site.node.state.associations →
+    All_last site.node.state.config.lease (clock_of w (nodes.Client c)).0 site.node.state.associations → All_held site.node.state.associations os →
+    list_all (safety.is_change_locked w) (client_says_all c before os (quiet v)).seen ≡ true
 
 -- an answer `written` comes right behind the line of the change that was asked
 abbrev pub Is_written : List safety.Step → safety.Step → Option Observation → Observation → Type 0
