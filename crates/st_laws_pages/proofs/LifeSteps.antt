@@ -153,10 +153,10 @@ advance_lives w steps h =
     ticks (suc n) t e = (_, advanced_get steps w.clocks n t e)
 
     node : (c : ClientId) (site : ClientSite) → Node_holds w.config w.clocks w.ended c site.node → Node_holds w.config (ev.advanced steps w.clocks) w.ended c site.node
-    node c site o = let z = ticks c.0 o.clock o.ticks in record { id = o.id; config = o.config; once = o.once; fit = o.fit; stopped = o.stopped; clock = z.0; ticks = z.1; below = o.below }
+    node c site o = let z = ticks c.0 o.clock o.ticks in record { id = o.id; config = o.config; once = o.once; fit = o.fit; stopped = o.stopped; born = o.born; clock = z.0; ticks = z.1; below = o.below }
 
     ended : (e : LeaseLife) → Ended_holds w.clocks w.clients w.ended e → Ended_holds (ev.advanced steps w.clocks) w.clients w.ended e
-    ended e o = record { site = o.site; there = o.there; self = o.self; over = λ q. let z = o.over q in (z.0, z.1, up z.0 z.2) }
+    ended e o = record { site = o.site; there = o.there; born = o.born; self = o.self; over = λ q. let z = o.over q in (z.0, z.1, up z.0 z.2) }
       where
         up : (t : Stamp) → t.0 ≤ (clock_in w.clocks e.client).0 → t.0 ≤ (clock_in (ev.advanced steps w.clocks) e.client).0
         up t z = let y = clock_up w steps e.client in omega (arith, z, y)

@@ -102,7 +102,7 @@ module _ (ts : List Stamp) (es : List LeaseLife) (c : ClientId) (n m : cl.Client
           }
 
   pub step_turned : Turned N ts es c n m (rows_lost c n.state now n.state.associations)
-  step_turned = record { id = st.id; config = st.config; servers = λ a b p. p.server; pairs = st.pairs; fits = λ a b p f. p.fit f; lifts = lift; goes = goes; stopped = λ w b i. absurd (no w); new = new }
+  step_turned = record { id = st.id; config = st.config; servers = λ a b p. p.server; pairs = st.pairs; fits = λ a b p f. p.fit f; up = up; lifts = lift; goes = goes; stopped = λ w b i. absurd (no w); new = new }
     where
       no : m.running ≡ false → ⊥
       no w = cc (q, w)
@@ -163,6 +163,7 @@ module _ (ts : List Stamp) (es : List LeaseLife) (c : ClientId) (n : cl.ClientNo
         servers = λ a b p. ap (λ (y : Association). y.server) p;
         pairs = pairs_map cl.crashed_association n.state.associations;
         fits = λ a b p f. subst Fit p (fresh_fit a.life a.server);
+        up = λ a b p. let v = ap (λ (y : Association). y.life.0) p in omega (arith, v);
         lifts = λ a b p e u. let y = u.up_to in let v = ap (λ (y : Association). y.life.0) p in record { up_to = omega (arith, y, v); below = λ w. cc w };
         goes = λ a b i p. inl (ap (λ (y : Association). y.life.0) p);
         stopped = λ w b i. stop b (has_map cl.crashed_association n.state.associations b i);
@@ -184,6 +185,7 @@ module _ (ts : List Stamp) (es : List LeaseLife) (c : ClientId) (n : cl.ClientNo
         servers = λ a b p. ap (λ (y : Association). y.server) p;
         pairs = pairs_map cl.started_association n.state.associations;
         fits = λ a b p f. subst Fit p (fresh_fit (cl.next_life a.life) a.server);
+        up = λ a b p. let v = ap (λ (y : Association). y.life.0) p in omega (arith, v);
         lifts = λ a b p e u. let y = u.up_to in let v = ap (λ (y : Association). y.life.0) p in record { up_to = omega (arith, y, v); below = λ w. omega (arith, y, v) };
         goes = λ a b i p. inr (λ l w. ended a i l w);
         stopped = λ w b i. absurd (no w);

@@ -102,6 +102,7 @@ pub record Node_holds (k : Config) (ts : List Stamp) (es : List LeaseLife) (c : 
   pub once : Once (map server_number node.state.associations)
   pub fit : (a : Association) → Has a node.state.associations → Fit a
   pub stopped : node.running ≡ false → (a : Association) → Has a node.state.associations → Is_stopped es c a
+  pub born : (a : Association) → Has a node.state.associations → 1 ≤ a.life.0
   pub clock : Stamp
   pub ticks : numbered ts c.0 ≡ Some clock
   pub below : (e : LeaseLife) → Has e es → e.client ≡ c → (a : Association) → find (is_at e.server) node.state.associations ≡ Some a → Is_below node.running e a
@@ -110,6 +111,7 @@ pub record Node_holds (k : Config) (ts : List Stamp) (es : List LeaseLife) (c : 
 pub record Ended_holds (ts : List Stamp) (cs : List ClientSite) (es : List LeaseLife) (e : LeaseLife) : Type 0 where
   pub site : ClientSite
   pub there : numbered cs e.client.0 ≡ Some site
+  pub born : 1 ≤ e.life.0
   pub self : find (is_life_of e.client e.server e.life) es ≡ Some e
   pub over : e.crashed ≡ false → (t : Stamp) × (e.end ≡ Some t) × (t.0 ≤ (clock_in ts e.client).0)
 
