@@ -115,7 +115,8 @@ pub record Step_keeps (asked_as : ℕ → Option Ask) (c : ClientId) (lives : Se
 abbrev pub Steps_keep_copies : Type 0
 Steps_keep_copies =
     (asked_as : ℕ → Option Ask) (c : ClientId) (lives : ServerId → Life) (es : List LogEntry) (s : ClientState) (now : Stamp) (input : ClientInput) →
-    Client_stands asked_as c es s → Numbered asked_as input → All_owed c lives es input (cl.losses (client_turn s []) now).state.associations → Lives_are lives (cl.client_step s now input).state.associations →
+    Client_stands asked_as c es s → Numbered asked_as input → All_owed c lives es input (cl.losses (client_turn s []) now).state.associations →
+    Lives_are lives (cl.client_step s now input).state.associations →
     Step_keeps asked_as c lives es (cl.client_step s now input)
 
 -- One of these associations is of the file's server; it has an exclusive lock on the file, and the page is dirty.
@@ -140,7 +141,8 @@ All_held xs (o ∷ os) = record { one : Note_held xs o; rest : All_held xs os }
 -- Changes are locked: each page that a step changed is dirty behind the step, under an exclusive lock.
 abbrev pub Changes_are_held : Type 0
 Changes_are_held =
-    (asked_as : ℕ → Option Ask) (c : ClientId) (lives : ServerId → Life) (es : List LogEntry) (t : ClientTurn) → Step_keeps asked_as c lives es t → Lives_are lives t.state.associations → All_held t.state.associations t.out
+    (asked_as : ℕ → Option Ask) (c : ClientId) (lives : ServerId → Life) (es : List LogEntry) (t : ClientTurn) → Step_keeps asked_as c lives es t →
+    Lives_are lives t.state.associations → All_held t.state.associations t.out
 
 -- each lease that is held lasts
 abbrev pub All_last : ℕ → ℕ → List Association → Type 0
@@ -151,7 +153,8 @@ All_last lease now (a ∷ xs) = record { one : Lasts lease now a.session; rest :
 -- changes are locked.
 abbrev pub Changes_are_locked : Type 0
 Changes_are_locked =
-    (w v : World) (c : ClientId) (site : ClientSite) (before : ClientState) (os : List Output) → site_of w c ≡ Some site → site.node.running ≡ true → Apart site.node.state.associations →
+    (w v : World) (c : ClientId) (site : ClientSite) (before : ClientState) (os : List Output) → site_of w c ≡ Some site → site.node.running ≡ true →
+    Apart site.node.state.associations →
     All_last site.node.state.config.lease (clock_of w (nodes.Client c)).0 site.node.state.associations → All_held site.node.state.associations os →
     list_all (safety.is_change_locked w) (client_says_all c before os (quiet v)).seen ≡ true
 
@@ -175,9 +178,11 @@ pub record Seen_right (past : List safety.Step) (x : safety.Step) (es : List Log
 -- In the world: where each output of a client is right by the log at it, so are the lines of its step.
 abbrev pub Steps_answer_right : Type 0
 Steps_answer_right =
-    (past : List safety.Step) (x : safety.Step) (c : ClientId) (before : ClientState) (os : List Output) (v : World) → ◌≡◌ {A = ServerId → Life} (present_life x.after.world c) (present_life v c) →
+    (past : List safety.Step) (x : safety.Step) (c : ClientId) (before : ClientState) (os : List Output) (v : World) →
+    ◌≡◌ {A = ServerId → Life} (present_life x.after.world c) (present_life v c) →
     Right (safety.ask_of past x c) c (present_life v c) v.log os → Seen_right past x v.log (client_says_all c before os (quiet v)).seen
 
 -- The pass over the operations keeps the copies: pages have the bytes of the log, and every read is answered by it.
 abbrev pub Operations_keep_copies : Type 0
-Operations_keep_copies = (asks : ℕ → Option Ask) (c : ClientId) (lives : ServerId → Life) (es : List LogEntry) (n : Stamp) (t : Turn) → Copies asks c lives es t → Copies asks c lives es (cp.operations n t)
+Operations_keep_copies = (asks : ℕ → Option Ask) (c : ClientId) (lives : ServerId → Life) (es : List LogEntry) (n : Stamp) (t : Turn) →
+    Copies asks c lives es t → Copies asks c lives es (cp.operations n t)
