@@ -23,7 +23,7 @@ use Rattle.st_rules.specs.World.{ClientSite, site_of, numbered, clock_of, fresh_
 use Rattle.st_rules.specs.Events.{Scene, world_step}
 use Rattle.st_rules.specs.History.{Traced, TimerStart, traced, traced_after, association_at}
 use Rattle.st_rules.specs.Dating as dating
-use Rattle.st_rules.specs.Safety.{Step, step, steps, LeasesAreDatedFromRequests, IsHead, all_dated, association_dated, session_dated, dates_in, is_dated}
+use Rattle.st_rules.specs.Safety.{Step, step, LeasesAreDatedFromRequests, IsHead, all_dated, association_dated, session_dated, dates_in, is_dated}
 use Rattle.st_lemmas.specs.Lists.{Has}
 use Rattle.st_lemmas.proofs.Tables.{and_true, and_both, some_passes, found_at, has_map}
 use Rattle.st_lemmas.proofs.Lookups.{some_is, or_left, or_right}
