@@ -104,7 +104,8 @@ file_at sv ino = record { server = sv; ino = ino }
 
 -- What stands of the copies within a step, at one server, with the log from before the step.
 pub record Copies (asked_as : ℕ → Option Ask) (c : ClientId) (lives : ServerId → Life) (es : List LogEntry) (t : Turn) : Type 0 where
-  pub pages : (ino : ℕ) (p : PageNo) → Page_ok (held_in t.here.session ino).mode (content (logged c lives t.out es) (file_at t.here.server ino) p) t.here.store ino p
+  pub pages : (ino : ℕ) (p : PageNo) →
+      Page_ok (held_in t.here.session ino).mode (content (logged c lives t.out es) (file_at t.here.server ino) p) t.here.store ino p
   pub right : Right asked_as c lives es t.out
   pub asked : Asked_so asked_as t.operations
   pub fates : Fates_ok c (lives t.here.server) t.here.server t.here.store (logged c lives t.out es)
