@@ -1,7 +1,7 @@
 -- Loops over the numbers of disks and blocks, and the first block that is free.
-use Rattle.std.proofs.Common.{◌≡◌, ℕ, suc, ◌+◌, ◌-◌, ◌<◌, ◌≤◌, Bool, true, false, List, [], ◌∷◌, ◌++◌, Option, Some, None, arith, refl, sym, ap, ◌∙◌, ⊎_elim, append_assoc, true≢false, drop, length, get_or, Ok, Err}
-use Rattle.std.specs.Prelude.{map, filter, find, flat_map, slice_get, not, is_some, unwrap_or}
-use Rattle.std.proofs.lemmas.Bool.{cases_Bool, le-leb, lt-leb}
+use Rattle.std.proofs.Common.{◌≡◌, ℕ, suc, ◌+◌, ◌-◌, ◌<◌, ◌≤◌, Bool, true, false, List, [], ◌∷◌, ◌++◌, arith, refl, sym, ap, ◌∙◌, append_assoc, drop, length, get_or, Ok, Err}
+use Rattle.std.specs.Prelude.{map, filter, find, flat_map, not, is_some}
+use Rattle.std.proofs.lemmas.Bool.{le-leb, lt-leb}
 use Rattle.std.proofs.lemmas.List.{drop_all}
 use Rattle.std.proofs.lemmas.Grind.{common_steps}
 use Rattle.st_base.specs.declared.ids.FileId.{FileId}
@@ -9,7 +9,7 @@ use Rattle.st_base.specs.declared.ids.PageNo.{PageNo}
 use Rattle.st_base.specs.declared.disk.BlockAt.{BlockAt}
 use Rattle.st_rules.specs.declared.extents.AllocateRefusal.TheVariants.{NoSpace}
 use Rattle.st_rules.specs.declared.extents.Extent.{Extent}
-use Rattle.st_rules.specs.Extents.{numbers, own_blocks, free_blocks, no_extents, is_extent_of, Extents, place_on, with_extent, new_extent, place_pages, allocate, allocate_pages, unmapped, free}
+use Rattle.st_rules.specs.Extents.{numbers, own_blocks, free_blocks, no_extents, is_extent_of, Extents, place_on, place_pages, allocate, allocate_pages, unmapped, free}
 use Rattle.st_rules.specs.Keys.{page_no}
 use Rattle.st_extents.specs.Layout.{Shape, with_shape, none_at}
 
@@ -49,18 +49,10 @@ module _ {A : Type 0} (f : ℕ → List A) (p : ℕ → Bool) (base : List A) wh
   pub rows_end : (before : List A) (i n : ℕ) → n ≤ i → before ++ rows_from f p i n ≡ base → before ≡ base
   rows_end before i n l h = sym (append_nothing before) ∙ (rw (numbers_none i n l) at h)
 
--- what is found first is the first that a filter keeps
-pub first_kept : {A : Type 0} (p : A → Bool) (xs : List A) → find p xs ≡ slice_get (filter p xs) 0
-first_kept p [] = refl
-first_kept p (x ∷ xs) = ⊎_elim (λ t. rw t refl) (λ f. rw f (first_kept p xs)) (cases_Bool (p x))
-
 -- the free blocks, by a list of this server's blocks
 pub free_is : (s : Shape) (rows : List Extent) (births : ℕ) (own : List BlockAt) → own ≡ own_blocks (no_extents s.server s.servers s.disks s.blocks) → filter (none_at rows) own ≡ free_blocks (with_shape s rows births)
 unfolding own_blocks free_blocks
 free_is s rows births own e = rw e refl
-
-pub first_free_is : (s : Shape) (rows : List Extent) (births : ℕ) (own : List BlockAt) (r : Option BlockAt) → own ≡ own_blocks (no_extents s.server s.servers s.disks s.blocks) → r ≡ find (none_at rows) own → r ≡ slice_get (free_blocks (with_shape s rows births)) 0
-first_free_is s rows births own r e f = f ∙ first_kept (none_at rows) own ∙ ap (λ l. slice_get l 0) (free_is s rows births own e)
 
 -- the pages without a block, from a page on
 abbrev pub pages_left : List Extent → FileId → ℕ → ℕ → List PageNo
@@ -81,17 +73,6 @@ module _ (rows : List Extent) (f : FileId) (first : ℕ) (base : List PageNo) wh
   unfolding numbers
   pages_end before i n l h = let e : n - i ≡ 0 = omega arith in sym (append_nothing before) ∙ (rw e at h)
 
--- a page is mapped to the first of the blocks, or stays
-pub placed_none : (x : Extents) (f : FileId) (p : PageNo) (bs : List BlockAt) → None ≡ slice_get bs 0 → x ≡ place_on x f p bs
-unfolding place_on
-placed_none x f p [] e = refl
-placed_none x f p (b ∷ bs) e = absurd (true≢false (sym (ap is_some e)))
-
-pub placed_some : (x : Extents) (f : FileId) (p : PageNo) (bs : List BlockAt) (b : BlockAt) → Some b ≡ slice_get bs 0 → with_extent (new_extent x f p b) x ≡ place_on x f p bs
-unfolding place_on
-placed_some x f p [] b e = absurd (true≢false (ap is_some e))
-placed_some x f p (d ∷ bs) b e = ap (λ o. with_extent (new_extent x f p (unwrap_or o b)) x) e
-
 -- one more of the pages is mapped
 pub pages_step : (f : FileId) (ps : List PageNo) (i : ℕ) (d : PageNo) (x y base : Extents) → i < length ps → y ≡ place_on x f (get_or ps i d) (free_blocks x) → place_pages f (drop i ps) x ≡ base → place_pages f (drop (i + 1) ps) y ≡ base
 unfolding place_pages
@@ -110,5 +91,7 @@ pub allocate_refuses : (x : Extents) (f : FileId) (p : PageNo) (count : ℕ) (ps
 unfolding allocate allocate_pages
 allocate_refuses x f p count ps n m e g h l = rw (← e, ← h, ← g, lt-leb m n l) refl
 
-pub few_from : (own blocks : List BlockAt) (n : ℕ) → own ≡ blocks → length own ≤ n → length blocks ≤ n
-few_from own blocks n e l = rw (← e) l
+-- a server has the same blocks whatever is mapped
+pub own_few : (s : Shape) (rows : List Extent) (births : ℕ) (own : List BlockAt) → own ≡ own_blocks (no_extents s.server s.servers s.disks s.blocks) → length (own_blocks (with_shape s rows births)) ≤ 32768 → length own ≤ 32768
+unfolding own_blocks
+own_few s rows births own e l = rw e l

@@ -20,7 +20,7 @@ use Rattle.st_extents.specs.Ownership.{IsOwned, IsSound, of_one_page, on_one_blo
 
 -- Lists.
 
-every_filter : {K : Type 0} (P : K → Type 0) (p : K → Bool) (xs : List K) → AllByRecursion P xs → AllByRecursion P (filter p xs)
+pub every_filter : {K : Type 0} (P : K → Type 0) (p : K → Bool) (xs : List K) → AllByRecursion P xs → AllByRecursion P (filter p xs)
 every_filter P p [] a = a
 every_filter P p (x ∷ xs) a = ⊎_elim
     (λ t. rw t (a.0, every_filter P p xs a.1))
@@ -28,7 +28,7 @@ every_filter P p (x ∷ xs) a = ⊎_elim
     (cases_Bool (p x))
 
 -- what differs still differs after a filter
-distinct_filter : {K : Type 0} (E : K → K → Bool) (p : K → Bool) (xs : List K) → IsDistinct E xs → IsDistinct E (filter p xs)
+pub distinct_filter : {K : Type 0} (E : K → K → Bool) (p : K → Bool) (xs : List K) → IsDistinct E xs → IsDistinct E (filter p xs)
 distinct_filter E p [] d = d
 distinct_filter E p (x ∷ xs) d =
     let rest = distinct_filter E p xs (IsDistinct-tail E x xs d) in
@@ -74,7 +74,7 @@ at_block a b = same_block b a
 at_block_equiv : IsEquivalence at_block
 at_block_equiv = both_equiv _ _ (number_equiv (λ (b : BlockAt). b.disk.0)) (number_equiv (λ (b : BlockAt). b.block))
 
-not_true : (b : Bool) → not b ≡ true → b ≡ false
+pub not_true : (b : Bool) → not b ≡ true → b ≡ false
 not_true true h = sym h
 not_true false h = refl
 
@@ -141,7 +141,7 @@ unfolding rules.numbers
 pages_above m n zero l = tt
 pages_above m n (suc count) l = (ne_eqb m n (λ e. omega (arith, e)), pages_above m (n + 1) count (omega arith))
 
-pages_differ : (n count : ℕ) → IsDistinct same_page (map page_no (rules.numbers n count))
+pub pages_differ : (n count : ℕ) → IsDistinct same_page (map page_no (rules.numbers n count))
 unfolding rules.numbers IsDistinct
 pages_differ n zero = tt
 pages_differ n (suc count) = (pages_above n (n + 1) count (omega arith), pages_differ (n + 1) count)

@@ -1,6 +1,6 @@
 -- How a server's disks are laid out, and what calls of extents answer.
-use Rattle.std.specs.Prelude.{ℕ, ◌≡◌, ◌≤◌, Bool, not, List, filter, find, is_some, Result, Ok, Err}
-use Rattle.std.specs.List.{list_any}
+use Rattle.std.specs.Prelude.{ℕ, ◌≡◌, ◌≤◌, Bool, not, List, filter, find, is_some, false, Result, Ok, Err}
+use Rattle.std.specs.List.{AllByRecursion, IsDistinct, list_any}
 use Rattle.st_base.specs.declared.ids.ServerId.{ServerId}
 use Rattle.st_base.specs.declared.ids.FileId.{FileId}
 use Rattle.st_base.specs.declared.ids.PageNo.{PageNo}
@@ -10,7 +10,10 @@ use Rattle.st_rules.specs.declared.extents.AllocateRefusal.TheVariants.{NoSpace}
 use Rattle.st_extents.specs.declared.refusal.ExtentRefusal.{ExtentRefusal}
 use Rattle.st_extents.specs.declared.refusal.ExtentRefusal.TheVariants as refusals
 use Rattle.st_base.specs.declared.disk.BlockAt.{BlockAt}
-use Rattle.st_rules.specs.Extents.{Extents, free_blocks, is_extent_of, lies_at, pages_from, place_on}
+use Rattle.st_rules.specs.Extents.{Extents, free_blocks, is_extent_of, lies_at, no_extents, own_blocks, pages_from, place_on}
+use Rattle.st_rules.specs.Keys.{same_page}
+use Rattle.st_extents.specs.Ownership.{IsSound}
+use Rattle.st_extents.specs.Places.{Ground}
 
 -- the counts of a world, at one server
 pub record Shape : Type 0 where
@@ -40,6 +43,16 @@ pub record IsWithinLimits (server servers disks blocks : ℕ) : Type 0 where
 -- none of these extents lies on the block
 abbrev pub none_at : List Extent → BlockAt → Bool
 none_at rows b = not (list_any (lies_at b) rows)
+
+-- these pages differ, and none has an extent among these
+pub record AreFresh (rows : List Extent) (f : FileId) (ps : List PageNo) : Type 0 where
+  pub unmapped : AllByRecursion (λ q. is_some (find (is_extent_of f q) rows) ≡ false) ps
+  pub apart : IsDistinct same_page ps
+
+-- what the calls keep: the blocks are the server's own, and the extents are sound
+pub record IsKept (s : Shape) (g : Ground) (births : ℕ) : Type 0 where
+  pub own : g.own ≡ own_blocks (no_extents s.server s.servers s.disks s.blocks)
+  pub sound : IsSound (with_shape s g.rows births)
 
 -- the pages of a range that have no block, by the mapped pages
 abbrev pub unmapped_of : List Extent → FileId → PageNo → ℕ → List PageNo

@@ -1,13 +1,14 @@
-ghost use Rattle.std.specs.Prelude.{◌≡◌, ◌≤◌, ◌+◌, ◌<◌, ◌^◌, IfOk, ℕ, length};
+ghost use Rattle.std.specs.Prelude.{◌≡◌, ◌≤◌, ◌+◌, ◌<◌, ◌^◌, IfOk, length, find, is_some, false};
+ghost use Rattle.st_base.specs.declared.ids.PageNo.{PageNo};
 ghost use Rattle.st_rules.specs.Extents as extents;
-ghost use Rattle.st_extents.specs.Layout.{with_shape, IsWithinLimits, Allocates};
+ghost use Rattle.st_rules.specs.Keys.{same_page};
+ghost use Rattle.st_extents.specs.Layout.{Allocates, AreFresh, IsWithinLimits, Shape, placed_first, with_shape};
 ghost use Rattle.st_extents.specs.Ownership.{IsOwned};
 
-use crate::layout::Layout;
-use crate::mapping::{extent_of, release, unmapped};
+use crate::layout::own_blocks;
+use crate::mapping::Mapping;
 use crate::refusal::ExtentRefusal;
 use st_base::{BlockAt, FileId, PageNo, ServerId};
-use st_rules::Extent;
 use std::alloc::{AllocError, Global};
 use std::marker::Model;
 
@@ -15,21 +16,57 @@ use std::marker::Model;
 /// births were given.
 #[derive(Drop)]
 pub struct Extents {
-    layout: Layout,
-    rows: Vec<Extent>,
+    server: ServerId,
+    servers: u16,
+    disks: u16,
+    blocks: u32,
     births: u64,
+    mapping: Mapping,
 }
 
 impl Model for Extents {
     ghost use Rattle.st_rules.specs.Extents as extents;
-    ghost use Rattle.st_extents.specs.Layout.{with_shape};
-    ghost use Rattle.st_extents.specs.Ownership.{IsSound};
+    ghost use Rattle.st_extents.specs.Layout.{IsKept, with_shape};
 
     ghost Value = { extents.Extents };
 
-    ghost view = { λ x. with_shape x.layout x.rows.items x.births };
+    ghost view = { λ x. with_shape (record { server = x.server; servers = x.servers; disks = x.disks; blocks = x.blocks }) x.mapping.rows x.births };
 
-    ghost invariant = { λ x. IsSound (with_shape x.layout x.rows.items x.births) };
+    ghost invariant = { λ x. IsKept (record { server = x.server; servers = x.servers; disks = x.disks; blocks = x.blocks }) x.mapping x.births };
+}
+
+/// Maps a page to the first free block, under the next birth, and returns how many births were given.
+fn place_page(mapping: &mut Mapping, births: u64, file: FileId, page: PageNo) -> u64
+    requires room { 0 < mapping.old.room }
+    requires counted { births < 2 ^ 63 }
+    requires fresh { is_some (find (extents.is_extent_of file page) mapping.old.rows) ≡ false }
+    ensures placed { (s : Shape) → mapping.old.own ≡ extents.own_blocks (extents.no_extents s.server s.servers s.disks s.blocks) → with_shape s mapping.new.rows result ≡ placed_first s mapping.old.rows births file page }
+    ensures fresh { (q : PageNo) → is_some (find (extents.is_extent_of file q) mapping.old.rows) ≡ false → same_page page q ≡ false → is_some (find (extents.is_extent_of file q) mapping.new.rows) ≡ false }
+    ensures own { mapping.new.own ≡ mapping.old.own }
+    ensures room { mapping.old.room ≤ mapping.new.room + 1 }
+    ensures few { result ≤ births + 1 }
+{
+    if mapping.place(file, page, births + 1) {
+        births + 1
+    } else {
+        births
+    }
+}
+
+/// Maps these pages one after another, and returns how many births were given.
+fn place_pages(mapping: &mut Mapping, births: u64, file: FileId, pages: &[PageNo]) -> u64
+    requires room { length pages.now ≤ mapping.old.room }
+    requires counted { births + length pages.now < 2 ^ 63 }
+    requires fresh { AreFresh mapping.old.rows file pages.now }
+    ensures placed { (s : Shape) → mapping.old.own ≡ extents.own_blocks (extents.no_extents s.server s.servers s.disks s.blocks) → with_shape s mapping.new.rows result ≡ extents.place_pages file pages.now (with_shape s mapping.old.rows births) }
+    ensures own { mapping.new.own ≡ mapping.old.own }
+    ensures few { result ≤ births + length pages.now }
+{
+    let mut births = births;
+    for page in pages {
+        births = place_page(mapping, births, file, *page);
+    }
+    births
 }
 
 impl Extents {
@@ -46,10 +83,14 @@ impl Extents {
         ensures none { IfOk result (λ x. x ≡ extents.no_extents server servers disks blocks) }
         ensures owned { IfOk result IsOwned }
     {
+        let own = own_blocks(alloc, server, servers, disks, blocks)?;
         Ok(Extents {
-            layout: Layout::new(alloc, server, servers, disks, blocks)?,
-            rows: Vec::new(alloc),
+            server,
+            servers,
+            disks,
+            blocks,
             births: 0,
+            mapping: Mapping::new(alloc, own)?,
         })
     }
 
@@ -57,7 +98,7 @@ impl Extents {
     pub fn map(&self, file: FileId, page: PageNo) -> Option<(BlockAt, u64)>
         ensures { result ≡ extents.map_page self.now file page }
     {
-        extent_of(self.rows.as_slice(), file, page).map(|e| (e.at, e.birth))
+        self.mapping.get(file, page).map(|e| (e.at, e.birth))
     }
 
     /// Maps each page of the range that has no block, in rising order, to the free block with the least disk and then the
@@ -68,20 +109,17 @@ impl Extents {
         ensures exact { Allocates self.old self.new result (extents.allocate self.old file page count) }
         ensures owned { IsOwned self.new }
     {
-        let alloc = *self.rows.allocator();
-        let pages = unmapped(alloc, self.rows.as_slice(), file, page, count)?;
+        let pages = self.mapping.unmapped(file, page, count)?;
         let asked = pages.len();
-        let free = self.layout.free(self.rows.as_slice());
-        if (free as usize) < asked {
+        let free = self.mapping.free();
+        if free < asked {
             return Err(ExtentRefusal::NoSpace {
-                free: u64::from(free),
+                free: free as u64,
                 asked: asked as u64,
             });
         }
-        self.rows.reserve(asked)?;
-        self.births = self
-            .layout
-            .place_pages(&mut self.rows, self.births, file, pages.as_slice());
+        self.mapping.reserve(asked)?;
+        self.births = place_pages(&mut self.mapping, self.births, file, pages.as_slice());
         Ok(())
     }
 
@@ -90,14 +128,14 @@ impl Extents {
         ensures released { self.new ≡ extents.release_from self.old file page }
         ensures owned { IsOwned self.new }
     {
-        release(&mut self.rows, file, page);
+        self.mapping.release(file, page);
     }
 
     /// How many blocks of this server's disks are free.
     pub fn free(&self) -> u32
         ensures { result ≡ extents.free self.now }
     {
-        self.layout.free(self.rows.as_slice())
+        self.mapping.free() as u32
     }
 
     /// How many pages are mapped.
@@ -105,7 +143,7 @@ impl Extents {
         ensures mapped { result ≡ length self.now.rows }
         ensures within { result ≤ length (extents.own_blocks self.now) }
     {
-        self.rows.len() as u32
+        self.mapping.len() as u32
     }
 
     /// The birth that the next mapping gets. Births count up from 1, and none is used twice.

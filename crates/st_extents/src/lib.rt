@@ -4,7 +4,9 @@
 mod extents;
 mod layout;
 mod mapping;
+mod pages;
 mod refusal;
+mod taken;
 
 pub use extents::Extents;
 pub use refusal::ExtentRefusal;

@@ -64,7 +64,8 @@ Comes own id input hs = Unit {0}
 -- a step of a client, whatever comes, is for its association with a server a list of moves, and what stood before it stands after it
 abbrev pub Steps_are_moves : Type 0
 Steps_are_moves =
-    (k : Config) (b : Beside) (now : Stamp) (hs : List Msg) (own : ServerId) (s : ClientState) (input : ClientInput) (a : Association) (N : List Msg) → s.config.lease ≡ k.lease → Place own s.associations a → 1 ≤ a.life.0 → Kept a.life.0 a.store a.session N →
+    (k : Config) (b : Beside) (now : Stamp) (hs : List Msg) (own : ServerId) (s : ClientState) (input : ClientInput) (a : Association) (N : List Msg) →
+    s.config.lease ≡ k.lease → Place own s.associations a → 1 ≤ a.life.0 → Kept a.life.0 a.store a.session N →
     Comes own s.id.0 input hs → ((m : Msg) → In m hs → In m N) → Client_step k b now.0 hs own a (cl.client_step s now input) N
 
 -- The client has an association with this server, in this life, whose lease is over.

@@ -50,14 +50,14 @@ use Rattle.st_base.specs.declared.disk.Tag.{Tag}
 use Rattle.st_rules.specs.Safety.{IsLastRead, is_hard_of}
 use Rattle.st_views.specs.Halves.{held_at, held_in}
 use Rattle.st_laws_client.specs.World.{logged, logged_note}
-use Rattle.st_laws_copies.specs.Copies.{Right, Right_one, Hard_right, Fates_ok, Hard_on, Page_ok, Asked_so, file_at, Copies, Keeps}
+use Rattle.st_laws_copies.specs.Copies.{Right_one, Right_behind, Noted, last_of, Hard_right, Fates_ok, Hard_on, Page_ok, Asked_so, file_at, Copies, Keeps}
 use Rattle.st_laws_copies.specs.Law.{Operations_keep_copies}
 use Rattle.st_lemmas.proofs.Lookups.{if_true, if_false, some_is, any_filter, any_last}
 use Rattle.st_lemmas.proofs.Tables.{and_true, not_true}
 use Rattle.st_lemmas.proofs.Contents.{content_write, content_patch, find_cut, find_stays, find_take, Place_is, one_place, self_place, other_place}
 use Rattle.st_rules.specs.Keys.{put}
 use Rattle.st_lemmas.proofs.Puts.{find_put, find_put_by, find_put_other}
-use Rattle.st_laws_copies.proofs.Logs.{logged_both, right_both, still, away_then, away_out, away_entry}
+use Rattle.st_laws_copies.proofs.Logs.{logged_both, right_both, last_end, still, away_then, away_out, away_entry}
 
 pub none_some : {A : Type 0} (o : Option A) (v : A) → o ≡ None → o ≡ Some v → ⊥
 none_some o v e f = cc
@@ -195,7 +195,7 @@ module _ (ask_of : ℕ → Option Ask) (c : ClientId) (lives : ServerId → Life
   k_if t false u v p q = q refl
 
   -- what is put out leaves the log, and is right
-  pub k_aside : (t : Turn) (os : List Operation) (n : ℕ) (ps : List Output) → ((x : List LogEntry) → logged c lives ps x ≡ x) → (Copies ask_of c lives es t → Right ask_of c lives (Log_at t) ps) → (Asked_so ask_of t.operations → Asked_so ask_of os) →
+  pub k_aside : (t : Turn) (os : List Operation) (n : ℕ) (ps : List Output) → ((x : List LogEntry) → logged c lives ps x ≡ x) → (Copies ask_of c lives es t → Right_behind ask_of c lives (last_of None t.out) (Log_at t) ps) → (Asked_so ask_of t.operations → Asked_so ask_of os) →
       Keeps ask_of c lives es t (record t { operations = os; next_command = n; out = t.out ++ ps })
   k_aside t os n ps quiet right asked =
       record {
@@ -222,10 +222,10 @@ module _ (ask_of : ℕ → Option Ask) (c : ClientId) (lives : ServerId → Life
   -- a change of a page, noted
   k_change : (t : Turn) (s : ClientSession) (o : Operation) (f : FileId) (p : PageNo) (bytes : List ℕ) (n : Note) → cp.may_write (with_session s t) s f p ≡ true →
       (Copies ask_of c lives es (with_session s t) → (content (logged_note c lives n (Log_at t)) (file_at t.here.server f.ino) p ≡ bytes) × ((j : ℕ) (q : PageNo) → Place_is f.ino p j q ≡ false → content (logged_note c lives n (Log_at t)) (file_at t.here.server j) q ≡ content (Log_at t) (file_at t.here.server j) q)) →
-      (e : LogEntry) → logged_note c lives n (Log_at t) ≡ Log_at t ++ e ∷ [] → e.of.file.server ≡ t.here.server → e.of.file.ino ≡ f.ino → e.of.page ≡ p →
+      (e : LogEntry) → logged_note c lives n (Log_at t) ≡ Log_at t ++ e ∷ [] → e.of.file.server ≡ t.here.server → e.of.file.ino ≡ f.ino → e.of.page ≡ p → Noted (ask_of o.op) (Some (outputs.Note n)) →
       Keeps ask_of c lives es (with_session s t) (cp.change_page (with_session s t) o f p bytes n)
   unfolding cp.change_page cp.change_by cp.change pages.write
-  k_change t s o f p bytes n h news ent joins own ei ep = go (pages.is_full_for t.here.store.pages f.ino p)
+  k_change t s o f p bytes n h news ent joins own ei ep asked = go (pages.is_full_for t.here.store.pages f.ino p)
     where
       x : Store
       x = record t.here.store { pages = pages.written t.here.store.pages f.ino p bytes; commands = pages.forget_read t.here.store.commands f.ino p }
@@ -262,11 +262,11 @@ module _ (ask_of : ℕ → Option Ask) (c : ClientId) (lives : ServerId → Life
 
       go : (b : Bool) → Keeps ask_of c lives es (with_session s t) (cp.change_by (with_session s t) o f p n (if b then Err refusals.DirtyFull else Ok (pages.written t.here.store.pages f.ino p bytes)))
       go true = k_aside (with_session s t) t.operations t.next_command _ (λ x. refl) (λ r. record { one = record {}; rest = record {} }) (λ a. a)
-      go false = k_then (with_session s t) u _ noted (k_aside u t.operations t.next_command _ (λ x. refl) (λ r. record { one = record {}; rest = record {} }) (λ a. a))
+      go false = k_then (with_session s t) u _ noted (k_aside u t.operations t.next_command _ (λ x. refl) (λ r. record { one = subst (λ l. Noted (ask_of o.op) l) (sym (last_end None t.out (outputs.Note n))) asked; rest = record {} }) (λ a. a))
 
   -- an answer that is no read
-  k_answer : (t : Turn) (o : Operation) (a : AppAnswer) → ((x : List LogEntry) → Right_one ask_of c lives x (outputs.Answer o.op a)) → Keeps ask_of c lives es t (cp.answer o a t)
-  k_answer t o a f = k_aside t t.operations t.next_command _ (λ x. refl) (λ r. record { one = f (Log_at t); rest = record {} }) (λ a. a)
+  k_answer : (t : Turn) (o : Operation) (a : AppAnswer) → ((x : List LogEntry) (l : Option Output) → Right_one ask_of c lives l x (outputs.Answer o.op a)) → Keeps ask_of c lives es t (cp.answer o a t)
+  k_answer t o a f = k_aside t t.operations t.next_command _ (λ x. refl) (λ r. record { one = f (Log_at t) (last_of None t.out); rest = record {} }) (λ a. a)
 
   -- an answer of a read, with what the log says
   k_read : (t : Turn) (o : Operation) (f : FileId) (p : PageNo) (bytes : List ℕ) → ask_of o.op ≡ Some (asks.Read f p) → (Copies ask_of c lives es t → bytes ≡ content (Log_at t) f p) → Keeps ask_of c lives es t (cp.answer o (answers.Read bytes) t)
@@ -379,38 +379,38 @@ module _ (ask_of : ℕ → Option Ask) (c : ClientId) (lives : ServerId → Life
       go true b d e = e
       go false b d e = refl
 
-  k_write : (t : Turn) (s : ClientSession) (o : Operation) (f : FileId) (p : PageNo) (bytes : List ℕ) → f.server ≡ t.here.server → cp.may_write (with_session s t) s f p ≡ true → Keeps ask_of c lives es (with_session s t) (cp.change_page (with_session s t) o f p bytes (notes.Accepted f p bytes))
+  k_write : (t : Turn) (s : ClientSession) (o : Operation) (f : FileId) (p : PageNo) (bytes : List ℕ) → ask_of o.op ≡ Some (asks.Write f p bytes) → f.server ≡ t.here.server → cp.may_write (with_session s t) s f p ≡ true → Keeps ask_of c lives es (with_session s t) (cp.change_page (with_session s t) o f p bytes (notes.Accepted f p bytes))
   unfolding log.accept
-  k_write t s o f p bytes sv h =
+  k_write t s o f p bytes was sv h =
       k_change t s o f p bytes (notes.Accepted f p bytes) h
       (λ r. (
         content_write (Log_at t) c (lives f.server) f p bytes (file_at t.here.server f.ino) p ∙ if_true _ _ _ (own_file t f p sv),
         λ j q n. content_write (Log_at t) c (lives f.server) f p bytes (file_at t.here.server j) q ∙ if_false _ _ _ (other_file t f p j q n),
       ))
-      (log.pending (log.owner c (lives f.server) f p) (changes.Write bytes)) refl sv refl refl
+      (log.pending (log.owner c (lives f.server) f p) (changes.Write bytes)) refl sv refl refl (subst (λ a. Noted a (Some (outputs.Note (notes.Accepted f p bytes)))) (sym was) refl)
 
-  k_patch : (t : Turn) (s : ClientSession) (o : Operation) (f : FileId) (p : PageNo) (at : ℕ) (bytes old : List ℕ) → f.server ≡ t.here.server → cp.may_write (with_session s t) s f p ≡ true → pages.cached t.here.store.pages f.ino p ≡ Some old →
+  k_patch : (t : Turn) (s : ClientSession) (o : Operation) (f : FileId) (p : PageNo) (at : ℕ) (bytes old : List ℕ) → ask_of o.op ≡ Some (asks.Patch f p at bytes) → f.server ≡ t.here.server → cp.may_write (with_session s t) s f p ≡ true → pages.cached t.here.store.pages f.ino p ≡ Some old →
       Keeps ask_of c lives es (with_session s t) (cp.change_page (with_session s t) o f p (overlay at bytes old) (notes.Patched f p at bytes))
   unfolding log.patch
-  k_patch t s o f p at bytes old sv h cq =
+  k_patch t s o f p at bytes old was sv h cq =
       k_change t s o f p (overlay at bytes old) (notes.Patched f p at bytes) h
       (λ r. (
         content_patch (Log_at t) c (lives f.server) f p at bytes (file_at t.here.server f.ino) p ∙ if_true _ _ _ (own_file t f p sv) ∙ ap (λ b. overlay at bytes b) (sym (cached_is _ _ t.here.store f.ino p old (r.pages f.ino p) some cq)),
         λ j q n. content_patch (Log_at t) c (lives f.server) f p at bytes (file_at t.here.server j) q ∙ if_false _ _ _ (other_file t f p j q n),
       ))
-      (log.pending (log.owner c (lives f.server) f p) (changes.Patch at bytes)) refl sv refl refl
+      (log.pending (log.owner c (lives f.server) f p) (changes.Patch at bytes)) refl sv refl refl (subst (λ a. Noted a (Some (outputs.Note (notes.Patched f p at bytes)))) (sym was) refl)
     where
       some : 1 ≤ (held_in (Some s) f.ino).mode
       some = let z = leb-true _ _ (and_true (cp.holds s modes.X f) _ h).0 in let w = same_mode (lock_of s.locks f.ino) in omega (arith, z, w)
 
   k_open : (t : Turn) (s : ClientSession) (o : Operation) (a : Ask) → o.ask ≡ a → server_of a ≡ t.here.server → ask_of o.op ≡ Some o.ask → Keeps ask_of c lives es (with_session s t) (cp.serve_open (with_session s t) s o a)
   unfolding cp.serve_open cp.write cp.patch cp.patch_at cp.patch_bytes cp.read
-  k_open t s o (asks.Write f p bytes) is sv e = k_if (with_session s t) (cp.may_write (with_session s t) s f p) _ _ (λ h. k_write t s o f p bytes sv h) (λ h. k_keep (with_session s t) o e)
+  k_open t s o (asks.Write f p bytes) is sv e = k_if (with_session s t) (cp.may_write (with_session s t) s f p) _ _ (λ h. k_write t s o f p bytes (e ∙ ap (λ a. Some a) is) sv h) (λ h. k_keep (with_session s t) o e)
   k_open t s o (asks.Patch f p at bytes) is sv e = k_if (with_session s t) (cp.may_write (with_session s t) s f p) _ _ (λ h. go h (pages.cached t.here.store.pages f.ino p) refl) (λ h. k_keep (with_session s t) o e)
     where
       go : cp.may_write (with_session s t) s f p ≡ true → (q : Option (List ℕ)) → pages.cached t.here.store.pages f.ino p ≡ q → Keeps ask_of c lives es (with_session s t) (cp.patch_at (with_session s t) o f p at bytes q)
       go h None cq = k_fetch (with_session s t) o f p (x_some s f (and_true (cp.holds s modes.X f) _ h).0) e
-      go h (Some old) cq = k_patch t s o f p at bytes old sv h cq
+      go h (Some old) cq = k_patch t s o f p at bytes old (e ∙ ap (λ a. Some a) is) sv h cq
   k_open t s o (asks.Read f p) is sv e = k_if (with_session s t) (cp.holds s modes.S f) _ _ (λ h. k_read_at t s o f p is sv e (holds_some s f h) (pages.cached t.here.store.pages f.ino p) refl) (λ h. k_keep (with_session s t) o e)
   k_open t s o a is sv e = k_keep (with_session s t) o e
 
@@ -419,7 +419,7 @@ module _ (ask_of : ℕ → Option Ask) (c : ClientId) (lives : ServerId → Life
   k_under t s n o all sv e =
       k_if (with_session s t) (st.is_serving t.config s n) _ _
       (λ h. k_if (with_session s t) (is_open_file all t.here.server s (file_of o.ask)) _ _ (λ g. k_open t s o o.ask refl sv e) (λ g. k_keep (with_session s t) o e))
-      (λ h. k_if (with_session s t) (st.is_sent o) _ _ (λ g. k_keep (with_session s t) o e) (λ g. k_answer (with_session s t) o answers.Quiesced (λ x. record {})))
+      (λ h. k_if (with_session s t) (st.is_sent o) _ _ (λ g. k_keep (with_session s t) o e) (λ g. k_answer (with_session s t) o answers.Quiesced (λ x l. record {})))
 
   -- a sync is answered hard
   k_hard : (t : Turn) (o : Operation) (f : FileId) → o.ask ≡ asks.Sync f → server_of o.ask ≡ t.here.server → ask_of o.op ≡ Some o.ask → pages.is_hard t.here.store f.ino ≡ true → Keeps ask_of c lives es t (cp.answer o answers.Hard t)
@@ -561,9 +561,9 @@ module _ (ask_of : ℕ → Option Ask) (c : ClientId) (lives : ServerId → Life
       go true q = record { one = r.one; rest = q }
       go false q = q
 
-  faults_right : (n : ℕ) (os : List Operation) (l : List LogEntry) → Right ask_of c lives l (map (st.answer_to (answers.DiskFault n)) os)
-  faults_right n [] l = record {}
-  faults_right n (o ∷ os) l = record { one = record {}; rest = faults_right n os l }
+  faults_right : (n : ℕ) (os : List Operation) (last : Option Output) (l : List LogEntry) → Right_behind ask_of c lives last l (map (st.answer_to (answers.DiskFault n)) os)
+  faults_right n [] last l = record {}
+  faults_right n (o ∷ os) last l = record { one = record {}; rest = faults_right n os _ l }
 
   faults_quiet : (n : ℕ) (os : List Operation) (l : List LogEntry) → logged c lives (map (st.answer_to (answers.DiskFault n)) os) l ≡ l
   faults_quiet n [] l = refl
@@ -571,7 +571,7 @@ module _ (ask_of : ℕ → Option Ask) (c : ClientId) (lives : ServerId → Life
 
   k_faults : (picked : Operation → Bool) (n : ℕ) (t : Turn) → Keeps ask_of c lives es t (st.answer_each picked (answers.DiskFault n) t)
   unfolding st.answer_each
-  k_faults picked n t = k_aside ask_of c lives es t (filter (λ o. not (picked o)) t.operations) t.next_command _ (faults_quiet n (filter picked t.operations)) (λ r. faults_right n (filter picked t.operations) _) (asked_filter (λ o. not (picked o)) t.operations)
+  k_faults picked n t = k_aside ask_of c lives es t (filter (λ o. not (picked o)) t.operations) t.next_command _ (faults_quiet n (filter picked t.operations)) (λ r. faults_right n (filter picked t.operations) _ _) (asked_filter (λ o. not (picked o)) t.operations)
 
   k_failed : (t : Turn) (x : PageCommand) (kind : IoKind) → Keeps ask_of c lives es t (cl.failed_as t x kind)
   unfolding cl.failed_as cl.mark_failed

@@ -158,7 +158,7 @@ module _ (ask_of : ℕ → Option Ask) (c : ClientId) (lives : ServerId → Life
   k_newer t s epoch =
       let u : Turn = with_session (cr.in_epoch epoch s) (with_session s t) in
       k_if ask_of c lives es (with_session s t) (cr.is_newer s epoch) _ _
-      (λ h. k_then ask_of c lives es (with_session s t) u _ (k_like ask_of c lives es t s (cr.in_epoch epoch s) refl) (k_each ask_of c lives es (is_asked t.here.server) (answers.Uncertain s.epoch.0 epoch.0) u (λ x op. record {})))
+      (λ h. k_then ask_of c lives es (with_session s t) u _ (k_like ask_of c lives es t s (cr.in_epoch epoch s) refl) (k_each ask_of c lives es (is_asked t.here.server) (answers.Uncertain s.epoch.0 epoch.0) u (λ last x op. record {})))
       (λ h. k_same ask_of c lives es (with_session s t))
 
   k_other : (t : Turn) (s : ClientSession) (epoch : Epoch) (body : Body) → Keeps ask_of c lives es (with_session s t) (cr.of_other_epoch (with_session s t) s epoch body)

@@ -23,6 +23,7 @@ use Rattle.st_messages.specs.declared.message.NameReply.{NameReply}
 use Rattle.st_messages.specs.declared.message.NameReply.TheVariants as replies
 use Rattle.st_messages.specs.declared.message.Why.{Why}
 use Rattle.st_messages.specs.declared.message.Why.TheVariants as why
+use Rattle.st_messages.specs.declared.output.Output.{Output}
 use Rattle.st_messages.specs.declared.output.Output.TheVariants as outputs
 use Rattle.st_rules.specs.declared.client.HeldLock.{HeldLock}
 use Rattle.st_rules.specs.declared.client.Operation.{Operation}
@@ -39,7 +40,7 @@ use Rattle.st_rules.specs.ClientReplies as cr
 use Rattle.st_assoc.specs.Assoc.{Lock}
 use Rattle.st_views.specs.Halves.{held_at, held_in}
 use Rattle.st_laws_client.specs.World.{logged}
-use Rattle.st_laws_copies.specs.Copies.{Right, Right_one, Page_ok, Nothing, Asked_so, file_at, Keeps}
+use Rattle.st_laws_copies.specs.Copies.{Right_one, Right_behind, Page_ok, Nothing, Asked_so, file_at, Keeps}
 use Rattle.st_laws_copies.proofs.Logs.{still}
 use Rattle.st_laws_client.proofs.Replies.{lock_set, lock_cut}
 use Rattle.st_assoc.proofs.Lists.{upd_all}
@@ -49,20 +50,20 @@ use Rattle.st_laws_copies.proofs.Caches.{nothing_ok, k_session, k_granted, k_kno
 module _ (ask_of : ℕ → Option Ask) (c : ClientId) (lives : ServerId → Life) (es : List LogEntry) where
   -- answers that owe nothing
   abbrev Harmless : AppAnswer → Type 0
-  Harmless a = (x : List LogEntry) (op : ℕ) → Right_one ask_of c lives x (outputs.Answer op a)
+  Harmless a = (last : Option Output) (x : List LogEntry) (op : ℕ) → Right_one ask_of c lives last x (outputs.Answer op a)
 
   pub k_each : (picked : Operation → Bool) (a : AppAnswer) (t : Turn) → Harmless a → Keeps ask_of c lives es t (answer_each picked a t)
   unfolding answer_each
   k_each picked a t h =
-      k_aside ask_of c lives es t (filter (λ o. not (picked o)) t.operations) t.next_command _ (quiet (filter picked t.operations)) (λ r. right (filter picked t.operations) (logged c lives t.out es)) (kept t.operations)
+      k_aside ask_of c lives es t (filter (λ o. not (picked o)) t.operations) t.next_command _ (quiet (filter picked t.operations)) (λ r. right (filter picked t.operations) _ (logged c lives t.out es)) (kept t.operations)
     where
       quiet : (os : List Operation) (l : List LogEntry) → logged c lives (map (st.answer_to a) os) l ≡ l
       quiet [] l = refl
       quiet (o ∷ os) l = quiet os l
 
-      right : (os : List Operation) (l : List LogEntry) → Right ask_of c lives l (map (st.answer_to a) os)
-      right [] l = record {}
-      right (o ∷ os) l = record { one = h l o.op; rest = right os l }
+      right : (os : List Operation) (last : Option Output) (l : List LogEntry) → Right_behind ask_of c lives last l (map (st.answer_to a) os)
+      right [] last l = record {}
+      right (o ∷ os) last l = record { one = h last l o.op; rest = right os _ l }
 
       kept : (os : List Operation) → Asked_so ask_of os → Asked_so ask_of (filter (λ o. not (picked o)) os)
       kept [] r = r
@@ -162,9 +163,9 @@ module _ (ask_of : ℕ → Option Ask) (c : ClientId) (lives : ServerId → Life
       t2 = answer_each (is_asked t.here.server) (cr.name_answer reply) t
 
       harmless : (r : NameReply) → Harmless (cr.name_answer r)
-      harmless (replies.Ino ino) x op = record {}
-      harmless (replies.Listed rows) x op = record {}
-      harmless (replies.Refused code) x op = record {}
+      harmless (replies.Ino ino) last x op = record {}
+      harmless (replies.Listed rows) last x op = record {}
+      harmless (replies.Refused code) last x op = record {}
 
       lock : (ino : ℕ) → file ≡ Some ino → (o : Option HeldLock) → lock_of s.locks ino ≡ o → Keeps ask_of c lives es (with_session s t2) (cr.drop_held (with_session s t2) s ino o)
       lock ino f None e = k_same ask_of c lives es (with_session s t2)
@@ -181,16 +182,16 @@ module _ (ask_of : ℕ → Option Ask) (c : ClientId) (lives : ServerId → Life
   k_refuse_as : (t : Turn) (w : Why) (a b : ℕ) (file : Option ℕ) (asked : Body) → Keeps ask_of c lives es t (cr.refuse_as t w a b file asked)
   unfolding cr.refuse_as cr.refuse_file cr.refuse_page cr.refuse_holder
   k_refuse_as t why.NoFile a b None asked = k_same ask_of c lives es t
-  k_refuse_as t why.NoFile a b (Some ino) asked = k_each (cr.works_on t ino) answers.NoFile t (λ x op. record {})
+  k_refuse_as t why.NoFile a b (Some ino) asked = k_each (cr.works_on t ino) answers.NoFile t (λ last x op. record {})
   k_refuse_as t why.TooManyLocks a b None asked = k_same ask_of c lives es t
-  k_refuse_as t why.TooManyLocks a b (Some ino) asked = k_each (cr.works_on t ino) answers.TooManyLocks t (λ x op. record {})
+  k_refuse_as t why.TooManyLocks a b (Some ino) asked = k_each (cr.works_on t ino) answers.TooManyLocks t (λ last x op. record {})
   k_refuse_as t why.NoSpace a b file asked = page file (st.page_asked asked)
     where
       page : (f : Option ℕ) (p : Option PageNo) → Keeps ask_of c lives es t (cr.refuse_page t (answers.NoSpace a b) f p)
-      page (Some ino) (Some p) = k_each (cr.writes_on t ino p) (answers.NoSpace a b) t (λ x op. record {})
+      page (Some ino) (Some p) = k_each (cr.writes_on t ino p) (answers.NoSpace a b) t (λ last x op. record {})
       page None p = k_same ask_of c lives es t
       page (Some ino) None = k_same ask_of c lives es t
-  k_refuse_as t why.NotHolder a b file asked = k_if ask_of c lives es t (st.asks_cut_or_remove asked) _ t (λ h. k_each (is_asked t.here.server) answers.NotHolder t (λ x op. record {})) (λ h. k_same ask_of c lives es t)
+  k_refuse_as t why.NotHolder a b file asked = k_if ask_of c lives es t (st.asks_cut_or_remove asked) _ t (λ h. k_each (is_asked t.here.server) answers.NotHolder t (λ last x op. record {})) (λ h. k_same ask_of c lives es t)
   k_refuse_as t other a b file asked = k_same ask_of c lives es t
 
   marked : (f : Operation → Operation) → ((o : Operation) → ((f o).op ≡ o.op) × ((f o).ask ≡ o.ask)) → (os : List Operation) → Asked_so ask_of os → Asked_so ask_of (map f os)
@@ -216,7 +217,7 @@ module _ (ask_of : ℕ → Option Ask) (c : ClientId) (lives : ServerId → Life
       waits true = k_same ask_of c lives es (with_session s t)
       waits false = k_like t s _ refl
   k_effect t s n (bodies.Extents ino rows) file asked w = k_if ask_of c lives es (with_session s t) (cr.is_current s.locks asked) _ _ (λ h. k_learned (with_session s t) ino rows asked (w.held ino rows refl h) (w.zero ino rows refl h)) (λ h. k_same ask_of c lives es (with_session s t))
-  k_effect t s n bodies.Ack file asked w = k_each (is_asked t.here.server) answers.Cut (with_session s t) (λ x op. record {})
+  k_effect t s n bodies.Ack file asked w = k_each (is_asked t.here.server) answers.Cut (with_session s t) (λ last x op. record {})
   k_effect t s n (bodies.Named reply) file asked w = k_named t s file reply (λ ino. w.none reply ino refl)
   k_effect t s n bodies.Reasserted file asked w = k_like t s _ refl
   k_effect t s n (bodies.Nack x y z) file asked w = k_refused (with_session s t) x y z file asked

@@ -1,5 +1,5 @@
 -- The log behind outputs, in two parts.
-use Rattle.std.proofs.Common.{◌≡◌, ℕ, List, [], ◌∷◌, ◌++◌, Option, refl, sym, ap, ◌∙◌, subst, append_assoc}
+use Rattle.std.proofs.Common.{◌≡◌, ℕ, List, [], ◌∷◌, ◌++◌, Option, Some, None, refl, sym, ap, ◌∙◌, subst, append_assoc}
 use Rattle.st_base.specs.declared.ids.ClientId.{ClientId}
 use Rattle.st_base.specs.declared.ids.ServerId.{ServerId}
 use Rattle.st_base.specs.declared.ids.Life.{Life}
@@ -7,16 +7,24 @@ use Rattle.st_messages.specs.declared.ask.Ask.{Ask}
 use Rattle.st_messages.specs.declared.output.Output.{Output}
 use Rattle.st_rules.specs.declared.log.LogEntry.{LogEntry}
 use Rattle.st_laws_client.specs.World.{logged, logged_one}
-use Rattle.st_laws_copies.specs.Copies.{Right, All_of, Joined, Away}
+use Rattle.st_laws_copies.specs.Copies.{Right, Right_behind, last_of, All_of, Joined, Away}
 use Rattle.st_laws_client.proofs.Steps.{nothing_more}
 
 pub logged_both : (c : ClientId) (lives : ServerId → Life) (os ps : List Output) (es : List LogEntry) → logged c lives (os ++ ps) es ≡ logged c lives ps (logged c lives os es)
 logged_both c lives [] ps es = refl
 logged_both c lives (o ∷ os) ps es = logged_both c lives os ps (logged_one c lives o es)
 
-pub right_both : (asks : ℕ → Option Ask) (c : ClientId) (lives : ServerId → Life) (os ps : List Output) (es : List LogEntry) → Right asks c lives es os → Right asks c lives (logged c lives os es) ps → Right asks c lives es (os ++ ps)
-right_both asks c lives [] ps es r q = q
-right_both asks c lives (o ∷ os) ps es r q = record { one = r.one; rest = right_both asks c lives os ps (logged_one c lives o es) r.rest q }
+right_behind : (asks : ℕ → Option Ask) (c : ClientId) (lives : ServerId → Life) (last : Option Output) (os ps : List Output) (es : List LogEntry) →
+    Right_behind asks c lives last es os → Right_behind asks c lives (last_of last os) (logged c lives os es) ps → Right_behind asks c lives last es (os ++ ps)
+right_behind asks c lives last [] ps es r q = q
+right_behind asks c lives last (o ∷ os) ps es r q = record { one = r.one; rest = right_behind asks c lives (Some o) os ps (logged_one c lives o es) r.rest q }
+
+pub right_both : (asks : ℕ → Option Ask) (c : ClientId) (lives : ServerId → Life) (os ps : List Output) (es : List LogEntry) → Right asks c lives es os → Right_behind asks c lives (last_of None os) (logged c lives os es) ps → Right asks c lives es (os ++ ps)
+right_both asks c lives os ps es r q = right_behind asks c lives None os ps es r q
+
+pub last_end : (last : Option Output) (os : List Output) (o : Output) → last_of last (os ++ o ∷ []) ≡ Some o
+last_end last [] o = refl
+last_end last (x ∷ os) o = last_end (Some x) os o
 
 -- Logs that go on by entries of one server's files.
 pub joined_same : (sv : ServerId) (l : List LogEntry) → Joined sv l l

@@ -58,14 +58,14 @@ module _ (ask_of : ℕ → Option Ask) (c : ClientId) (lives : ServerId → Life
   talks_then t u v p q = record { there = q.there ∙ p.there; alive = q.alive ∙ p.alive; operations = q.operations ∙ p.operations; log = q.log ∙ p.log; right = λ r. q.right (p.right r) }
 
   -- one output that owes nothing, and other lost pages
-  talks_one : (t : Turn) (lost : List LostPage) (o : Output) → ((x : List LogEntry) → logged c lives (o ∷ []) x ≡ x) → ((x : List LogEntry) → Right_one ask_of c lives x o) → Talks t (st.say (with_lost_rows lost t) o)
+  talks_one : (t : Turn) (lost : List LostPage) (o : Output) → ((x : List LogEntry) → logged c lives (o ∷ []) x ≡ x) → ((last : Option Output) (x : List LogEntry) → Right_one ask_of c lives last x o) → Talks t (st.say (with_lost_rows lost t) o)
   talks_one t lost o quiet right =
       record {
         there = refl;
         alive = refl;
         operations = refl;
         log = logged_both c lives t.out (o ∷ []) es ∙ quiet (logged c lives t.out es);
-        right = λ r. right_both ask_of c lives t.out (o ∷ []) es r (record { one = right (logged c lives t.out es); rest = record {} });
+        right = λ r. right_both ask_of c lives t.out (o ∷ []) es r (record { one = right _ (logged c lives t.out es); rest = record {} });
       }
 
   talks_unsent : (t : Turn) (o : Operation) (a : Ask) → Talks t (cl.end_unsent t o a)
@@ -73,9 +73,9 @@ module _ (ask_of : ℕ → Option Ask) (c : ClientId) (lives : ServerId → Life
   talks_unsent t o (asks.Sync f) = go (pages.has_lost t.here.lost f.ino)
     where
       go : (b : Bool) → Talks t (if b then cl.tell_lost t o.op f.ino else answered t o.op answers.Quiesced)
-      go true = talks_one t (pages.untold t.here.lost f.ino) (outputs.Answer o.op (answers.Lost (pages.told_rows t.here.lost f.ino))) (λ x. refl) (λ x. record {})
-      go false = talks_one t t.here.lost (outputs.Answer o.op answers.Quiesced) (λ x. refl) (λ x. record {})
-  talks_unsent t o a = talks_one t t.here.lost (outputs.Answer o.op answers.Quiesced) (λ x. refl) (λ x. record {})
+      go true = talks_one t (pages.untold t.here.lost f.ino) (outputs.Answer o.op (answers.Lost (pages.told_rows t.here.lost f.ino))) (λ x. refl) (λ last x. record {})
+      go false = talks_one t t.here.lost (outputs.Answer o.op answers.Quiesced) (λ x. refl) (λ last x. record {})
+  talks_unsent t o a = talks_one t t.here.lost (outputs.Answer o.op answers.Quiesced) (λ x. refl) (λ last x. record {})
 
   talks_each : (s : ClientSession) (os : List Operation) (t : Turn) → Talks t (cl.end_each s os t)
   unfolding cl.end_each cl.end_operation
@@ -83,7 +83,7 @@ module _ (ask_of : ℕ → Option Ask) (c : ClientId) (lives : ServerId → Life
   talks_each s (o ∷ os) t = let u : Turn = cl.end_operation t s o in talks_then t u _ (go (st.is_sent o)) (talks_each s os u)
     where
       go : (b : Bool) → Talks t (if b then answered t o.op (answers.Uncertain s.epoch.0 0) else cl.end_unsent t o o.ask)
-      go true = talks_one t t.here.lost (outputs.Answer o.op (answers.Uncertain s.epoch.0 0)) (λ x. refl) (λ x. record {})
+      go true = talks_one t t.here.lost (outputs.Answer o.op (answers.Uncertain s.epoch.0 0)) (λ x. refl) (λ last x. record {})
       go false = talks_unsent t o o.ask
 
   -- what a loss makes of a turn
@@ -122,7 +122,7 @@ module _ (ask_of : ℕ → Option Ask) (c : ClientId) (lives : ServerId → Life
   lost_session : (t : Turn) (s : ClientSession) → Loses t (cl.lose_session t s)
   unfolding cl.lose_session cl.end_operations
   lost_session t s =
-      let noted : Talks t v = talks_one t (pages.with_lost_pages t.here.store.commands t.here.store.pages.dirty t.here.lost) (outputs.Note (notes.Lost t.here.server t.here.life)) (λ x. refl) (λ x. record {}) in
+      let noted : Talks t v = talks_one t (pages.with_lost_pages t.here.store.commands t.here.store.pages.dirty t.here.lost) (outputs.Note (notes.Lost t.here.server t.here.life)) (λ x. refl) (λ last x. record {}) in
       let ended : Talks w u = talks_each s (filter (is_of t.here.server) t.operations) w in
       let next : t.here.life.0 < (cl.next_life u.here.life).0 = after (ended.alive) in
       record {

@@ -1,5 +1,5 @@
 -- What is observed of a client's outputs in the world: its reads and its syncs are answered by the log at them.
-use Rattle.std.proofs.Common.{◌≡◌, ◌+◌, true, List, [], ◌∷◌, ◌++◌, Option, Some, None, refl, sym, ap, ◌∙◌, subst, append_assoc}
+use Rattle.std.proofs.Common.{◌≡◌, ℕ, ◌+◌, true, List, [], ◌∷◌, ◌++◌, Option, Some, None, refl, sym, ap, ◌∙◌, subst, append_assoc}
 use Rattle.std.specs.Prelude.{length}
 use Rattle.std.specs.List.{list_all}
 use Rattle.st_base.specs.declared.ids.ClientId.{ClientId}
@@ -14,6 +14,7 @@ use Rattle.st_messages.specs.declared.output.Note.TheVariants as notes
 use Rattle.st_messages.specs.declared.output.Output.{Output}
 use Rattle.st_messages.specs.declared.output.Output.TheVariants as outputs
 use Rattle.st_rules.specs.declared.log.LogEntry.{LogEntry}
+use Rattle.st_rules.specs.declared.log.Cause.TheVariants as causes
 use Rattle.st_rules.specs.declared.observation.Observation.{Observation}
 use Rattle.st_rules.specs.declared.observation.Observation.TheVariants as seen
 use Rattle.st_rules.specs.ClientState.{ClientState}
@@ -24,9 +25,10 @@ use Rattle.st_rules.specs.FlatLog as log
 use Rattle.st_rules.specs.Lines.{AtEach, log_behind, log_told}
 use Rattle.st_rules.specs.Safety as safety
 use Rattle.st_laws_client.proofs.Steps.{nothing_more}
+use Rattle.st_laws_client.specs.World.{logged_one}
 use Rattle.st_laws_client.proofs.World.{told_one, lives_same}
-use Rattle.st_laws_copies.specs.Copies.{Right, Right_one, Hard_right}
-use Rattle.st_laws_copies.specs.Law.{Steps_answer_right}
+use Rattle.st_laws_copies.specs.Copies.{Right_one, Right_behind, Noted, Hard_right}
+use Rattle.st_laws_copies.specs.Law.{Is_written, All_written, Steps_answer_right}
 
 -- reads and syncs, at an observation
 abbrev Fact : List safety.Step → safety.Step → List LogEntry → Observation → Type 0
@@ -49,13 +51,13 @@ unfolding log_told
 told_both w es [] ps = refl
 told_both w es (o ∷ os) ps = told_both w (log_behind w es o) os ps
 
-seen_one : (past : List safety.Step) (x : safety.Step) (c : ClientId) (before : ClientState) (o : Output) (sc : Scene) → ◌≡◌ {A = ServerId → Life} (present_life x.after.world c) (present_life sc.world c) →
-    Right_one (safety.ask_of past x c) c (present_life sc.world c) sc.world.log o → Seen_right past x sc.seen sc (client_says sc c before o)
+seen_one : (past : List safety.Step) (x : safety.Step) (c : ClientId) (before : ClientState) (last : Option Output) (o : Output) (sc : Scene) → ◌≡◌ {A = ServerId → Life} (present_life x.after.world c) (present_life sc.world c) →
+    Right_one (safety.ask_of past x c) c (present_life sc.world c) last sc.world.log o → Seen_right past x sc.seen sc (client_says sc c before o)
 unfolding client_says ev.sends ev.submits ev.answers_with client_notes ev.accepts ev.patches ev.loses AtEach log_behind log_told
-seen_one past x c before (outputs.Send m) sc l r = record { more = _ ∷ []; is = refl; right = ((tt, refl), tt); log = refl }
-seen_one past x c before (outputs.Answer op a) sc l r = record { more = seen.Answered c op a ∷ []; is = refl; right = ((answer a r, hard a r), tt); log = refl }
+seen_one past x c before last (outputs.Send m) sc l r = record { more = _ ∷ []; is = refl; right = ((tt, refl), tt); log = refl }
+seen_one past x c before last (outputs.Answer op a) sc l r = record { more = seen.Answered c op a ∷ []; is = refl; right = ((answer a r, hard a r), tt); log = refl }
   where
-    answer : (a : AppAnswer) → Right_one (safety.ask_of past x c) c (present_life sc.world c) sc.world.log (outputs.Answer op a) → safety.IsLastAnswer past x c op sc.world.log a
+    answer : (a : AppAnswer) → Right_one (safety.ask_of past x c) c (present_life sc.world c) last sc.world.log (outputs.Answer op a) → safety.IsLastAnswer past x c op sc.world.log a
     answer (answers.Read bytes) r = r
     answer a r = tt
 
@@ -63,15 +65,15 @@ seen_one past x c before (outputs.Answer op a) sc l r = record { more = seen.Ans
     sync (Some (asks.Sync f)) r = ap (λ (v : ServerId → Life). list_all (safety.is_hard_of c (v f.server) f) sc.world.log) l ∙ r
     sync a r = elim r [ ]
 
-    hard : (a : AppAnswer) → Right_one (safety.ask_of past x c) c (present_life sc.world c) sc.world.log (outputs.Answer op a) → safety.answer_is_hard past x c op sc.world.log a ≡ true
+    hard : (a : AppAnswer) → Right_one (safety.ask_of past x c) c (present_life sc.world c) last sc.world.log (outputs.Answer op a) → safety.answer_is_hard past x c op sc.world.log a ≡ true
     hard answers.Hard r = sync (safety.ask_of past x c op) r
     hard a r = refl
-seen_one past x c before (outputs.Submit n at what) sc l r = go (site_of sc.world c)
+seen_one past x c before last (outputs.Submit n at what) sc l r = go (site_of sc.world c)
   where
     go : (o : Option ClientSite) → Seen_right past x sc.seen sc (ev.submits sc c o n at what)
     go None = record { more = []; is = sym (nothing_more sc.seen); right = tt; log = refl }
     go (Some s) = record { more = _ ∷ []; is = refl; right = ((tt, refl), tt); log = refl }
-seen_one past x c before (outputs.Note n) sc l r = note n
+seen_one past x c before last (outputs.Note n) sc l r = note n
   where
     note : (n : Note) → Seen_right past x sc.seen sc (client_notes sc c before n)
     note (notes.Leased s end) = record { more = seen.Leased c s end ∷ []; is = refl; right = ((tt, refl), tt); log = refl }
@@ -81,19 +83,19 @@ seen_one past x c before (outputs.Note n) sc l r = note n
     note n = record { more = []; is = sym (nothing_more sc.seen); right = tt; log = refl }
 
 -- reads return the last write, in one step of a client: from what its outputs are
-pub seen_all : (past : List safety.Step) (x : safety.Step) (c : ClientId) (before : ClientState) (os : List Output) (sc : Scene) → ◌≡◌ {A = ServerId → Life} (present_life x.after.world c) (present_life sc.world c) →
-    Right (safety.ask_of past x c) c (present_life sc.world c) sc.world.log os → Seen_right past x sc.seen sc (client_says_all c before os sc)
+pub seen_all : (past : List safety.Step) (x : safety.Step) (c : ClientId) (before : ClientState) (last : Option Output) (os : List Output) (sc : Scene) → ◌≡◌ {A = ServerId → Life} (present_life x.after.world c) (present_life sc.world c) →
+    Right_behind (safety.ask_of past x c) c (present_life sc.world c) last sc.world.log os → Seen_right past x sc.seen sc (client_says_all c before os sc)
 unfolding client_says_all AtEach log_told
-seen_all past x c before [] sc l r = record { more = []; is = sym (nothing_more sc.seen); right = nothing; log = refl }
+seen_all past x c before last [] sc l r = record { more = []; is = sym (nothing_more sc.seen); right = nothing; log = refl }
   where
     nothing : AtEach (Fact past x) x.after.world sc.world.log []
     nothing = tt
-seen_all past x c before (o ∷ os) sc l r =
+seen_all past x c before last (o ∷ os) sc l r =
     let u : Scene = client_says sc c before o in
     let t = told_one c before o sc in
-    let p = seen_one past x c before o sc l r.one in
+    let p = seen_one past x c before last o sc l r.one in
     let lives = lives_same c sc.world u.world t.clients in
-    let q = seen_all past x c before os u (l ∙ sym lives) (subst (λ v. Right (safety.ask_of past x c) c v u.world.log os) (sym lives) (subst (λ y. Right (safety.ask_of past x c) c (present_life sc.world c) y os) (sym t.log) r.rest)) in
+    let q = seen_all past x c before (Some o) os u (l ∙ sym lives) (subst (λ v. Right_behind (safety.ask_of past x c) c v (Some o) u.world.log os) (sym lives) (subst (λ y. Right_behind (safety.ask_of past x c) c (present_life sc.world c) (Some o) y os) (sym t.log) r.rest)) in
     record {
       more = p.more ++ q.more;
       is = q.is ∙ ap (λ y. y ++ q.more) p.is ∙ append_assoc sc.seen p.more q.more;
@@ -112,10 +114,69 @@ unfolding AtEach
 second past x w es [] r = tt
 second past x w es (o ∷ os) r = (r.0.1, second past x w (log_behind w es o) os r.1)
 
+-- the line of a change stands behind its note
+abbrev Line_of : ClientId → Option Output → Option Observation → Type 0
+Line_of c (Some (outputs.Note (notes.Accepted f p bytes))) line = (i : ℕ) × (line ≡ Some (seen.Wrote i c f p bytes))
+Line_of c (Some (outputs.Note (notes.Patched f p at bytes))) line = (i : ℕ) × (line ≡ Some (seen.Patched i c f p at bytes))
+Line_of c last line = Unit {0}
+
+-- the line that a note has, as a function of the note
+line_of : ℕ → ClientId → Note → Observation
+line_of i c (notes.Accepted f p bytes) = seen.Wrote i c f p bytes
+line_of i c (notes.Patched f p at bytes) = seen.Patched i c f p at bytes
+line_of i c n = seen.Dropped i causes.Crash
+
+noted_line : (c : ClientId) (asked : Option Ask) (last : Option Output) (line : Option Observation) → Noted asked last → Line_of c last line → safety.IsLoggedAfter c asked line
+unfolding line_of
+noted_line c (Some (asks.Write f p bytes)) (Some (outputs.Note (notes.Accepted g q old))) line n l = subst (λ o. safety.IsLoggedAfter c (Some (asks.Write f p bytes)) o) (sym l.1) (ap (line_of l.0 c) n)
+noted_line c (Some (asks.Patch f p at bytes)) (Some (outputs.Note (notes.Patched g q place old))) line n l = subst (λ o. safety.IsLoggedAfter c (Some (asks.Patch f p at bytes)) o) (sym l.1) (ap (line_of l.0 c) n)
+noted_line c asked last line n l = elim n [ ]
+
+record Written_seen (past : List safety.Step) (x : safety.Step) (line : Option Observation) (old : List Observation) (new : List Observation) : Type 0 where
+  pub more : List Observation
+  pub is : new ≡ old ++ more
+  pub right : All_written past x line more
+
+-- one line, and those behind it
+line_then : (past : List safety.Step) (x : safety.Step) (line : Option Observation) (old : List Observation) (o : Observation) (new : List Observation) → Is_written past x line o → Written_seen past x (Some o) (old ++ o ∷ []) new → Written_seen past x line old new
+line_then past x line old o new w r = record { more = o ∷ r.more; is = r.is ∙ append_assoc old (o ∷ []) r.more; right = record { one = w; rest = r.right } }
+
+written_all : (past : List safety.Step) (x : safety.Step) (c : ClientId) (before : ClientState) (lives : ServerId → Life) (last : Option Output) (line : Option Observation) (os : List Output) (es : List LogEntry) (sc : Scene) → Line_of c last line →
+    Right_behind (safety.ask_of past x c) c lives last es os → Written_seen past x line sc.seen (client_says_all c before os sc).seen
+unfolding client_says_all client_says ev.sends ev.submits ev.answers_with client_notes ev.accepts ev.patches ev.loses
+written_all past x c before lives last line [] es sc l r = record { more = []; is = sym (nothing_more sc.seen); right = record {} }
+written_all past x c before lives last line (outputs.Send m ∷ os) es sc l r =
+    line_then past x line sc.seen _ _ (record {}) (written_all past x c before lives (Some (outputs.Send m)) _ os es (client_says sc c before (outputs.Send m)) (record {}) r.rest)
+written_all past x c before lives last line (outputs.Answer op a ∷ os) es sc l r =
+    line_then past x line sc.seen (seen.Answered c op a) _ (answered a r.one) (written_all past x c before lives (Some (outputs.Answer op a)) _ os es (client_says sc c before (outputs.Answer op a)) (record {}) r.rest)
+  where
+    answered : (a : AppAnswer) → Right_one (safety.ask_of past x c) c lives last es (outputs.Answer op a) → Is_written past x line (seen.Answered c op a)
+    answered answers.Written n = noted_line c (safety.ask_of past x c op) last line n l
+    answered a n = record {}
+written_all past x c before lives last line (outputs.Submit n at what ∷ os) es sc l r =
+    go (site_of sc.world c) (λ line sc. written_all past x c before lives (Some (outputs.Submit n at what)) line os es sc (record {}) r.rest)
+  where
+    go : (o : Option ClientSite) → ((line : Option Observation) (sc : Scene) → Written_seen past x line sc.seen (client_says_all c before os sc).seen) → Written_seen past x line sc.seen (client_says_all c before os (ev.submits sc c o n at what)).seen
+    go None f = f line sc
+    go (Some site) f = line_then past x line sc.seen _ _ (record {}) (f _ (ev.submits sc c (Some site) n at what))
+written_all past x c before lives last line (outputs.Note n ∷ os) es sc l r =
+    note n (λ line es sc l r. written_all past x c before lives (Some (outputs.Note n)) line os es sc l r) r.rest
+  where
+    note : (n : Note) →
+        ((line : Option Observation) (es : List LogEntry) (sc : Scene) → Line_of c (Some (outputs.Note n)) line → Right_behind (safety.ask_of past x c) c lives (Some (outputs.Note n)) es os → Written_seen past x line sc.seen (client_says_all c before os sc).seen) →
+        Right_behind (safety.ask_of past x c) c lives (Some (outputs.Note n)) (logged_one c lives (outputs.Note n) es) os → Written_seen past x line sc.seen (client_says_all c before os (client_notes sc c before n)).seen
+    note (notes.Leased s end) f r = line_then past x line sc.seen _ _ (record {}) (f _ _ (client_notes sc c before (notes.Leased s end)) (record {}) r)
+    note (notes.Lost s life) f r = line_then past x line sc.seen _ _ (record {}) (f _ _ (client_notes sc c before (notes.Lost s life)) (record {}) r)
+    note (notes.Accepted g p bytes) f r = line_then past x line sc.seen _ _ (record {}) (f _ _ (client_notes sc c before (notes.Accepted g p bytes)) (_, refl) r)
+    note (notes.Patched g p at bytes) f r = line_then past x line sc.seen _ _ (record {}) (f _ _ (client_notes sc c before (notes.Patched g p at bytes)) (_, refl) r)
+    note n f r = f line _ sc (record {}) r
+
 pub law : Steps_answer_right
 law past x c before os v l r =
-    let q = seen_all past x c before os (ev.quiet v) l r in
+    let q = seen_all past x c before None os (ev.quiet v) l r in
+    let z = written_all past x c before (present_life v c) None None os v.log (ev.quiet v) (record {}) r in
     record {
       reads = subst (λ ys. AtEach (safety.IsLast past x) x.after.world v.log ys) (sym q.is) (first past x x.after.world v.log q.more q.right);
       syncs = subst (λ ys. AtEach (safety.IsHardAt past x) x.after.world v.log ys) (sym q.is) (second past x x.after.world v.log q.more q.right);
+      written = subst (λ ys. All_written past x None ys) (sym z.is) z.right;
     }

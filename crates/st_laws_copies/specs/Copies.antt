@@ -12,6 +12,7 @@ use Rattle.st_base.specs.declared.ids.FileId.{FileId}
 use Rattle.st_base.specs.declared.ids.PageNo.{PageNo}
 use Rattle.st_base.specs.Page.{filled}
 use Rattle.st_messages.specs.declared.ask.Ask.{Ask}
+use Rattle.st_messages.specs.declared.output.Note.TheVariants as notes
 use Rattle.st_messages.specs.declared.answer.AppAnswer.TheVariants as answers
 use Rattle.st_messages.specs.declared.output.Output.{Output}
 use Rattle.st_messages.specs.declared.output.Output.TheVariants as outputs
@@ -32,18 +33,34 @@ abbrev pub Hard_right : ClientId → (ServerId → Life) → List LogEntry → O
 Hard_right c lives es (Some (asks.Sync f)) = list_all (is_hard_of c (lives f.server) f) es ≡ true
 Hard_right c lives es asked = ⊥
 
--- each answer of a read has the bytes of the log at that answer, each hard one finds the file hard, and each write of a page
--- carries the bytes of the log
-abbrev pub Right_one : (ℕ → Option Ask) → ClientId → (ServerId → Life) → List LogEntry → Output → Type 0
-Right_one asked c lives es (outputs.Answer op (answers.Read bytes)) = IsLastRead (asked op) es bytes
-Right_one asked c lives es (outputs.Answer op answers.Hard) = Hard_right c lives es (asked op)
-Right_one asked c lives es (outputs.Submit n at (commands.Write to tag bytes)) = bytes ≡ content es tag.file tag.page
-Right_one asked c lives es o = Unit {0}
+-- the output before is the note of the change that was asked
+abbrev pub Noted : Option Ask → Option Output → Type 0
+Noted (Some (asks.Write f p bytes)) (Some (outputs.Note (notes.Accepted g q old))) = notes.Accepted g q old ≡ notes.Accepted f p bytes
+Noted (Some (asks.Patch f p at bytes)) (Some (outputs.Note (notes.Patched g q place old))) = notes.Patched g q place old ≡ notes.Patched f p at bytes
+Noted asked last = ⊥
 
--- each output is right by the log at it
+-- An output is right behind the one before it: each answer of a read has the bytes of the log at that answer, each hard one finds the
+-- file hard, `written` comes right behind the note of the change that was asked, and each write of a page carries the bytes of the log.
+abbrev pub Right_one : (ℕ → Option Ask) → ClientId → (ServerId → Life) → Option Output → List LogEntry → Output → Type 0
+Right_one asked c lives last es (outputs.Answer op (answers.Read bytes)) = IsLastRead (asked op) es bytes
+Right_one asked c lives last es (outputs.Answer op answers.Hard) = Hard_right c lives es (asked op)
+Right_one asked c lives last es (outputs.Answer op answers.Written) = Noted (asked op) last
+Right_one asked c lives last es (outputs.Submit n at (commands.Write to tag bytes)) = bytes ≡ content es tag.file tag.page
+Right_one asked c lives last es o = Unit {0}
+
+-- the last of outputs that follow another one
+abbrev pub last_of : Option Output → List Output → Option Output
+last_of last [] = last
+last_of last (o ∷ os) = last_of (Some o) os
+
+-- each output is right by the log at it, behind the one before it
+abbrev pub Right_behind : (ℕ → Option Ask) → ClientId → (ServerId → Life) → Option Output → List LogEntry → List Output → Type 0
+Right_behind asked c lives last es [] = Unit {0}
+Right_behind asked c lives last es (o ∷ os) = record { one : Right_one asked c lives last es o; rest : Right_behind asked c lives (Some o) (logged_one c lives o es) os }
+
+-- the outputs of a step are right
 abbrev pub Right : (ℕ → Option Ask) → ClientId → (ServerId → Life) → List LogEntry → List Output → Type 0
-Right asked c lives es [] = Unit {0}
-Right asked c lives es (o ∷ os) = record { one : Right_one asked c lives es o; rest : Right asked c lives (logged_one c lives o es) os }
+Right asked c lives es os = Right_behind asked c lives None es os
 
 -- an entry of this life that is not hard has its page dirty
 abbrev pub Fate_ok : ClientId → Life → ServerId → Store → LogEntry → Type 0
@@ -87,7 +104,8 @@ file_at sv ino = record { server = sv; ino = ino }
 
 -- What stands of the copies within a step, at one server, with the log from before the step.
 pub record Copies (asked_as : ℕ → Option Ask) (c : ClientId) (lives : ServerId → Life) (es : List LogEntry) (t : Turn) : Type 0 where
-  pub pages : (ino : ℕ) (p : PageNo) → Page_ok (held_in t.here.session ino).mode (content (logged c lives t.out es) (file_at t.here.server ino) p) t.here.store ino p
+  pub pages : (ino : ℕ) (p : PageNo) →
+      Page_ok (held_in t.here.session ino).mode (content (logged c lives t.out es) (file_at t.here.server ino) p) t.here.store ino p
   pub right : Right asked_as c lives es t.out
   pub asked : Asked_so asked_as t.operations
   pub fates : Fates_ok c (lives t.here.server) t.here.server t.here.store (logged c lives t.out es)

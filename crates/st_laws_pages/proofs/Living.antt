@@ -1,7 +1,7 @@
 -- The lives in the world where a client's node turns into another: in a step, a crash or a start.
-use Rattle.std.proofs.Common.{◌≡◌, ◌≢◌, ℕ, ◌+◌, ◌≤◌, ◌<◌, ◌⊎◌, Bool, true, false, ◌&&◌, List, [], ◌∷◌, ◌++◌, ◌==◌, Option, Some, None, Ok, refl, sym, ap, ◌∙◌, subst, inl, inr, arith, if◌then◌else◌, leb-true}
-use Rattle.std.specs.Prelude.{find, map, nat_le, unwrap_or, zero, suc, pred, set, slice_get}
-use Rattle.std.proofs.lemmas.Bool.{eqb-true, eq-eqb}
+use Rattle.std.proofs.Common.{◌≡◌, ◌≢◌, ℕ, ◌≤◌, ◌⊎◌, Bool, true, false, ◌&&◌, List, [], ◌∷◌, ◌++◌, ◌==◌, Option, Some, None, refl, sym, ap, ◌∙◌, subst, inl, inr, arith, if◌then◌else◌}
+use Rattle.std.specs.Prelude.{find}
+use Rattle.std.proofs.lemmas.Bool.{eqb-true}
 use Rattle.st_base.specs.declared.config.Config.{Config}
 use Rattle.st_base.specs.declared.ids.ClientId.{ClientId}
 use Rattle.st_base.specs.declared.ids.ServerId.{ServerId}
@@ -12,7 +12,7 @@ use Rattle.st_rules.specs.declared.world.IssuedCommand.{IssuedCommand}
 use Rattle.st_rules.specs.declared.world.LeaseLife.{LeaseLife}
 use Rattle.st_rules.specs.Keys.{same_client, same_server}
 use Rattle.st_rules.specs.Client as cl
-use Rattle.st_rules.specs.ClientState.{Association, ClientState, is_at}
+use Rattle.st_rules.specs.ClientState.{Association, is_at}
 use Rattle.st_rules.specs.World as world
 use Rattle.st_rules.specs.World.{World, ClientSite, numbered, with_numbered, is_life_of}
 use Rattle.st_rules.specs.Events as ev
@@ -21,7 +21,7 @@ use Rattle.st_lemmas.proofs.Lookups.{some_is}
 use Rattle.st_lemmas.proofs.Tables.{and_true, has_append, same_or_not}
 use Rattle.st_lemmas.proofs.Numbers.{numbered_own, numbered_other, numbered_below}
 use Rattle.st_laws_pages.specs.Losses.{Fit}
-use Rattle.st_laws_pages.specs.Lives.{Pairwise, Once, server_number, clock_in, Is_known, Is_below, Is_stopped, Node_holds, Ended_holds, Lives_hold, All_known}
+use Rattle.st_laws_pages.specs.Lives.{Pairwise, Once, clock_in, Is_known, Is_below, Is_stopped, Node_holds, Ended_holds, Lives_hold, All_known}
 use Rattle.st_laws_pages.proofs.Lives.{find_front, find_back}
 use Rattle.st_laws_pages.proofs.Associations.{own_found, found_has, numbers_same, Pair_found, pair_found, Pair_left, pair_left, pair_none}
 use Rattle.st_laws_pages.proofs.Stepping.{pairs_has}
@@ -66,6 +66,7 @@ pub record Turned (R : Association → Association → Type 0) (ts : List Stamp)
   pub servers : (a b : Association) → R a b → a.server ≡ b.server
   pub pairs : Pairwise R n.state.associations m.state.associations
   pub fits : (a b : Association) → R a b → Fit a → Fit b
+  pub up : (a b : Association) → R a b → a.life.0 ≤ b.life.0
   pub lifts : (a b : Association) → R a b → (e : LeaseLife) → Is_below n.running e a → Is_below m.running e b
   pub goes : (a b : Association) → Has a n.state.associations → R a b → Goes_or_ended c (es ++ rows) a b
   pub stopped : m.running ≡ false → (b : Association) → Has b m.state.associations → Is_stopped (es ++ rows) c b
@@ -117,6 +118,7 @@ module _ (R : Association → Association → Type 0) (k : Config) (ts : List St
         once = subst Once (numbers_same R t.servers old.node.state.associations m.state.associations t.pairs) mine.once;
         fit = pairs_has R Fit Fit t.fits old.node.state.associations m.state.associations t.pairs mine.fit;
         stopped = t.stopped;
+        born = pairs_has R (λ a. 1 ≤ a.life.0) (λ a. 1 ≤ a.life.0) (λ a b r x. let z = t.up a b r in omega (arith, x, z)) old.node.state.associations m.state.associations t.pairs mine.born;
         clock = mine.clock;
         ticks = mine.ticks;
         below = below_now;
@@ -131,6 +133,7 @@ module _ (R : Association → Association → Type 0) (k : Config) (ts : List St
         once = o.once;
         fit = o.fit;
         stopped = λ r a i. let z = o.stopped r a i in record { session = z.session; row = z.row; is = find_front (is_life_of d a.server a.life) es rows z.row z.is };
+        born = o.born;
         clock = o.clock;
         ticks = o.ticks;
         below = λ e i q a f. go e q a f (has_append es rows e i);
@@ -162,13 +165,14 @@ module _ (R : Association → Association → Type 0) (k : Config) (ts : List St
   ends_now e i = go (has_append es rows e i)
     where
       old_row : Ended_holds ts cs es e → Ended_holds ts now_sites (es ++ rows) e
-      old_row o = let z = still e.client o.site o.there in record { site = z.0; there = z.1; self = find_front (is_life_of e.client e.server e.life) es rows e o.self; over = o.over }
+      old_row o = let z = still e.client o.site o.there in record { site = z.0; there = z.1; born = o.born; self = find_front (is_life_of e.client e.server e.life) es rows e o.self; over = o.over }
 
       new_row : New_row R ts c old.node m rows e → Ended_holds ts now_sites (es ++ rows) e
       new_row n =
           record {
             site = site;
             there = ap (λ (z : ClientId). numbered now_sites z.0) n.client ∙ own_site;
+            born = let x = mine.born n.a n.has in let y = ap (λ (l : Life). l.0) n.life in omega (arith, x, y);
             self =
                 ap (λ z. find (is_life_of z e.server e.life) (es ++ rows)) n.client ∙ ap (λ z. find (is_life_of c z e.life) (es ++ rows)) n.server ∙ ap (λ z. find (is_life_of c n.a.server z) (es ++ rows)) n.life
                 ∙ find_back (is_life_of c n.a.server n.a.life) es rows (none_before n.a n.has n.running) ∙ n.self;

@@ -1,5 +1,5 @@
 -- The lives of leases in the world: those that ended, with the ends that they had, and the present ones.
-use Rattle.std.specs.Prelude.{◌≡◌, ℕ, ◌≤◌, ◌<◌, ◌⊎◌, Bool, true, false, if◌then◌else◌, List, [], ◌∷◌, ◌++◌, find, map, unwrap_or, Option, Some, None}
+use Rattle.std.specs.Prelude.{◌≡◌, ℕ, ◌≤◌, ◌<◌, ◌⊎◌, Bool, true, false, if◌then◌else◌, List, [], ◌∷◌, ◌++◌, find, map, unwrap_or, Some, None}
 use Rattle.st_base.specs.declared.config.Config.{Config}
 use Rattle.st_base.specs.declared.ids.ClientId.{ClientId}
 use Rattle.st_base.specs.declared.ids.ServerId.{ServerId}
@@ -13,7 +13,7 @@ use Rattle.st_rules.specs.declared.log.LogOwner.{LogOwner}
 use Rattle.st_rules.specs.declared.world.IssuedCommand.{IssuedCommand}
 use Rattle.st_rules.specs.declared.world.LeaseLife.{LeaseLife}
 use Rattle.st_rules.specs.Client as cl
-use Rattle.st_rules.specs.ClientState.{Association, ClientState, ClientSession, is_at}
+use Rattle.st_rules.specs.ClientState.{Association, ClientState, is_at}
 use Rattle.st_rules.specs.World.{World, ClientSite, numbered, is_life_of, ended_of}
 use Rattle.st_rules.specs.Events as ev
 use Rattle.st_lemmas.specs.Lists.{Has}
@@ -102,6 +102,7 @@ pub record Node_holds (k : Config) (ts : List Stamp) (es : List LeaseLife) (c : 
   pub once : Once (map server_number node.state.associations)
   pub fit : (a : Association) → Has a node.state.associations → Fit a
   pub stopped : node.running ≡ false → (a : Association) → Has a node.state.associations → Is_stopped es c a
+  pub born : (a : Association) → Has a node.state.associations → 1 ≤ a.life.0
   pub clock : Stamp
   pub ticks : numbered ts c.0 ≡ Some clock
   pub below : (e : LeaseLife) → Has e es → e.client ≡ c → (a : Association) → find (is_at e.server) node.state.associations ≡ Some a → Is_below node.running e a
@@ -110,6 +111,7 @@ pub record Node_holds (k : Config) (ts : List Stamp) (es : List LeaseLife) (c : 
 pub record Ended_holds (ts : List Stamp) (cs : List ClientSite) (es : List LeaseLife) (e : LeaseLife) : Type 0 where
   pub site : ClientSite
   pub there : numbered cs e.client.0 ≡ Some site
+  pub born : 1 ≤ e.life.0
   pub self : find (is_life_of e.client e.server e.life) es ≡ Some e
   pub over : e.crashed ≡ false → (t : Stamp) × (e.end ≡ Some t) × (t.0 ≤ (clock_in ts e.client).0)
 
@@ -127,6 +129,7 @@ pub record All_known (cs : List ClientSite) (es : List LeaseLife) (xs : List Iss
   pub commands : (x : IssuedCommand) → Has x xs → Is_known cs es x.client x.server x.life
   pub owners : (o : LogOwner) → Has o os → Is_known cs es o.client o.file.server o.life
 
+-- What stands of the lives in a world, and of those that its commands and entries name.
 pub record LivesHold (w : World) : Type 0 where
   pub lives : Lives_hold w.config w.clocks w.clients w.ended
   pub known : All_known w.clients w.ended w.commands (map owner_of w.log)
@@ -134,4 +137,5 @@ pub record LivesHold (w : World) : Type 0 where
 -- the commands of a client are of lives that ended, or of its present ones
 abbrev pub Crash_lives : World → ClientId → Type 0
 Crash_lives w c =
-    (k : ℕ) (x : IssuedCommand) → numbered w.commands k ≡ Some x → x.client ≡ c → ended_of w x.client x.server x.life ≡ None → (ev.present_life w x.client x.server).0 ≡ x.life.0
+    (k : ℕ) (x : IssuedCommand) → numbered w.commands k ≡ Some x → x.client ≡ c → ended_of w x.client x.server x.life ≡ None →
+    (ev.present_life w x.client x.server).0 ≡ x.life.0

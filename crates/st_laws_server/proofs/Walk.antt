@@ -51,7 +51,8 @@ use Rattle.st_rules.specs.Sessions as sessions
 use Rattle.st_rules.specs.Authority as authority
 use Rattle.st_rules.specs.Grace as grace
 use Rattle.st_rules.specs.Grace.{accept, accept_rows, accept_earlier, accept_own, accept_installed, accepted}
-use Rattle.st_rules.specs.Safety.{is_request, may_date, is_conflict}
+use Rattle.st_rules.specs.Dating.{is_request, may_date}
+use Rattle.st_rules.specs.Safety.{is_conflict}
 use Rattle.st_rules.specs.Server as sv
 use Rattle.st_rules.specs.Server.{is_client_node, ServerState, Turn, Replied, turn, with_locks, with_sessions, sender, life_in, reply, tell, steal_at, steal_from, steal, steal_each, thefts, suspect_client, greet_as, greet_by, greet, refuse_in_grace, hello, demand_seen, see_demand, refuse_epoch, reassert_by, reassert_new, reassert_again, reassert, rule, refused_reassertion, keep_and_reply, keep, serve, request_by, request, of_epoch, by_body, refuse_suspect, by_suspicion, receive_from, receive, take_input, suspect_unless, suspect_each, suspecting, suspecting_on, tell_granted, grant_by, grant_waiting, granting, tell_demanded, demand_by, demanding, server_step}
 use Rattle.st_lemmas.specs.Lists.{Has}
@@ -164,6 +165,10 @@ module _ (n : ServerState) (now : Stamp) (m : Message) (P : Turn → Type 0) (ke
     from : is_client_node h.from ≡ true
     there : h.to ≡ server_node t.state.id
 
+  -- the sender has a session
+  abbrev Has_session : Turn → Type 0
+  Has_session t = is_some (sessions.session_of t.state.sessions (sender h)) ≡ true
+
   -- a reply to a request, and an answer that is kept
   says : (t : Turn) (b : Body) → is_request m.body ≡ true → is_conflict b ≡ false → (may_date h.number b ≡ true → Free t.state m) → P t → P (reply t h b)
   says t b r c f p = edit (Replies t m b refl (record { calm = c; free = f; request = r })) p
@@ -249,9 +254,9 @@ module _ (n : ServerState) (now : Stamp) (m : Message) (P : Turn → Type 0) (ke
       cond_either (λ (a : locks.Acquired). Acquired (grace.is_on t.state.grace now) t.state.locks c life a.locks) (may_grant t.state.locks c ino mode (sv.grants_now t now)) (acquire_granted t.state.locks c life ino mode) (acquire_queued t.state.locks c life ino mode)
       (λ e. let z = and_true (sv.grants_now t now) _ e in At_once ino mode (not_true _ z.0) w (not_true _ (and_true _ _ z.1).1)) (λ e. In_turn ino mode w)
 
-  w_acquired : (t : Turn) (ino : ℕ) (mode : Mode) (a : locks.Acquired) → is_request m.body ≡ true → Free t.state m → Acquired (grace.is_on t.state.grace now) t.state.locks (sender h) (life_in h) a.locks → P t → P (serve h (sv.acquire_by t ino mode (Ok a)))
+  w_acquired : (t : Turn) (ino : ℕ) (mode : Mode) (a : locks.Acquired) → First t → Has_session t → is_request m.body ≡ true → Free t.state m → Acquired (grace.is_on t.state.grace now) t.state.locks (sender h) (life_in h) a.locks → P t → P (serve h (sv.acquire_by t ino mode (Ok a)))
   unfolding serve keep sv.acquire_by
-  w_acquired t ino mode a r f q p = edit (Acquires t m a.locks (sv.verdict_body ino mode a.verdict) refl (record { calm = kept_calm _ (verdict a.verdict); free = λ d. f; request = r }) (verdict a.verdict) q) p
+  w_acquired t ino mode a first has r f q p = edit (Acquires t m a.locks (sv.verdict_body ino mode a.verdict) refl first.is has (record { calm = kept_calm _ (verdict a.verdict); free = λ d. f; request = r }) (verdict a.verdict) q) p
     where
       verdict : (v : Verdict) → is_kept (sv.verdict_body ino mode v) ≡ true
       verdict (verdicts.Granted g held) = refl
@@ -265,15 +270,15 @@ module _ (n : ServerState) (now : Stamp) (m : Message) (P : Turn → Type 0) (ke
   unfolding sv.acquire_by acquire_held
   w_held t ino mode x r f p = answer t _ r refl f p
 
-  w_acquire_at : (t : Turn) (ino : ℕ) (mode : Mode) (o : Option LockRow) → is_request m.body ≡ true → Free t.state m → 1 ≤ number_of mode → P t → P (serve h (sv.acquire_by t ino mode (acquire_at t.state.locks (sender h) (life_in h) ino mode (sv.grants_now t now) o)))
+  w_acquire_at : (t : Turn) (ino : ℕ) (mode : Mode) (o : Option LockRow) → First t → Has_session t → is_request m.body ≡ true → Free t.state m → 1 ≤ number_of mode → P t → P (serve h (sv.acquire_by t ino mode (acquire_at t.state.locks (sender h) (life_in h) ino mode (sv.grants_now t now) o)))
   unfolding acquire_at acquire_new acquire_over acquire_held
-  w_acquire_at t ino mode None r f w p =
-      cond_either Q (locks.has_place t.state.locks (sender h) ino) (Ok _) (Err TooManyLocks) (λ e. w_acquired t ino mode _ r f (w_more t (sender h) (life_in h) ino mode w) p) (λ e. w_full t ino mode r f p)
+  w_acquire_at t ino mode None first has r f w p =
+      cond_either Q (locks.has_place t.state.locks (sender h) ino) (Ok _) (Err TooManyLocks) (λ e. w_acquired t ino mode _ first has r f (w_more t (sender h) (life_in h) ino mode w) p) (λ e. w_full t ino mode r f p)
     where
       Q : Res locks.Acquired AcquireRefusal → Type 0
       Q x = P (serve h (sv.acquire_by t ino mode x))
-  w_acquire_at t ino mode (Some x) r f w p =
-      cond_either Q _ (acquire_held t.state.locks x) (acquire_more t.state.locks (sender h) (life_in h) ino mode (sv.grants_now t now)) (λ e. w_held t ino mode x r f p) (λ e. w_acquired t ino mode _ r f (w_more t (sender h) (life_in h) ino mode w) p)
+  w_acquire_at t ino mode (Some x) first has r f w p =
+      cond_either Q _ (acquire_held t.state.locks x) (acquire_more t.state.locks (sender h) (life_in h) ino mode (sv.grants_now t now)) (λ e. w_held t ino mode x r f p) (λ e. w_acquired t ino mode _ first has r f (w_more t (sender h) (life_in h) ino mode w) p)
     where
       Q : locks.Acquired → Type 0
       Q x = P (serve h (sv.acquire_by t ino mode (Ok x)))
@@ -351,42 +356,42 @@ module _ (n : ServerState) (now : Stamp) (m : Message) (P : Turn → Type 0) (ke
   unfolding serve keep
   silent t p = p
 
-  w_rule : (t : Turn) (b : Body) → is_request m.body ≡ true → Free t.state m → Wish b → P t → P (serve h (rule t now h b))
+  w_rule : (t : Turn) (b : Body) → First t → Has_session t → is_request m.body ≡ true → Free t.state m → Wish b → P t → P (serve h (rule t now h b))
   unfolding rule sv.keep_alive sv.acquire sv.acquire_lock sv.no_file locks.acquire sv.released locks.released sv.map sv.map_held sv.map_page sv.not_holder sv.allocate sv.allocate_held sv.allocate_pages sv.cut sv.cut_held sv.cut_from
-  w_rule t bd.KeepAlive r f w p = answer t _ r refl f p
-  w_rule t (bd.Acquire i md) r f w p = cond_either A (sv.is_file t i) (sv.acquire_lock t now h i md) (sv.no_file t i) (λ e. w_acquire_at t i md _ r f w p) (λ e. answer t _ r refl f p)
+  w_rule t bd.KeepAlive first has r f w p = answer t _ r refl f p
+  w_rule t (bd.Acquire i md) first has r f w p = cond_either A (sv.is_file t i) (sv.acquire_lock t now h i md) (sv.no_file t i) (λ e. w_acquire_at t i md _ first has r f w p) (λ e. answer t _ r refl f p)
     where
       A : Replied → Type 0
       A a = P (serve h a)
-  w_rule t (bd.Released i g to) r f w p = w_released_at t i g to _ r f p
-  w_rule t (bd.Map i g pg) r f w p = cond_either A (sv.is_file t i) (sv.map_held t h i g pg) (sv.no_file t i) (λ e. cond_either A (sv.holds t h i g modes.S) (sv.map_page t i pg) (sv.not_holder t i g) (λ e. answer t _ r refl f p) (λ e. answer t _ r refl f p)) (λ e. answer t _ r refl f p)
+  w_rule t (bd.Released i g to) first has r f w p = w_released_at t i g to _ r f p
+  w_rule t (bd.Map i g pg) first has r f w p = cond_either A (sv.is_file t i) (sv.map_held t h i g pg) (sv.no_file t i) (λ e. cond_either A (sv.holds t h i g modes.S) (sv.map_page t i pg) (sv.not_holder t i g) (λ e. answer t _ r refl f p) (λ e. answer t _ r refl f p)) (λ e. answer t _ r refl f p)
     where
       A : Replied → Type 0
       A a = P (serve h a)
-  w_rule t (bd.Allocate i g pg k) r f w p = cond_either A (sv.is_file t i) (sv.allocate_held t h i g pg k) (sv.no_file t i) (λ e. cond_either A (sv.holds t h i g modes.X) (sv.allocate_pages t i pg k) (sv.not_holder t i g) (λ e. w_allocated t i pg k _ r f p) (λ e. answer t _ r refl f p)) (λ e. answer t _ r refl f p)
+  w_rule t (bd.Allocate i g pg k) first has r f w p = cond_either A (sv.is_file t i) (sv.allocate_held t h i g pg k) (sv.no_file t i) (λ e. cond_either A (sv.holds t h i g modes.X) (sv.allocate_pages t i pg k) (sv.not_holder t i g) (λ e. w_allocated t i pg k _ r f p) (λ e. answer t _ r refl f p)) (λ e. answer t _ r refl f p)
     where
       A : Replied → Type 0
       A a = P (serve h a)
-  w_rule t (bd.Cut i g pg) r f w p = cond_either A (sv.is_file t i) (sv.cut_held t h i g pg) (sv.no_file t i) (λ e. cond_either A (sv.holds t h i g modes.X) (sv.cut_from t i pg) (sv.not_holder t i g) (λ e. answer _ _ r refl (cut_free t i pg f) (w_cut t i pg p)) (λ e. answer t _ r refl f p)) (λ e. answer t _ r refl f p)
+  w_rule t (bd.Cut i g pg) first has r f w p = cond_either A (sv.is_file t i) (sv.cut_held t h i g pg) (sv.no_file t i) (λ e. cond_either A (sv.holds t h i g modes.X) (sv.cut_from t i pg) (sv.not_holder t i g) (λ e. answer _ _ r refl (cut_free t i pg f) (w_cut t i pg p)) (λ e. answer t _ r refl f p)) (λ e. answer t _ r refl f p)
     where
       A : Replied → Type 0
       A a = P (serve h a)
-  w_rule t (bd.Name op) r f w p = w_name t op r f p
-  w_rule t b r f w p = silent t p
+  w_rule t (bd.Name op) first has r f w p = w_name t op r f p
+  w_rule t b first has r f w p = silent t p
 
-  w_request_by : (t : Turn) (b : Body) (tk : Taken Body) → is_request m.body ≡ true → Free t.state m → Take_ok (sessions.session_of t.state.sessions (sender h)) h.life h.number tk → Wish b → P t → P (request_by t now h b tk)
+  w_request_by : (t : Turn) (b : Body) (tk : Taken Body) → First t → is_request m.body ≡ true → Free t.state m → Take_ok (sessions.session_of t.state.sessions (sender h)) h.life h.number tk → Wish b → P t → P (request_by t now h b tk)
   unfolding request_by refuse_epoch
-  w_request_by t b takes.OtherEpoch r f k w p = says t _ r refl (λ d. cc) p
-  w_request_by t b takes.NoSession r f k w p = says t _ r refl (λ d. cc) p
-  w_request_by t b takes.Stale r f k w p = p
-  w_request_by t b (takes.Again x) r f k w p = edit (Repeats t m k.0 h.number x refl r f k.1 k.3) p
-  w_request_by t b takes.OutOfOrder r f k w p = p
-  w_request_by t b takes.Fresh r f k w p = w_rule t b r f w p
+  w_request_by t b takes.OtherEpoch first r f k w p = says t _ r refl (λ d. cc) p
+  w_request_by t b takes.NoSession first r f k w p = says t _ r refl (λ d. cc) p
+  w_request_by t b takes.Stale first r f k w p = p
+  w_request_by t b (takes.Again x) first r f k w p = edit (Repeats t m k.0 h.number x refl r f k.1 k.3) p
+  w_request_by t b takes.OutOfOrder first r f k w p = p
+  w_request_by t b takes.Fresh first r f k w p = w_rule t b first (ap is_some k.1) r f w p
 
   w_request : (t : Turn) (b : Body) → m.body ≡ b → First t → h.epoch ≡ t.state.stable.epoch.0 → is_request m.body ≡ true → Free t.state m → Wish b → P t → P (request t now h b)
   unfolding request
   w_request t (bd.Reassert rs) e first ep r f w p = w_reassert t rs e first ep f w p
-  w_request t b e first ep r f w p = w_request_by t b (sv.take t h) r f (taken_ok t.state.sessions (sender h) (life_in h) (record { 0 = h.epoch }) h.number) w p
+  w_request t b e first ep r f w p = w_request_by t b (sv.take t h) first r f (taken_ok t.state.sessions (sender h) (life_in h) (record { 0 = h.epoch }) h.number) w p
 
   w_of_epoch : (t : Turn) (b : Body) → m.body ≡ b → First t → is_request m.body ≡ true → Free t.state m → Wish b → P t → P (of_epoch t now h b)
   unfolding of_epoch refuse_epoch

@@ -1,22 +1,29 @@
 -- What stands between events at a server of the world, for all its clients at once.
-use Rattle.std.specs.Prelude.{◌≡◌, ◌≢◌, ℕ, ◌≤◌, true, false, Some, None}
+use Rattle.std.specs.Prelude.{◌≡◌, ◌≢◌, ℕ, ◌+◌, ◌≤◌, length, true, false, Some, None, is_some}
 use Rattle.std.specs.List.{list_all}
 use Rattle.st_base.specs.declared.ids.ClientId.{ClientId}
 use Rattle.st_base.specs.declared.ids.Life.{Life}
 use Rattle.st_base.specs.declared.ids.NodeId.TheVariants as nodes
 use Rattle.st_base.specs.declared.ids.ServerId.{ServerId}
+use Rattle.st_base.specs.declared.ids.Stamp.{Stamp}
 use Rattle.st_base.specs.Mode.{number_of, conflicts}
 use Rattle.st_messages.specs.declared.event.Event.{Event}
 use Rattle.st_messages.specs.declared.event.Event.TheVariants as events
 use Rattle.st_rules.specs.declared.locks.LockRow.{LockRow}
 use Rattle.st_rules.specs.declared.locks.Waiter.{Waiter}
+use Rattle.st_rules.specs.declared.sessions.Session.{Session}
+use Rattle.st_rules.specs.declared.sessions.SessionState.{SessionState}
+use Rattle.st_rules.specs.declared.sessions.SessionState.TheVariants.{Live, Ended}
 use Rattle.st_rules.specs.declared.world.SentMessage.{SentMessage}
 use Rattle.st_rules.specs.Locks.{Locks, row_of}
-use Rattle.st_rules.specs.Server.{ServerNode}
-use Rattle.st_rules.specs.World.{World, ClientSite, site_of, ended_of, message_of, receiver_of, server}
+use Rattle.st_rules.specs.declared.authority.Suspect.{Suspect}
+use Rattle.st_rules.specs.Sessions.{session_of}
+use Rattle.st_rules.specs.Grace as grace
+use Rattle.st_rules.specs.Server.{ServerState, ServerNode}
+use Rattle.st_rules.specs.World.{World, ClientSite, clock_of, site_of, ended_of, message_of, receiver_of, server}
 use Rattle.st_rules.specs.Events.{Scene}
 use Rattle.st_rules.specs.History.{Traced}
-use Rattle.st_rules.specs.Safety.{is_late}
+use Rattle.st_rules.specs.Safety.{is_late, is_conflict, is_no_conflict}
 use Rattle.st_assoc.specs.Assoc as net
 use Rattle.st_assoc.specs.Assoc.{Config, Reached}
 use Rattle.st_views.specs.Halves.{Ghost}
@@ -45,19 +52,26 @@ pub record Settings (k : Config) (w : World) : Type 0 where
   pub lease : (c : ClientId) (site : ClientSite) → site_of w c ≡ Some site → site.node.state.config.lease ≡ k.lease
   pub ended : (c : ClientId) (s : ServerId) (life : Life) → site_of w c ≡ None → ended_of w c s life ≡ None
 
+-- the locks that were granted in the epoch, and the waits
+abbrev pub taken_locks : Locks → ℕ
+taken_locks l = l.grants + length l.waiters
+
+-- Grants and waits of an epoch are few: each was paid for by a message, and a step is taken only while messages have fewer than
+-- 2^29 bytes.
+pub record Few (bytes : ℕ) (n : ServerState) : Type 0 where
+  pub paid : taken_locks n.locks ≤ bytes
+  pub few : taken_locks n.locks ≤ 536870912
+
+-- Each row, each wait and each timer at a server is of a client that has a session.
+pub record Known (n : ServerState) : Type 0 where
+  pub rows : (r : LockRow) → Has r n.locks.rows → is_some (session_of n.sessions r.client) ≡ true
+  pub waits : (w : Waiter) → Has w n.locks.waiters → is_some (session_of n.sessions w.client) ≡ true
+  pub timers : (x : Suspect) → Has x n.authority.suspects → is_some (session_of n.sessions x.client) ≡ true
+
 -- an event in which a server takes a step: a tick, or a message to it that is delivered
 pub data Steps_at (s : ℕ) (w : World) (e : Event) : Type 0 where
   By_tick : e ≡ events.Tick (nodes.Server (server s)) → Steps_at s w e
   By_message : (n : ℕ) (m : SentMessage) → e ≡ events.Deliver n → message_of w n ≡ Some m → receiver_of m ≡ nodes.Server (server s) → Steps_at s w e
-
--- After a step of a server all stands again, and its thefts were late for every lease that a reply dated.
-pub record After_step (k : Config) (s : ℕ) (ended : ℕ → ℕ → ℕ) (w : World) (sc : Scene) (G : ℕ → Ghost) : Type 0 where
-  pub node : ServerNode
-  pub ghosts : ℕ → Ghost
-  pub runs : node.running ≡ true
-  pub stands : Stands k s ended sc.world node ghosts
-  pub late : (t : Traced) → t.world ≡ w → Dates_known w t.history.dates → ((c : ℕ) → Dates_shown k.lease c s t.history.dates (G c).net) →
-      list_all (is_late t) sc.seen ≡ true
 
 -- After an advance all stands again, also of the clocks.
 pub record After_advance (k : Config) (s : ℕ) (ended : ℕ → ℕ → ℕ) (v : World) (node : ServerNode) (G : ℕ → Ghost) : Type 0 where
@@ -65,3 +79,30 @@ pub record After_advance (k : Config) (s : ℕ) (ended : ℕ → ℕ → ℕ) (v
   pub stands : Stands k s ended v node ghosts
   pub timed : Timed k s v ghosts
   pub nets : (c : ℕ) → (ghosts c).net ≡ (G c).net
+
+-- a client has one row on a file
+abbrev pub Single : Locks → Type 0
+Single l = (r : LockRow) → Has r l.rows → row_of l r.client r.ino ≡ Some r
+
+-- a kept reply is no conflict
+abbrev pub Calm_state : SessionState → Type 0
+Calm_state (Live last None) = Unit {0}
+Calm_state (Live last (Some b)) = is_conflict b ≡ false
+Calm_state Ended = Unit {0}
+
+-- What no conflict rests on at a server: in grace each client has one row on a file, and no kept reply is a conflict.
+pub record Calm (n : ServerState) (now : Stamp) : Type 0 where
+  pub single : grace.is_on n.grace now ≡ true → Single n.locks
+  pub kept : (s : Session) → Has s n.sessions.rows → Calm_state s.state
+
+-- After a step of a server all stands again, its thefts were late for every lease that a reply dated, and it sent no conflict.
+pub record After_step (k : Config) (s : ℕ) (ended : ℕ → ℕ → ℕ) (w : World) (sc : Scene) (before : ServerNode) (G : ℕ → Ghost) : Type 0 where
+  pub node : ServerNode
+  pub ghosts : ℕ → Ghost
+  pub runs : node.running ≡ true
+  pub stands : Stands k s ended sc.world node ghosts
+  pub late : (t : Traced) → t.world ≡ w → Dates_known w t.history.dates → ((c : ℕ) → Dates_shown k.lease c s t.history.dates (G c).net) →
+      list_all (is_late t) sc.seen ≡ true
+  pub calm : Calm before.state (clock_of w (nodes.Server (server s))) → Calm node.state (clock_of sc.world (nodes.Server (server s)))
+  pub few : Few w.net.bytes before.state → Few sc.world.net.bytes node.state
+  pub quiet : Calm before.state (clock_of w (nodes.Server (server s))) → list_all is_no_conflict sc.seen ≡ true

@@ -1,10 +1,15 @@
-//! The parts of a server beside plain lists and beside an independent reading of the rules: sessions, suspicion and grace.
+//! The parts of a server beside plain lists and beside an independent reading of the rules: extents, sessions, suspicion,
+//! grace and reassertion.
 #![tactic(auto)]
 
+#[cfg(test)]
+mod accepting;
 #[cfg(test)]
 mod authority;
 #[cfg(test)]
 mod draws;
+#[cfg(test)]
+mod extents;
 #[cfg(test)]
 mod reassert;
 #[cfg(test)]

@@ -1,5 +1,5 @@
 -- What calls on sessions leave.
-use Rattle.std.specs.Prelude.{Bool, if◌then◌else◌}
+use Rattle.std.specs.Prelude.{if◌then◌else◌}
 use Rattle.st_base.specs.declared.ids.ClientId.{ClientId}
 use Rattle.st_base.specs.declared.ids.Life.{Life}
 use Rattle.st_rules.specs.Sessions.{Sessions, Greeted, greeted, begin_session}

@@ -1,6 +1,5 @@
-use Rattle.std.proofs.Common.{◌≡◌, true, List, not, sym, ◌∙◌, ap}
-use Rattle.std.specs.Prelude.{filter, map}
-use Rattle.st_rules.specs.declared.authority.Suspect.{Suspect}
+use Rattle.std.proofs.Common.{not, ◌∙◌, ap}
+use Rattle.std.specs.Prelude.{map}
 use Rattle.st_rules.specs.Authority.{client_of_suspect, is_over}
 use Rattle.st_rules.specs.ServerInvariants.{are_rising}
 use Rattle.st_lease_server.proofs.Rising.{rising_filter}

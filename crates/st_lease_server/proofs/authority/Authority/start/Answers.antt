@@ -1,7 +1,6 @@
-use Rattle.std.proofs.Common.{◌≡◌, true, List, ◌∙◌, ap}
+use Rattle.std.proofs.Common.{◌≡◌, true, ◌∙◌, ap}
 use Rattle.std.specs.Prelude.{map}
 use Rattle.std.proofs.lemmas.Bool.{not-true}
-use Rattle.st_rules.specs.declared.authority.Suspect.{Suspect}
 use Rattle.st_rules.specs.Authority.{Authority, client_of_suspect, may_ack, new_suspect}
 use Rattle.st_rules.specs.ServerInvariants.{are_rising}
 use Rattle.st_lease_server.proofs.Rising.{rising_placed}

@@ -1,4 +1,4 @@
-use Rattle.std.proofs.Common.{◌≡◌, ℕ, true, List, Ok, Err, Result, OnOk, OnErr, sym, ◌∙◌, ap}
+use Rattle.std.proofs.Common.{◌≡◌, true, List, Ok, Err, Result, OnOk, OnErr, ◌∙◌, ap}
 use Rattle.st_rules.specs.declared.sessions.Session.{Session}
 use Rattle.st_rules.specs.Keys.{put}
 use Rattle.st_rules.specs.Sessions.{is_session_of}

@@ -1,11 +1,11 @@
-use Rattle.std.proofs.Common.{◌≡◌, ℕ, true, List, None, Some, set, sym, ◌∙◌, ap}
+use Rattle.std.proofs.Common.{◌≡◌, List, Some, set, sym, ◌∙◌, ap}
 use Rattle.std.specs.Prelude.{map, slice_get}
 use Rattle.std.proofs.lemmas.Option.{get_or_from_slice_get}
 use Rattle.st_messages.specs.declared.message.Body.{Body}
 use Rattle.st_rules.specs.declared.sessions.Session.{Session}
 use Rattle.st_rules.specs.declared.sessions.SessionState.{SessionState}
 use Rattle.st_rules.specs.ServerInvariants.{are_once, same_session}
-use Rattle.st_rules.specs.Sessions.{Sessions, store, is_live, keep_of, keep_reply, kept_state}
+use Rattle.st_rules.specs.Sessions.{store, is_live, keep_of, keep_reply, kept_state}
 use Rattle.st_sessions.proofs.Changed.{keeps, keeps_nothing, keep_once}
 use Rattle.st_sessions.proofs.sessions.Sessions.store.Goals as goal
 

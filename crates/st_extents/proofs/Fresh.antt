@@ -1,0 +1,81 @@
+-- Pages that are not mapped yet are mapped one after another.
+use Rattle.std.proofs.Common.{◌≡◌, ℕ, ◌+◌, ◌<◌, Bool, true, false, List, [], ◌∷◌, ◌++◌, filter, length, drop, get_or, refl, sym, ap, subst, ◌∙◌, ⊎_elim, true≢false}
+use Rattle.std.specs.Prelude.{find, not, is_some, ◌&&◌}
+use Rattle.std.specs.List.{AllByRecursion}
+use Rattle.std.proofs.lemmas.Bool.{cases_Bool}
+use Rattle.std.proofs.lemmas.List.{drop_more}
+use Rattle.std.proofs.lemmas.List.Elements.{All-weaker, filter_passes, recursion_from_All}
+use Rattle.std.proofs.lemmas.Map.Keys.{IsDistinct-head, IsDistinct-tail}
+use Rattle.st_base.specs.declared.ids.FileId.{FileId}
+use Rattle.st_base.specs.declared.ids.PageNo.{PageNo}
+use Rattle.st_base.specs.declared.disk.BlockAt.{BlockAt}
+use Rattle.st_rules.specs.declared.extents.Extent.{Extent}
+use Rattle.st_rules.specs.Keys.{same_file, same_page}
+use Rattle.st_rules.specs.Extents.{is_extent_of, no_extents, own_blocks, pages_from, place_on}
+use Rattle.st_extents.specs.Layout.{AreFresh, Shape, none_at, placed_first, unmapped_of, with_shape}
+use Rattle.st_extents.specs.Places.{IsMapped}
+use Rattle.st_extents.proofs.Blocks.{free_is}
+use Rattle.st_extents.proofs.Owned.{distinct_filter, not_true, pages_differ}
+
+-- A page is mapped as the definition says.
+module _ (s : Shape) (rows after : List Extent) (births : ℕ) (f : FileId) (p : PageNo) where
+  placed_true : (bs : List BlockAt) → IsMapped rows f p (births + 1) bs true after → with_shape s after (births + 1) ≡ place_on (with_shape s rows births) f p bs
+  unfolding place_on
+  placed_true [] h = absurd (true≢false h.0)
+  placed_true (b ∷ bs) h = ap (λ l. with_shape s l (births + 1)) h.1
+
+  placed_false : (bs : List BlockAt) → IsMapped rows f p (births + 1) bs false after → with_shape s after births ≡ place_on (with_shape s rows births) f p bs
+  unfolding place_on
+  placed_false [] h = ap (λ l. with_shape s l births) h.1
+  placed_false (b ∷ bs) h = absurd (true≢false (sym h.0))
+
+  pub mapped_is : (own : List BlockAt) → own ≡ own_blocks (no_extents s.server s.servers s.disks s.blocks) → IsMapped rows f p (births + 1) (filter (none_at rows) own) true after → with_shape s after (births + 1) ≡ placed_first s rows births f p
+  mapped_is own e h = placed_true (filter (none_at rows) own) h ∙ ap (place_on (with_shape s rows births) f p) (free_is s rows births own e)
+
+  pub stays_is : (own : List BlockAt) → own ≡ own_blocks (no_extents s.server s.servers s.disks s.blocks) → IsMapped rows f p (births + 1) (filter (none_at rows) own) false after → with_shape s after births ≡ placed_first s rows births f p
+  stays_is own e h = placed_false (filter (none_at rows) own) h ∙ ap (place_on (with_shape s rows births) f p) (free_is s rows births own e)
+
+-- Another page stays unmapped.
+other_page : (a b : Bool) → b ≡ false → (a && b) ≡ false
+other_page true b h = h
+other_page false b h = refl
+
+module _ (f : FileId) (p q : PageNo) where
+  push_unmapped : (rows : List Extent) (e : Extent) → is_some (find (is_extent_of f q) rows) ≡ false → is_extent_of f q e ≡ false → is_some (find (is_extent_of f q) (rows ++ e ∷ [])) ≡ false
+  push_unmapped [] e none other = rw other refl
+  push_unmapped (x ∷ rows) e none other =
+      ⊎_elim
+      (λ t. absurd (true≢false (rw t at none)))
+      (λ t. rw t (push_unmapped rows e (rw t at none) other))
+      (cases_Bool (is_extent_of f q x))
+
+  pub still_fresh : (rows after : List Extent) (birth : ℕ) (bs : List BlockAt) (r : Bool) → IsMapped rows f p birth bs r after → is_some (find (is_extent_of f q) rows) ≡ false → same_page p q ≡ false → is_some (find (is_extent_of f q) after) ≡ false
+  still_fresh rows after birth [] r h none other = rw h.1 none
+  still_fresh rows after birth (b ∷ bs) r h none other =
+      rw h.1 (push_unmapped rows (record { file = f; page = p; at = b; birth = birth }) none (other_page (same_file f f) (same_page p q) other))
+
+module _ (rows : List Extent) (f : FileId) where
+  -- the first of the pages that are left
+  pub fresh_head : (ps : List PageNo) (i : ℕ) (d : PageNo) → i < length ps → AreFresh rows f (drop i ps) → is_some (find (is_extent_of f (get_or ps i d)) rows) ≡ false
+  fresh_head ps i d l h = (subst (AreFresh rows f) (drop_more ps i d l) h).unmapped.0
+
+  each : (after : List Extent) (p : PageNo) → ((q : PageNo) → is_some (find (is_extent_of f q) rows) ≡ false → same_page p q ≡ false → is_some (find (is_extent_of f q) after) ≡ false) → (qs : List PageNo) → AllByRecursion (λ q. is_some (find (is_extent_of f q) rows) ≡ false) qs → AllByRecursion (λ q. same_page p q ≡ false) qs → AllByRecursion (λ q. is_some (find (is_extent_of f q) after) ≡ false) qs
+  each after p still [] a b = tt
+  each after p still (q ∷ qs) a b = (still q a.0 b.0, each after p still qs a.1 b.1)
+
+  next : (after : List Extent) (p : PageNo) (qs : List PageNo) → ((q : PageNo) → is_some (find (is_extent_of f q) rows) ≡ false → same_page p q ≡ false → is_some (find (is_extent_of f q) after) ≡ false) → AreFresh rows f (p ∷ qs) → AreFresh after f qs
+  next after p qs still h = record { unmapped = each after p still qs h.unmapped.1 (IsDistinct-head same_page p qs h.apart); apart = IsDistinct-tail same_page p qs h.apart }
+
+  -- the pages that are left after one more is mapped
+  pub fresh_next : (after : List Extent) (ps : List PageNo) (i : ℕ) (d : PageNo) → i < length ps → ((q : PageNo) → is_some (find (is_extent_of f q) rows) ≡ false → same_page (get_or ps i d) q ≡ false → is_some (find (is_extent_of f q) after) ≡ false) → AreFresh rows f (drop i ps) → AreFresh after f (drop (i + 1) ps)
+  fresh_next after ps i d l still h = next after (get_or ps i d) (drop (i + 1) ps) still (subst (AreFresh rows f) (drop_more ps i d l) h)
+
+  -- the pages of a range that have no block
+  pub fresh_unmapped : (p : PageNo) (count : ℕ) → AreFresh rows f (unmapped_of rows f p count)
+  fresh_unmapped p count =
+      let test = λ (q : PageNo). not (is_some (find (is_extent_of f q) rows)) in
+      let ps = pages_from p count in
+      record {
+        unmapped = recursion_from_All (λ q. is_some (find (is_extent_of f q) rows) ≡ false) (filter test ps) (All-weaker (λ q. test q ≡ true) (λ q. is_some (find (is_extent_of f q) rows) ≡ false) (λ q h. not_true (is_some (find (is_extent_of f q) rows)) h) (filter test ps) (filter_passes test ps));
+        apart = distinct_filter same_page test ps (pages_differ p.0 count);
+      }

@@ -1,0 +1,15 @@
+use Rattle.std.proofs.Common.{◌<◌, true, length, arith, sym, ◌∙◌}
+use Rattle.std.proofs.lemmas.List.{get_or_read}
+use Rattle.st_extents.proofs.Taking.{few_free, given_counted}
+use Rattle.st_extents.proofs.taken.Taken.give.Goals as goal
+
+pub overflow_add-self : goal.overflow_add-self
+overflow_add-self c = omega (arith, few_free c.self.inside.places.items, c.self.invariant.counted, c.self.inside.places.ok.0, c.self.inside.places.small)
+
+pub invariant_of-self : goal.invariant_of-self
+invariant_of-self c =
+    let inside : c.args.place < length c.self.inside.places.items = rw (← c.self.view_is) at c.requires.within in
+    rw c.write.ensures
+    (given_counted c.self.inside.places.items c.self.inside.low c.self.inside.free c.args.place c.lower-self-inside.result c.self.invariant inside
+    (sym (get_or_read c.self.inside.places.items c.args.place c.index.result.now inside c.index.ensures true) ∙ c.if-index.true)
+    c.lower-self-inside.ensures.below_first c.lower-self-inside.ensures.below_second)

@@ -1,0 +1,170 @@
+use crate::draws::Draws;
+use st_base::{BlockAt, FileId, PageNo, ServerId};
+use st_extents::{ExtentRefusal, Extents};
+use std::alloc::{AllocError, Global};
+use std::test::Fail;
+
+/// A mapped page. Its block is six times its disk, and its number.
+#[derive(Clone, Copy)]
+struct Row {
+    ino: u32,
+    page: u32,
+    block: u32,
+    birth: u64,
+}
+
+/// The extents of a server with two disks of six blocks, as plain rows.
+#[derive(Drop)]
+struct Plain {
+    rows: Vec<Row>,
+    births: u64,
+}
+
+fn file(ino: u32) -> FileId {
+    FileId {
+        server: ServerId(1),
+        ino,
+    }
+}
+
+/// The block and the birth of a page.
+fn mapped(rows: &[Row], ino: u32, page: u32) -> Option<(u32, u64)> {
+    rows.iter()
+        .copied()
+        .find(|row| row.ino == ino && row.page == page)
+        .map(|row| (row.block, row.birth))
+}
+
+/// The blocks on which no page lies, in order.
+fn free_blocks(alloc: Global, rows: &[Row]) -> Result<Vec<u32>, AllocError> {
+    let mut blocks = Vec::new(alloc);
+    for block in 6..18 {
+        if !rows.iter().any(|row| row.block == block) {
+            blocks.push(block)?;
+        }
+    }
+    Ok(blocks)
+}
+
+/// The pages of a range that have no block.
+fn unmapped(
+    alloc: Global,
+    rows: &[Row],
+    ino: u32,
+    page: u32,
+    count: u32,
+) -> Result<Vec<u32>, AllocError> {
+    let mut pages = Vec::new(alloc);
+    for place in 0..count {
+        let next = page.wrapping_add(place);
+        if mapped(rows, ino, next).is_none() {
+            pages.push(next)?;
+        }
+    }
+    Ok(pages)
+}
+
+impl Plain {
+    /// Maps a page to the first of these blocks.
+    fn place(&mut self, ino: u32, page: u32, blocks: &[u32]) -> Result<(), AllocError> {
+        self.births = self.births.wrapping_add(1);
+        if let Some(block) = blocks.first().copied() {
+            self.rows.push(Row {
+                ino,
+                page,
+                block,
+                birth: self.births,
+            })?;
+        }
+        Ok(())
+    }
+
+    /// Maps the pages of a range, or returns how many blocks are free and how many were asked for.
+    fn allocate(
+        &mut self,
+        alloc: Global,
+        ino: u32,
+        page: u32,
+        count: u32,
+    ) -> Result<Option<(u64, u64)>, AllocError> {
+        let pages = unmapped(alloc, self.rows.as_slice(), ino, page, count)?;
+        let free = free_blocks(alloc, self.rows.as_slice())?;
+        if free.len() < pages.len() {
+            return Ok(Some((free.len() as u64, pages.len() as u64)));
+        }
+        for page in pages.iter().copied() {
+            let blocks = free_blocks(alloc, self.rows.as_slice())?;
+            self.place(ino, page, blocks.as_slice())?;
+        }
+        Ok(None)
+    }
+}
+
+fn number(at: BlockAt) -> u32 {
+    u32::from(at.disk.0).wrapping_mul(6).wrapping_add(at.block)
+}
+
+/// One call on both; whether the answers are the same.
+fn same(
+    alloc: Global,
+    extents: &mut Extents,
+    plain: &mut Plain,
+    draws: &mut Draws,
+) -> Result<bool, AllocError> {
+    let ino = 2 + draws.draw(3) as u32;
+    let page = draws.draw(8) as u32;
+    if draws.draw(3) == 0 {
+        extents.release_from(file(ino), PageNo(page));
+        plain.rows.retain(|row| row.ino != ino || row.page < page);
+        return Ok(true);
+    }
+    let count = draws.draw(5) as u32;
+    if extents.next_birth() > 1_000_000 {
+        return Ok(false);
+    }
+    let wanted = plain.allocate(alloc, ino, page, count)?;
+    match extents.allocate(file(ino), PageNo(page), count) {
+        Ok(()) => Ok(wanted.is_none()),
+        Err(ExtentRefusal::NoSpace { free, asked }) => Ok(wanted == Some((free, asked))),
+        Err(ExtentRefusal::Memory) => Err(AllocError),
+    }
+}
+
+/// Whether both know the same of a page, and have the same counts.
+fn agree(
+    alloc: Global,
+    extents: &Extents,
+    plain: &Plain,
+    ino: u32,
+    page: u32,
+) -> Result<bool, AllocError> {
+    let told = extents
+        .map(file(ino), PageNo(page))
+        .map(|(at, birth)| (number(at), birth));
+    let free = free_blocks(alloc, plain.rows.as_slice())?;
+    Ok(
+        told == mapped(plain.rows.as_slice(), ino, page)
+            && extents.free() as usize == free.len()
+            && extents.mapped() as usize == plain.rows.len()
+            && extents.next_birth() == plain.births.wrapping_add(1),
+    )
+}
+
+#[test]
+fn extents_are_plain_rows(rt: HostRuntime) -> Result<(), Fail> {
+    let mut extents = Extents::new(rt.alloc(), ServerId(1), 1, 2, 6)?;
+    let mut plain = Plain {
+        rows: Vec::new(rt.alloc()),
+        births: 0,
+    };
+    let mut draws = Draws::new(1);
+    for _step in 0..10_000 {
+        let agreed = same(rt.alloc(), &mut extents, &mut plain, &mut draws)?;
+        assert!(rt; agreed);
+        let ino = 2 + draws.draw(3) as u32;
+        let page = draws.draw(8) as u32;
+        let told = agree(rt.alloc(), &extents, &plain, ino, page)?;
+        assert!(rt; told);
+    }
+    Ok(())
+}
