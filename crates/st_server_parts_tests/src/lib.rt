@@ -1,9 +1,7 @@
-//! The parts of a server beside plain lists and beside an independent reading of the rules: extents, sessions, suspicion,
-//! grace and reassertion.
+//! The parts of a server beside plain lists and beside an independent reading of the rules: extents, sessions, suspicion and
+//! grace.
 #![tactic(auto)]
 
-#[cfg(test)]
-mod accepting;
 #[cfg(test)]
 mod authority;
 #[cfg(test)]
