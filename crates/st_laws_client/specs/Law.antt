@@ -42,7 +42,8 @@ pub record Client_result (k : Config) (b d : Beside) (now : ℕ) (hs : List Msg)
 -- no life ended and the lease lasts, or the present life ended and a later one began
 abbrev pub Life_ends : Config → ℕ → Association → ℕ → (ℕ → ℕ) → (ℕ → ℕ) → Type 0
 Life_ends k now a last e f =
-    record { lasts : Lasts k.lease now a.session; same : f ≡ e; life : a.life.0 ≤ last } ⊎ record { ended : f ≡ upd e a.life.0 (end_now k (client_of e now a)); life : a.life.0 < last }
+    record { lasts : Lasts k.lease now a.session; same : f ≡ e; life : a.life.0 ≤ last } ⊎
+    record { ended : f ≡ upd e a.life.0 (end_now k (client_of e now a)); life : a.life.0 < last }
 
 -- a whole step: the lives that are over have their ends
 pub record Client_step (k : Config) (b : Beside) (now : ℕ) (hs : List Msg) (own : ServerId) (a : Association) (U : ClientTurn) (N : List Msg) : Type 0 where
@@ -58,7 +59,11 @@ Heard_of input = Unit {0}
 
 -- what an input brings to a client from this server
 abbrev pub Comes : ServerId → ℕ → ClientInput → List Msg → Type 0
-Comes own id (inputs.Control m) hs = record { shows : m.header.from ≡ server_node own → m.header.to ≡ id → Shows m.header.life m.header.epoch m.header.stamp (shown m.header.number m.body) hs; fine : (x : ServerId) → m.header.from ≡ server_node x → Fine m.body }
+Comes own id (inputs.Control m) hs =
+    record {
+      shows : m.header.from ≡ server_node own → m.header.to ≡ id → Shows m.header.life m.header.epoch m.header.stamp (shown m.header.number m.body) hs;
+      fine : (x : ServerId) → m.header.from ≡ server_node x → Fine m.body;
+    }
 Comes own id input hs = Unit {0}
 
 -- a step of a client, whatever comes, is for its association with a server a list of moves, and what stood before it stands after it

@@ -101,7 +101,8 @@ pub record World_left (w : World) (c : ClientId) (site : ClientSite) (input : Cl
 
 -- What a client's step makes of its association with one server: moves, and what stood of it stands again, with the messages that
 -- it said; and a lease that is held then lasts.
-pub record Own_moves (k : Config) (b : Beside) (w : World) (c : ClientId) (site : ClientSite) (input : ClientInput) (own : ServerId) (a : Association) (N : List Msg) : Type 0 where
+pub record Own_moves (k : Config) (b : Beside) (w : World) (c : ClientId) (site : ClientSite) (input : ClientInput) (own : ServerId)
+    (a : Association) (N : List Msg) : Type 0 where
   pub ended : ℕ → ℕ
   pub last : Association
   pub ends : Life_ends k (clock_of w (nodes.Client c)).0 a last.life.0 b.ended ended
