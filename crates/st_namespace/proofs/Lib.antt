@@ -3,3 +3,4 @@ pub mod Rows
 pub mod Kept
 pub mod Climbs
 pub mod Rules
+pub mod Searches
