@@ -1,4 +1,5 @@
 pub mod Bytes
+pub mod Ordered
 pub mod Rows
 pub mod Kept
 pub mod Climbs

@@ -1,4 +1,4 @@
-use Rattle.std.proofs.Common.{◌≡◌, ◌≤◌, ◌<◌, ◌-◌, ℕ, get_or, length}
+use Rattle.std.proofs.Common.{◌≤◌, ◌<◌, ◌-◌, ℕ, get_or, length}
 use Rattle.st_rules.specs.declared.names.NameEntry.{NameEntry}
 use Rattle.st_namespace.proofs.entries.place_of_ino.Given as goal
 
