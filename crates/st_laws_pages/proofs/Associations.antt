@@ -1,5 +1,5 @@
 -- Look-ups among the associations of a client, and among the lives that a step says to be lost.
-use Rattle.std.proofs.Common.{◌≡◌, ℕ, ◌⊎◌, Bool, true, false, ◌&&◌, List, [], ◌∷◌, ◌++◌, ◌==◌, Option, Some, None, refl, sym, ap, ◌∙◌, subst, inl, inr, if◌then◌else◌}
+use Rattle.std.proofs.Common.{◌≡◌, Bool, true, false, ◌&&◌, List, [], ◌∷◌, ◌++◌, ◌==◌, Some, None, refl, sym, ap, ◌∙◌, subst, inl, inr, if◌then◌else◌}
 use Rattle.std.specs.Prelude.{find, map}
 use Rattle.std.proofs.lemmas.Bool.{eqb-true, eq-eqb}
 use Rattle.st_base.specs.declared.ids.ClientId.{ClientId}
@@ -12,7 +12,6 @@ use Rattle.st_rules.specs.ClientState.{Association, ClientState, is_at}
 use Rattle.st_rules.specs.World.{is_life_of}
 use Rattle.st_lemmas.specs.Lists.{Has}
 use Rattle.st_lemmas.proofs.Lookups.{some_is}
-use Rattle.st_lemmas.proofs.Tables.{has_append}
 use Rattle.st_laws_pages.specs.Losses.{is_ended}
 use Rattle.st_laws_pages.specs.Lives.{lost_row, row_lost, rows_lost, Pairwise, Once, server_number}
 

@@ -1,7 +1,6 @@
 -- Drops have a cause: the law at a step.
-use Rattle.std.proofs.Common.{◌≡◌, ℕ, Bool, List, [], ◌∷◌, ◌++◌, Option, Some, None, Ok, Err, refl, sym, ap, ◌∙◌, subst}
+use Rattle.std.proofs.Common.{◌≡◌, ℕ, Bool, [], ◌∷◌, ◌++◌, Option, Some, None, Ok, Err, refl, sym, ap, ◌∙◌, subst}
 use Rattle.std.specs.Prelude.{Result}
-use Rattle.st_messages.specs.declared.event.Event.{Event}
 use Rattle.st_messages.specs.declared.event.Event.TheVariants as events
 use Rattle.st_rules.specs.declared.observation.WorldRefusal.{WorldRefusal}
 use Rattle.st_rules.specs.Disks as disks
@@ -10,7 +9,7 @@ use Rattle.st_rules.specs.World.{World}
 use Rattle.st_rules.specs.Admissible as adm
 use Rattle.st_rules.specs.Events as ev
 use Rattle.st_rules.specs.Events.{Scene}
-use Rattle.st_rules.specs.Safety.{Step, step, DropsHaveACause}
+use Rattle.st_rules.specs.Safety.{step, DropsHaveACause}
 use Rattle.st_laws_pages.specs.World.{PagesHold}
 use Rattle.st_laws_pages.specs.Causes.{Causes_hold, Steps_keep_causes}
 use Rattle.st_laws_pages.proofs.Grows.{happens_causes}

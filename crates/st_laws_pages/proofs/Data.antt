@@ -1,12 +1,12 @@
 -- What follows for the clients' data.
-use Rattle.std.proofs.Common.{◌≡◌, ℕ, ◌≤◌, ◌<◌, ◌⊎◌, Bool, true, false, List, [], ◌∷◌, Option, Some, None, refl, sym, ap, ◌∙◌, subst, inl, inr, arith}
+use Rattle.std.proofs.Common.{◌≡◌, Bool, true, false, List, [], ◌∷◌, Some, None, refl, sym, ap, ◌∙◌, subst, inl, inr, arith}
 use Rattle.st_base.specs.declared.ids.Stamp.{Stamp}
 use Rattle.st_rules.specs.declared.log.LogEntry.{LogEntry}
 use Rattle.st_rules.specs.declared.log.LogOwner.{LogOwner}
 use Rattle.st_rules.specs.FlatLog as log
 use Rattle.st_rules.specs.FlatLog.{same_owner, owner}
 use Rattle.st_rules.specs.World.{World, ended_of}
-use Rattle.st_laws_pages.specs.Fates.{Before_end, Gone_all, Is_crashed, Is_late}
+use Rattle.st_laws_pages.specs.Fates.{Before_end, Gone_all}
 use Rattle.st_laws_pages.specs.Data.{Unmapped_is_zeros, Block_is_content, Done_write_is_hard}
 use Rattle.st_laws_pages.proofs.Folds.{owner_parts}
 use Rattle.st_laws_pages.proofs.Lasting.{no_option}

@@ -1,5 +1,5 @@
 -- The last write of an owner whose entries are gone stays, in every event; and what is owed at an event for the causes of drops.
-use Rattle.std.proofs.Common.{◌≡◌, ℕ, ◌+◌, ◌⊎◌, Bool, true, false, ◌&&◌, not, List, [], ◌∷◌, ◌++◌, Option, Some, None, Ok, Err, refl, sym, ap, ◌∙◌, subst, inl, inr, if◌then◌else◌}
+use Rattle.std.proofs.Common.{◌≡◌, ℕ, ◌+◌, ◌⊎◌, Bool, true, false, List, [], ◌∷◌, ◌++◌, Option, Some, None, Ok, Err, refl, sym, ap, ◌∙◌, subst, inl, inr, if◌then◌else◌}
 use Rattle.std.specs.Prelude.{Result, filter, map}
 use Rattle.std.specs.List.{list_any}
 use Rattle.st_base.specs.declared.ids.ClientId.{ClientId}
@@ -16,9 +16,6 @@ use Rattle.st_messages.specs.declared.output.Output.TheVariants as outputs
 use Rattle.st_rules.specs.declared.client.ClientInput.{ClientInput}
 use Rattle.st_rules.specs.declared.client.ClientInput.TheVariants as inputs
 use Rattle.st_rules.specs.declared.input.ServerInput.{ServerInput}
-use Rattle.st_rules.specs.declared.log.Cause.TheVariants as causes
-use Rattle.st_rules.specs.declared.log.Fate.{Fate}
-use Rattle.st_rules.specs.declared.log.Fate.TheVariants as fates
 use Rattle.st_rules.specs.declared.log.LogEntry.{LogEntry}
 use Rattle.st_rules.specs.declared.log.LogOwner.{LogOwner}
 use Rattle.st_rules.specs.declared.node.StepRefusal.{StepRefusal}
@@ -42,11 +39,10 @@ use Rattle.st_lemmas.proofs.Numbers.{numbered_own}
 use Rattle.st_laws_pages.specs.World.{Holds_by, PagesHold, Timely}
 use Rattle.st_laws_pages.specs.Owed.{Timely_in, Node_owes, Takes_owes, At_client, At_node, At_delivery, At_end, At_told, At_report, Owed, FatesHold}
 use Rattle.st_laws_pages.specs.Fates.{Gone_all, Gone_hold}
-use Rattle.st_laws_pages.specs.Lives.{ended_rows, Stepped, Is_known, owner_of, LivesHold}
+use Rattle.st_laws_pages.specs.Lives.{owner_of, LivesHold}
 use Rattle.st_laws_pages.specs.Causes.{Crashes_known, Failed_stay, Flush_owes, Drops_owe, Advances_owe, Causes_owed, Crash_site_owes, life_owner}
 use Rattle.st_laws_pages.proofs.Causes.{same_failed}
 use Rattle.st_laws_pages.proofs.Moves.{later}
-use Rattle.st_laws_pages.proofs.Turning.{Said, says_lives}
 use Rattle.st_laws_pages.proofs.Lasting.{Flushed, flush_parts, present_is}
 use Rattle.st_laws_pages.proofs.LifeSteps.{steps_so}
 use Rattle.st_laws_pages.proofs.GoneLaw.{Over}

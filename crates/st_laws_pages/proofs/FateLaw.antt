@@ -1,7 +1,7 @@
 -- What is pending is of a life before its lease end: every event keeps it, with no premise.
-use Rattle.std.proofs.Common.{◌≡◌, ◌≢◌, ℕ, ◌+◌, ◌≤◌, ◌<◌, ◌⊎◌, Bool, true, false, ◌&&◌, not, List, [], ◌∷◌, ◌++◌, ◌==◌, Option, Some, None, Ok, Err, refl, sym, ap, ◌∙◌, subst, inl, inr, arith, if◌then◌else◌}
-use Rattle.std.specs.Prelude.{Result, find, map, nat_le, unwrap_or, zero, suc, slice_get, option_map}
-use Rattle.std.proofs.lemmas.Bool.{eqb-true, eq-eqb, ne_eqb}
+use Rattle.std.proofs.Common.{◌≡◌, ◌≢◌, ℕ, ◌+◌, ◌⊎◌, Bool, true, false, ◌&&◌, List, [], ◌∷◌, ◌++◌, ◌==◌, Option, Some, None, Ok, Err, refl, sym, ap, ◌∙◌, subst, inl, inr, if◌then◌else◌}
+use Rattle.std.specs.Prelude.{Result, find, map, nat_le, zero, suc, slice_get, option_map}
+use Rattle.std.proofs.lemmas.Bool.{eq-eqb, ne_eqb}
 use Rattle.st_base.specs.declared.ids.ClientId.{ClientId}
 use Rattle.st_base.specs.declared.ids.FileId.{FileId}
 use Rattle.st_base.specs.declared.ids.PageNo.{PageNo}
@@ -10,7 +10,6 @@ use Rattle.st_base.specs.declared.ids.Life.{Life}
 use Rattle.st_base.specs.declared.ids.Stamp.{Stamp}
 use Rattle.st_base.specs.declared.ids.NodeId.{NodeId}
 use Rattle.st_base.specs.declared.ids.NodeId.TheVariants as nodes
-use Rattle.st_messages.specs.declared.ask.Ask.{Ask}
 use Rattle.st_messages.specs.declared.message.Message.{Message}
 use Rattle.st_messages.specs.declared.event.Event.{Event}
 use Rattle.st_messages.specs.declared.event.Event.TheVariants as events
@@ -40,7 +39,7 @@ use Rattle.st_rules.specs.Server as server
 use Rattle.st_rules.specs.Server.{ServerNode}
 use Rattle.st_rules.specs.Client as cl
 use Rattle.st_rules.specs.ClientLease as lease
-use Rattle.st_rules.specs.ClientState.{Association, ClientState, ClientSession, is_at}
+use Rattle.st_rules.specs.ClientState.{Association, is_at}
 use Rattle.st_rules.specs.World as world
 use Rattle.st_rules.specs.World.{World, ClientSite, numbered, with_numbered, site_of, node_of, issued_of, clock_of, is_life_of, ended_of, end_or_present, lease_end_of, life_of_association, lives_of}
 use Rattle.st_rules.specs.Admissible as adm
@@ -48,21 +47,20 @@ use Rattle.st_rules.specs.Events as ev
 use Rattle.st_rules.specs.Events.{Scene, client_says_all, present_lives}
 use Rattle.st_lemmas.specs.Lists.{Has}
 use Rattle.st_lemmas.proofs.Lookups.{some_is}
-use Rattle.st_lemmas.proofs.Tables.{has_append, has_map_in, same_or_not}
+use Rattle.st_lemmas.proofs.Tables.{has_map_in, same_or_not}
 use Rattle.st_lemmas.proofs.Numbers.{numbered_own, numbered_other, numbered_below}
 use Rattle.st_laws_pages.specs.Fates.{Pending_all, Before_end, Fates_hold, Row_of}
-use Rattle.st_laws_pages.specs.Lives.{ended_rows, rows_lost, Stepped, clock_in, Is_known, Node_holds, All_known, owner_of, LivesHold}
+use Rattle.st_laws_pages.specs.Lives.{ended_rows, Stepped, clock_in, Is_known, Node_holds, owner_of, LivesHold}
 use Rattle.st_laws_pages.specs.Notes.{Notes_all, Is_changed_at}
-use Rattle.st_laws_pages.proofs.Effects.{or_none, stands_not}
-use Rattle.st_laws_pages.proofs.Lives.{find_front, find_back, rows_own, rows_other, flip_client}
+use Rattle.st_laws_pages.proofs.Lives.{find_front, find_back, rows_own, rows_other}
 use Rattle.st_laws_pages.proofs.Fates.{pending_map, advance_fates}
-use Rattle.st_laws_pages.proofs.Associations.{own_found, found_has}
+use Rattle.st_laws_pages.proofs.Associations.{found_has}
 use Rattle.st_laws_pages.proofs.Living.{row_is}
 use Rattle.st_laws_pages.proofs.Dirtying.{notes_map}
 use Rattle.st_laws_pages.proofs.Noting.{step_notes}
 use Rattle.st_laws_pages.proofs.Turning.{Said, says_lives, client_lives}
 use Rattle.st_laws_pages.proofs.Lasting.{Flushed, flush_parts, no_option}
-use Rattle.st_laws_pages.proofs.LifeSteps.{steps_so, stopped_is, runs_is}
+use Rattle.st_laws_pages.proofs.LifeSteps.{steps_so, stopped_is}
 use Rattle.st_laws_pages.proofs.FateSteps.{still_before, changed_before, pending_more, says_pending}
 
 -- A client's step.

@@ -1,7 +1,7 @@
 -- What is pending is of a life before its lease end: a client's step, a crash and a start keep it.
-use Rattle.std.proofs.Common.{◌≡◌, ◌≢◌, ℕ, ◌+◌, ◌≤◌, ◌<◌, ◌⊎◌, Bool, true, false, ◌&&◌, List, [], ◌∷◌, ◌++◌, ◌==◌, Option, Some, None, Ok, refl, sym, ap, ◌∙◌, subst, inl, inr, arith, if◌then◌else◌, leb-true}
-use Rattle.std.specs.Prelude.{find, map, nat_le, nat_lt, unwrap_or, zero, suc, slice_get, option_map}
-use Rattle.std.proofs.lemmas.Bool.{eqb-true, eq-eqb, ne_eqb, leb-false}
+use Rattle.std.proofs.Common.{◌≡◌, ◌≢◌, ◌<◌, ◌⊎◌, Bool, true, false, List, [], ◌∷◌, ◌++◌, Option, Some, None, refl, sym, ap, ◌∙◌, subst, inl, inr, arith, leb-true}
+use Rattle.std.specs.Prelude.{find, map, nat_le, option_map}
+use Rattle.std.proofs.lemmas.Bool.{ne_eqb}
 use Rattle.st_base.specs.declared.config.Config.{Config}
 use Rattle.st_base.specs.declared.ids.ClientId.{ClientId}
 use Rattle.st_base.specs.declared.ids.FileId.{FileId}
@@ -14,15 +14,8 @@ use Rattle.st_messages.specs.declared.output.Note.{Note}
 use Rattle.st_messages.specs.declared.output.Note.TheVariants as notes
 use Rattle.st_messages.specs.declared.output.Output.{Output}
 use Rattle.st_messages.specs.declared.output.Output.TheVariants as outputs
-use Rattle.st_rules.specs.declared.lease.Phase.{Phase}
-use Rattle.st_rules.specs.declared.lease.Phase.TheVariants as phases
-use Rattle.st_rules.specs.declared.log.Cause.{Cause}
-use Rattle.st_rules.specs.declared.log.Change.{Change}
-use Rattle.st_rules.specs.declared.log.Fate.{Fate}
-use Rattle.st_rules.specs.declared.log.Fate.TheVariants as fates
 use Rattle.st_rules.specs.declared.log.LogEntry.{LogEntry}
 use Rattle.st_rules.specs.declared.log.LogOwner.{LogOwner}
-use Rattle.st_rules.specs.declared.world.IssuedCommand.{IssuedCommand}
 use Rattle.st_rules.specs.declared.world.LeaseLife.{LeaseLife}
 use Rattle.st_rules.specs.FlatLog as log
 use Rattle.st_rules.specs.ClientLease as lease
@@ -34,18 +27,18 @@ use Rattle.st_rules.specs.Events as ev
 use Rattle.st_rules.specs.Events.{Scene, client_says, client_says_all, client_notes, present_lives}
 use Rattle.st_lemmas.specs.Lists.{Has}
 use Rattle.st_lemmas.proofs.Lookups.{some_is}
-use Rattle.st_lemmas.proofs.Tables.{has_append, same_or_not}
+use Rattle.st_lemmas.proofs.Tables.{same_or_not}
 use Rattle.st_lemmas.proofs.Numbers.{numbered_own, numbered_other, numbered_below}
-use Rattle.st_laws_pages.specs.Fates.{Pending_all, Before_end, Fates_hold, Row_of}
+use Rattle.st_laws_pages.specs.Fates.{Pending_all, Before_end}
 use Rattle.st_laws_pages.specs.Losses.{Session_next, is_ended}
 use Rattle.st_laws_pages.specs.Lives.{ended_rows, rows_lost, Life_next, Stepped, clock_in, Is_known, Node_holds, Ended_holds, Lives_hold, All_known, owner_of, LivesHold}
-use Rattle.st_laws_pages.specs.Notes.{Note_at, Notes_all, Is_changed, Is_changed_at}
+use Rattle.st_laws_pages.specs.Notes.{Note_at, Notes_all, Is_changed_at}
 use Rattle.st_laws_pages.proofs.Lives.{find_front, find_back}
-use Rattle.st_laws_pages.proofs.Associations.{own_found, found_has, lost_has, Lost_of, lost_other, pair_left, Pair_left}
+use Rattle.st_laws_pages.proofs.Associations.{own_found, found_has, lost_has, lost_other, pair_left, Pair_left}
 use Rattle.st_laws_pages.proofs.Living.{row_is}
-use Rattle.st_laws_pages.proofs.Turning.{Said, says_one, says_lives}
+use Rattle.st_laws_pages.proofs.Turning.{says_one}
 use Rattle.st_laws_pages.proofs.Dirtying.{note_map}
-use Rattle.st_laws_pages.proofs.Lasting.{Flushed, flush_parts, no_option}
+use Rattle.st_laws_pages.proofs.Lasting.{no_option}
 
 -- no row is lost of a server whose lease is not over
 pub none_lost : (c : ClientId) (s : ClientState) (now : Stamp) (k : Rattle.st_base.specs.declared.config.Config.Config) (ts : List Stamp) (es : List LeaseLife) (n : cl.ClientNode) → n.state ≡ s → Node_holds k ts es c n → (a : Association) (l : Life) → Has a s.associations → is_ended s.config now a.session ≡ false →

@@ -1,7 +1,7 @@
 -- What is gone is of a life that a crash ended, or whose lease is over: every event keeps it, with no premise.
-use Rattle.std.proofs.Common.{◌≡◌, ◌≢◌, ℕ, ◌+◌, ◌≤◌, ◌<◌, ◌⊎◌, Bool, true, false, ◌&&◌, not, List, [], ◌∷◌, ◌++◌, ◌==◌, Option, Some, None, Ok, Err, refl, sym, ap, ◌∙◌, subst, inl, inr, arith, if◌then◌else◌, leb-true}
+use Rattle.std.proofs.Common.{◌≡◌, ◌≢◌, ℕ, ◌+◌, ◌≤◌, ◌⊎◌, Bool, true, false, ◌&&◌, not, List, [], ◌∷◌, ◌++◌, ◌==◌, Option, Some, None, Ok, Err, refl, sym, ap, ◌∙◌, subst, inl, inr, arith, if◌then◌else◌, leb-true}
 use Rattle.std.specs.Prelude.{Result, find, filter, map, nat_le, unwrap_or, zero, suc, slice_get, option_map}
-use Rattle.std.proofs.lemmas.Bool.{eqb-true, eq-eqb, ne_eqb, le-leb}
+use Rattle.std.proofs.lemmas.Bool.{eqb-true, ne_eqb, le-leb}
 use Rattle.st_base.specs.declared.ids.ClientId.{ClientId}
 use Rattle.st_base.specs.declared.ids.FileId.{FileId}
 use Rattle.st_base.specs.declared.ids.PageNo.{PageNo}
@@ -10,7 +10,6 @@ use Rattle.st_base.specs.declared.ids.Life.{Life}
 use Rattle.st_base.specs.declared.ids.Stamp.{Stamp}
 use Rattle.st_base.specs.declared.ids.NodeId.{NodeId}
 use Rattle.st_base.specs.declared.ids.NodeId.TheVariants as nodes
-use Rattle.st_messages.specs.declared.ask.Ask.{Ask}
 use Rattle.st_messages.specs.declared.message.Message.{Message}
 use Rattle.st_messages.specs.declared.event.Event.{Event}
 use Rattle.st_messages.specs.declared.event.Event.TheVariants as events
@@ -23,7 +22,6 @@ use Rattle.st_rules.specs.declared.client.ClientInput.TheVariants as inputs
 use Rattle.st_rules.specs.declared.input.ServerInput.{ServerInput}
 use Rattle.st_rules.specs.declared.log.Cause.{Cause}
 use Rattle.st_rules.specs.declared.log.Cause.TheVariants as causes
-use Rattle.st_rules.specs.declared.log.Change.{Change}
 use Rattle.st_rules.specs.declared.log.Fate.{Fate}
 use Rattle.st_rules.specs.declared.log.Fate.TheVariants as fates
 use Rattle.st_rules.specs.declared.log.LogEntry.{LogEntry}
@@ -48,7 +46,6 @@ use Rattle.st_rules.specs.Admissible as adm
 use Rattle.st_rules.specs.Events as ev
 use Rattle.st_rules.specs.Events.{Scene, client_says, client_says_all, client_notes, present_lives}
 use Rattle.st_lemmas.specs.Lists.{Has}
-use Rattle.st_lemmas.proofs.Lookups.{some_is}
 use Rattle.st_lemmas.proofs.Tables.{has_filter, same_or_not, and_true}
 use Rattle.st_lemmas.proofs.Numbers.{numbered_other, numbered_below}
 use Rattle.st_laws_pages.specs.World.{Ends_at}
@@ -57,7 +54,7 @@ use Rattle.st_laws_pages.specs.Losses.{is_ended}
 use Rattle.st_laws_pages.specs.Lives.{ended_rows, rows_lost, Life_next, Stepped, clock_in, Is_known, Node_holds, All_known, owner_of, LivesHold}
 use Rattle.st_laws_pages.proofs.Lives.{find_front, find_back, rows_own, rows_other}
 use Rattle.st_laws_pages.proofs.Moves.{clock_up, clock_is}
-use Rattle.st_laws_pages.proofs.Associations.{own_found, found_has, lost_found, lost_other}
+use Rattle.st_laws_pages.proofs.Associations.{found_has, lost_found, lost_other}
 use Rattle.st_laws_pages.proofs.Living.{row_is}
 use Rattle.st_laws_pages.proofs.Turning.{Said, says_lives}
 use Rattle.st_laws_pages.proofs.Lasting.{Flushed, flush_parts, no_option, end_one}

@@ -1,8 +1,7 @@
 -- What was late stays late; and the ends of leases that an advance looks at are the present ones.
-use Rattle.std.proofs.Common.{◌≡◌, ◌≢◌, ℕ, ◌+◌, ◌≤◌, ◌<◌, ◌⊎◌, Bool, true, false, ◌&&◌, List, [], ◌∷◌, ◌++◌, ◌==◌, Option, Some, None, Ok, refl, sym, ap, ◌∙◌, subst, inl, inr, arith, if◌then◌else◌}
-use Rattle.std.specs.Prelude.{find, map, nat_le, unwrap_or, zero, suc, slice_get, option_map}
-use Rattle.std.proofs.lemmas.Bool.{eqb-true, eq-eqb, ne_eqb}
-use Rattle.st_base.specs.declared.config.Config.{Config}
+use Rattle.std.proofs.Common.{◌≡◌, ◌≢◌, ℕ, ◌⊎◌, Bool, true, false, List, [], ◌∷◌, ◌++◌, Option, Some, None, Ok, refl, sym, ap, ◌∙◌, inl, inr, arith}
+use Rattle.std.specs.Prelude.{find, nat_le, zero, suc, slice_get, option_map}
+use Rattle.std.proofs.lemmas.Bool.{ne_eqb}
 use Rattle.st_base.specs.declared.ids.ClientId.{ClientId}
 use Rattle.st_base.specs.declared.ids.ServerId.{ServerId}
 use Rattle.st_base.specs.declared.ids.Life.{Life}
@@ -13,7 +12,6 @@ use Rattle.st_rules.specs.declared.lease.Phase.TheVariants as phases
 use Rattle.st_rules.specs.declared.observation.WorldRefusal.TheVariants as refusals
 use Rattle.st_rules.specs.declared.world.IssuedCommand.{IssuedCommand}
 use Rattle.st_rules.specs.declared.world.LeaseLife.{LeaseLife}
-use Rattle.st_rules.specs.Keys.{same_client}
 use Rattle.st_rules.specs.ClientLease as lease
 use Rattle.st_rules.specs.Client as cl
 use Rattle.st_rules.specs.ClientState.{Association, ClientState, ClientSession, is_at}
@@ -23,9 +21,8 @@ use Rattle.st_rules.specs.Admissible as adm
 use Rattle.st_rules.specs.Events as ev
 use Rattle.st_rules.specs.Events.{Scene, client_says_all, present_lives}
 use Rattle.st_lemmas.specs.Lists.{Has}
-use Rattle.st_lemmas.proofs.Lookups.{some_is}
 use Rattle.st_lemmas.proofs.Tables.{has_append, has_map, same_or_not}
-use Rattle.st_lemmas.proofs.Numbers.{numbered_own, numbered_other, numbered_below, numbered_has}
+use Rattle.st_lemmas.proofs.Numbers.{numbered_other, numbered_below, numbered_has}
 use Rattle.st_laws_pages.specs.World.{Timely, Late_stays, Ends_at, Ends_agree}
 use Rattle.st_laws_pages.specs.Losses.{is_ended}
 use Rattle.st_laws_pages.specs.Lives.{ended_rows, rows_lost, Life_next, Stepped, clock_in, Is_known, Node_holds, Ended_holds, Lives_hold, All_known, LivesHold, Crash_lives}

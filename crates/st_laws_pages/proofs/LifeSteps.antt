@@ -1,13 +1,11 @@
 -- Every event keeps what stands of the lives, with no premise; and it stands at the start.
-use Rattle.std.proofs.Common.{◌≡◌, ◌≢◌, ℕ, ◌+◌, ◌≤◌, ◌<◌, ◌⊎◌, Bool, true, false, ◌&&◌, not, List, [], ◌∷◌, ◌++◌, ◌==◌, Option, Some, None, Ok, Err, refl, sym, ap, ◌∙◌, subst, inl, inr, arith, if◌then◌else◌}
-use Rattle.std.specs.Prelude.{Result, find, map, nat_le, unwrap_or, zero, suc, slice_get, option_map}
-use Rattle.st_base.specs.declared.config.Config.{Config}
+use Rattle.std.proofs.Common.{◌≡◌, ℕ, ◌+◌, ◌≤◌, Bool, true, false, not, List, [], ◌∷◌, ◌++◌, Option, Some, None, Ok, Err, refl, sym, ap, ◌∙◌, subst, inr, arith, if◌then◌else◌}
+use Rattle.std.specs.Prelude.{Result, map, zero, suc}
 use Rattle.st_base.specs.declared.ids.ClientId.{ClientId}
 use Rattle.st_base.specs.declared.ids.ServerId.{ServerId}
 use Rattle.st_base.specs.declared.ids.Stamp.{Stamp}
 use Rattle.st_base.specs.declared.ids.NodeId.{NodeId}
 use Rattle.st_base.specs.declared.ids.NodeId.TheVariants as nodes
-use Rattle.st_messages.specs.declared.ask.Ask.{Ask}
 use Rattle.st_messages.specs.declared.message.Message.{Message}
 use Rattle.st_messages.specs.declared.event.Event.{Event}
 use Rattle.st_messages.specs.declared.event.Event.TheVariants as events
@@ -21,19 +19,17 @@ use Rattle.st_rules.specs.declared.input.ServerInput.{ServerInput}
 use Rattle.st_rules.specs.declared.log.LogEntry.{LogEntry}
 use Rattle.st_rules.specs.declared.node.StepRefusal.{StepRefusal}
 use Rattle.st_rules.specs.declared.node.StepRefusal.TheVariants.{Crashed}
-use Rattle.st_rules.specs.declared.observation.WorldRefusal.{WorldRefusal}
 use Rattle.st_rules.specs.declared.observation.WorldRefusal.TheVariants as refusals
 use Rattle.st_rules.specs.declared.world.Carried.{Carried}
 use Rattle.st_rules.specs.declared.world.IssuedCommand.{IssuedCommand}
 use Rattle.st_rules.specs.declared.world.LeaseLife.{LeaseLife}
 use Rattle.st_rules.specs.declared.world.SentMessage.{SentMessage}
 use Rattle.st_rules.specs.FlatLog as log
-use Rattle.st_rules.specs.Extents.{numbers}
 use Rattle.st_rules.specs.Disks as disks
 use Rattle.st_rules.specs.Server as server
 use Rattle.st_rules.specs.Server.{ServerNode}
 use Rattle.st_rules.specs.Client as cl
-use Rattle.st_rules.specs.ClientState.{Association, ClientState}
+use Rattle.st_rules.specs.ClientState.{Association}
 use Rattle.st_rules.specs.World as world
 use Rattle.st_rules.specs.World.{World, ClientSite, numbered, site_of, node_of, issued_of, clock_of, fresh_world}
 use Rattle.st_rules.specs.Admissible as adm
@@ -41,16 +37,14 @@ use Rattle.st_rules.specs.Events as ev
 use Rattle.st_rules.specs.Events.{Scene}
 use Rattle.st_lemmas.specs.Lists.{Has}
 use Rattle.st_lemmas.proofs.Marks.{owners_harden, owners_drop}
-use Rattle.st_lemmas.proofs.Tables.{has_map}
-use Rattle.st_lemmas.proofs.Numbers.{get_map}
 use Rattle.st_laws_pages.specs.World.{Late_stays}
 use Rattle.st_laws_pages.specs.Losses.{Fit}
-use Rattle.st_laws_pages.specs.Lives.{Once, server_number, Stepped, clock_in, Is_known, Node_holds, Ended_holds, Lives_hold, All_known, owner_of, LivesHold}
+use Rattle.st_laws_pages.specs.Lives.{Stepped, clock_in, Node_holds, Ended_holds, All_known, owner_of, LivesHold}
 use Rattle.st_laws_pages.proofs.Effects.{or_none, stands_not}
 use Rattle.st_laws_pages.proofs.Moves.{advanced_get, clock_up}
 use Rattle.st_laws_pages.proofs.Stepping.{step_lives}
 use Rattle.st_laws_pages.proofs.Living.{turned_lives, turned_all}
-use Rattle.st_laws_pages.proofs.Turning.{crash_turned, start_turned, client_lives, lives_by, known_owner, owners_more, none_rows, fresh_fit}
+use Rattle.st_laws_pages.proofs.Turning.{crash_turned, start_turned, client_lives, lives_by, known_owner, owners_more, none_rows}
 use Rattle.st_laws_pages.proofs.Lasting.{client_stays}
 
 -- A client's node that runs takes an input.

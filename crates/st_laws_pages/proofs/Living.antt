@@ -1,7 +1,7 @@
 -- The lives in the world where a client's node turns into another: in a step, a crash or a start.
-use Rattle.std.proofs.Common.{◌≡◌, ◌≢◌, ℕ, ◌+◌, ◌≤◌, ◌<◌, ◌⊎◌, Bool, true, false, ◌&&◌, List, [], ◌∷◌, ◌++◌, ◌==◌, Option, Some, None, Ok, refl, sym, ap, ◌∙◌, subst, inl, inr, arith, if◌then◌else◌, leb-true}
-use Rattle.std.specs.Prelude.{find, map, nat_le, unwrap_or, zero, suc, pred, set, slice_get}
-use Rattle.std.proofs.lemmas.Bool.{eqb-true, eq-eqb}
+use Rattle.std.proofs.Common.{◌≡◌, ◌≢◌, ℕ, ◌≤◌, ◌⊎◌, Bool, true, false, ◌&&◌, List, [], ◌∷◌, ◌++◌, ◌==◌, Option, Some, None, refl, sym, ap, ◌∙◌, subst, inl, inr, arith, if◌then◌else◌}
+use Rattle.std.specs.Prelude.{find}
+use Rattle.std.proofs.lemmas.Bool.{eqb-true}
 use Rattle.st_base.specs.declared.config.Config.{Config}
 use Rattle.st_base.specs.declared.ids.ClientId.{ClientId}
 use Rattle.st_base.specs.declared.ids.ServerId.{ServerId}
@@ -12,7 +12,7 @@ use Rattle.st_rules.specs.declared.world.IssuedCommand.{IssuedCommand}
 use Rattle.st_rules.specs.declared.world.LeaseLife.{LeaseLife}
 use Rattle.st_rules.specs.Keys.{same_client, same_server}
 use Rattle.st_rules.specs.Client as cl
-use Rattle.st_rules.specs.ClientState.{Association, ClientState, is_at}
+use Rattle.st_rules.specs.ClientState.{Association, is_at}
 use Rattle.st_rules.specs.World as world
 use Rattle.st_rules.specs.World.{World, ClientSite, numbered, with_numbered, is_life_of}
 use Rattle.st_rules.specs.Events as ev
@@ -21,7 +21,7 @@ use Rattle.st_lemmas.proofs.Lookups.{some_is}
 use Rattle.st_lemmas.proofs.Tables.{and_true, has_append, same_or_not}
 use Rattle.st_lemmas.proofs.Numbers.{numbered_own, numbered_other, numbered_below}
 use Rattle.st_laws_pages.specs.Losses.{Fit}
-use Rattle.st_laws_pages.specs.Lives.{Pairwise, Once, server_number, clock_in, Is_known, Is_below, Is_stopped, Node_holds, Ended_holds, Lives_hold, All_known}
+use Rattle.st_laws_pages.specs.Lives.{Pairwise, Once, clock_in, Is_known, Is_below, Is_stopped, Node_holds, Ended_holds, Lives_hold, All_known}
 use Rattle.st_laws_pages.proofs.Lives.{find_front, find_back}
 use Rattle.st_laws_pages.proofs.Associations.{own_found, found_has, numbers_same, Pair_found, pair_found, Pair_left, pair_left, pair_none}
 use Rattle.st_laws_pages.proofs.Stepping.{pairs_has}

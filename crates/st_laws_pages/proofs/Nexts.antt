@@ -1,13 +1,11 @@
 -- What a list of changes leaves of an association: its server and life, its session or a later one, what fits, and no note of a loss.
-use Rattle.std.proofs.Common.{◌≡◌, ℕ, ◌+◌, ◌≤◌, ◌<◌, ◌⊎◌, Bool, true, false, not, ◌&&◌, ◌||◌, List, [], ◌∷◌, ◌++◌, ◌==◌, Option, Some, None, refl, sym, ap, ◌∙◌, subst, inl, inr, arith, if◌then◌else◌}
+use Rattle.std.proofs.Common.{◌≡◌, ℕ, ◌⊎◌, Bool, true, false, not, ◌&&◌, List, [], ◌∷◌, ◌++◌, ◌==◌, Option, Some, None, refl, sym, ap, ◌∙◌, subst, inl, inr, arith, if◌then◌else◌}
 use Rattle.std.specs.Prelude.{find, filter, is_some, nat_le, map}
 use Rattle.std.specs.List.{list_any}
-use Rattle.std.proofs.lemmas.Bool.{eqb-true, eq-eqb}
+use Rattle.std.proofs.lemmas.Bool.{eqb-true}
 use Rattle.st_base.specs.declared.config.Config.{Config}
 use Rattle.st_base.specs.declared.ids.FileId.{FileId}
 use Rattle.st_base.specs.declared.ids.PageNo.{PageNo}
-use Rattle.st_base.specs.declared.ids.ServerId.{ServerId}
-use Rattle.st_base.specs.declared.ids.Life.{Life}
 use Rattle.st_base.specs.declared.ids.Stamp.{Stamp}
 use Rattle.st_messages.specs.declared.answer.AppAnswer.{AppAnswer}
 use Rattle.st_messages.specs.declared.output.Note.{Note}
@@ -19,14 +17,13 @@ use Rattle.st_rules.specs.declared.client.KnownExtent.{KnownExtent}
 use Rattle.st_rules.specs.declared.client.Mapping.{Mapping}
 use Rattle.st_rules.specs.declared.client.Operation.{Operation}
 use Rattle.st_rules.specs.Keys.{put, same_page}
-use Rattle.st_rules.specs.ClientLease as lease
 use Rattle.st_rules.specs.ClientPages as pages
 use Rattle.st_rules.specs.ClientPages.{Pages, Store}
 use Rattle.st_rules.specs.ClientPasses as cp
 use Rattle.st_rules.specs.ClientState.{ClientSession, Association, Turn, answer_to}
-use Rattle.st_lemmas.proofs.Lookups.{or_false, any_filter, some_is}
+use Rattle.st_lemmas.proofs.Lookups.{or_false, some_is}
 use Rattle.st_lemmas.proofs.Puts.{find_put_by, find_put_other}
-use Rattle.st_lemmas.proofs.Contents.{Place_is, one_place, self_place, other_place, find_stays}
+use Rattle.st_lemmas.proofs.Contents.{Place_is, one_place, other_place, find_stays}
 use Rattle.st_lemmas.proofs.Tables.{and_true, not_true}
 use Rattle.st_laws_pages.specs.Client.{Plain, Plain_note, Changes_page, Goes_on, Unasked, Change, Says, Operates, Answers, Greets, Tells_lost, Begins, Follows, Learns, Forgets, Caches, Writes, Reads, Submits, Changes, Still, Then}
 use Rattle.st_laws_pages.specs.Losses.{Asked_fresh, Session_fresh, Session_next, Fit}

@@ -1,6 +1,5 @@
 -- What a step of a client notes as changed, at each of its servers in turn.
-use Rattle.std.proofs.Common.{◌≡◌, ℕ, ◌+◌, ◌≤◌, ◌<◌, ◌⊎◌, Bool, true, false, List, [], ◌∷◌, ◌++◌, ◌==◌, Option, Some, None, refl, sym, ap, ◌∙◌, subst, inl, inr, if◌then◌else◌}
-use Rattle.std.specs.Prelude.{length, nat_le}
+use Rattle.std.proofs.Common.{◌≡◌, ℕ, Bool, true, false, List, [], ◌∷◌, ◌++◌, ◌==◌, Option, Some, None, refl, sym, ap, ◌∙◌, subst, inl, inr, if◌then◌else◌}
 use Rattle.st_base.specs.declared.config.Config.{Config}
 use Rattle.st_base.specs.declared.disk.Tag.{Tag}
 use Rattle.st_base.specs.declared.ids.ClientId.{ClientId}
@@ -16,22 +15,21 @@ use Rattle.st_messages.specs.declared.output.Output.TheVariants as outputs
 use Rattle.st_rules.specs.declared.client.ClientInput.{ClientInput}
 use Rattle.st_rules.specs.declared.client.ClientInput.TheVariants as inputs
 use Rattle.st_rules.specs.declared.client.Operation.{Operation}
-use Rattle.st_rules.specs.declared.world.LeaseLife.{LeaseLife}
 use Rattle.st_rules.specs.ClientPages as pages
 use Rattle.st_rules.specs.ClientState.{ClientSession, Association, ClientState, ClientTurn, Turn, client_turn, enter, leave, at_these, at_each, with_associations, only_at, server_of, is_sent}
 use Rattle.st_rules.specs.ClientPasses as cp
 use Rattle.st_rules.specs.ClientReplies as cr
 use Rattle.st_rules.specs.Client as cl
 use Rattle.st_lemmas.specs.Lists.{Has}
-use Rattle.st_laws_pages.specs.Losses.{Session_fresh, Fit, Ends, Unknown, Passes, Hardens, Fails}
+use Rattle.st_laws_pages.specs.Losses.{Fit, Ends, Unknown, Passes, Hardens, Fails}
 use Rattle.st_laws_pages.specs.Lives.{Pairwise}
-use Rattle.st_laws_pages.specs.Notes.{Notes_all, Is_changed, Is_changed_at, Stays_dirty}
+use Rattle.st_laws_pages.specs.Notes.{Notes_all, Is_changed, Is_changed_at}
 use Rattle.st_laws_pages.proofs.Nexts.{empty_right, append_assoc}
 use Rattle.st_laws_pages.proofs.Asking.{c_passes}
 use Rattle.st_laws_pages.proofs.Replying.{c_hear}
 use Rattle.st_laws_pages.proofs.Losing.{c_only, Finished, finish_is, is_done}
 use Rattle.st_laws_pages.proofs.Stepping.{Phases, phases}
-use Rattle.st_laws_pages.proofs.Dirtying.{Dirtied, changes_dirty, changed_lasts, notes_both, notes_map}
+use Rattle.st_laws_pages.proofs.Dirtying.{Dirtied, changes_dirty, notes_both, notes_map}
 
 -- nothing is noted as changed
 abbrev Quiet : List Output → Type 0

@@ -1,6 +1,6 @@
 -- What is owed for the causes of drops at a crash, and where commands are submitted, follows from lives and fates.
-use Rattle.std.proofs.Common.{◌≡◌, ◌≢◌, ℕ, ◌+◌, ◌≤◌, ◌<◌, ◌⊎◌, Bool, true, false, ◌&&◌, not, List, [], ◌∷◌, ◌++◌, ◌==◌, Option, Some, None, Ok, Err, refl, sym, ap, ◌∙◌, subst, inl, inr, arith, if◌then◌else◌, leb-true}
-use Rattle.std.specs.Prelude.{Result, find, map, nat_le, option_map}
+use Rattle.std.proofs.Common.{◌≡◌, ℕ, ◌+◌, ◌≤◌, ◌<◌, ◌⊎◌, Bool, true, false, ◌&&◌, List, [], ◌∷◌, ◌++◌, ◌==◌, Option, Some, None, refl, sym, ap, ◌∙◌, subst, inl, inr, arith, if◌then◌else◌}
+use Rattle.std.specs.Prelude.{find, map, nat_le, option_map}
 use Rattle.std.specs.List.{list_any}
 use Rattle.std.proofs.lemmas.Bool.{eqb-true, eq-eqb}
 use Rattle.st_base.specs.declared.disk.BlockAt.{BlockAt}
@@ -18,7 +18,6 @@ use Rattle.st_messages.specs.declared.output.Output.{Output}
 use Rattle.st_messages.specs.declared.output.Output.TheVariants as outputs
 use Rattle.st_rules.specs.declared.log.LogEntry.{LogEntry}
 use Rattle.st_rules.specs.declared.log.LogOwner.{LogOwner}
-use Rattle.st_rules.specs.declared.world.Carried.{Carried}
 use Rattle.st_rules.specs.declared.world.IssuedCommand.{IssuedCommand}
 use Rattle.st_rules.specs.declared.world.LeaseLife.{LeaseLife}
 use Rattle.st_rules.specs.Keys.{same_client, same_server, same_file}
@@ -31,7 +30,6 @@ use Rattle.st_rules.specs.World.{World, ClientSite, numbered, site_of, clock_of,
 use Rattle.st_rules.specs.Events as ev
 use Rattle.st_rules.specs.Events.{Scene, client_says, client_says_all, client_notes, last_write}
 use Rattle.st_lemmas.specs.Lists.{Has}
-use Rattle.st_lemmas.proofs.Lookups.{some_is}
 use Rattle.st_lemmas.proofs.Tables.{and_true, some_passes, has_map}
 use Rattle.st_laws_pages.specs.Causes.{Crash_owes, Lives_owe}
 use Rattle.st_laws_pages.specs.Owed.{FatesHold}
@@ -43,7 +41,7 @@ use Rattle.st_laws_pages.proofs.Associations.{own_found, found_has, Pair_found, 
 use Rattle.st_laws_pages.proofs.Living.{row_is}
 use Rattle.st_laws_pages.proofs.Lasting.{no_option}
 use Rattle.st_laws_pages.proofs.GoneLaw.{Over, pending_crashed}
-use Rattle.st_laws_pages.proofs.Turning.{says_one, Said}
+use Rattle.st_laws_pages.proofs.Turning.{says_one}
 use Rattle.st_laws_pages.proofs.Clients.{says_keeps}
 
 -- A row that is found passes the test of its life.

@@ -1,10 +1,7 @@
 -- The lives in the world: every event keeps what stands of them.
-use Rattle.std.proofs.Common.{◌≡◌, ◌≢◌, ℕ, ◌+◌, ◌≤◌, ◌<◌, ◌⊎◌, Bool, true, false, ◌&&◌, List, [], ◌∷◌, ◌++◌, ◌==◌, Option, Some, None, Ok, Err, refl, sym, ap, ◌∙◌, subst, inl, inr, arith, if◌then◌else◌, leb-true}
-use Rattle.std.specs.Prelude.{find, map, nat_le, unwrap_or, zero, suc, pred, set, slice_get, option_map}
-use Rattle.std.proofs.lemmas.Bool.{eqb-true, eq-eqb}
+use Rattle.std.proofs.Common.{◌≡◌, ◌≤◌, ◌⊎◌, Bool, true, false, List, [], ◌∷◌, ◌++◌, Option, Some, None, Ok, refl, sym, ap, ◌∙◌, subst, inl, inr, arith, leb-true}
+use Rattle.std.specs.Prelude.{find, map, option_map}
 use Rattle.st_base.specs.declared.config.Config.{Config}
-use Rattle.st_base.specs.declared.disk.BlockAt.{BlockAt}
-use Rattle.st_base.specs.declared.disk.Command.{Command}
 use Rattle.st_base.specs.declared.ids.ClientId.{ClientId}
 use Rattle.st_base.specs.declared.ids.ServerId.{ServerId}
 use Rattle.st_base.specs.declared.ids.Life.{Life}
@@ -25,16 +22,15 @@ use Rattle.st_rules.specs.declared.world.LeaseLife.{LeaseLife}
 use Rattle.st_rules.specs.FlatLog as log
 use Rattle.st_rules.specs.ClientLease as lease
 use Rattle.st_rules.specs.Client as cl
-use Rattle.st_rules.specs.ClientState.{Association, ClientState, ClientSession, is_at}
+use Rattle.st_rules.specs.ClientState.{Association, ClientState, ClientSession}
 use Rattle.st_rules.specs.World as world
 use Rattle.st_rules.specs.World.{World, ClientSite, numbered, site_of, is_life_of, life_of_association, lives_of}
 use Rattle.st_rules.specs.Events as ev
 use Rattle.st_rules.specs.Events.{Scene, client_says, client_says_all, client_notes}
 use Rattle.st_lemmas.specs.Lists.{Has}
-use Rattle.st_lemmas.proofs.Lookups.{some_is}
 use Rattle.st_lemmas.proofs.Tables.{has_append, has_map}
-use Rattle.st_laws_pages.specs.Losses.{Session_fresh, Fit, is_ended}
-use Rattle.st_laws_pages.specs.Lives.{lost_row, rows_said, ended_rows, rows_lost, Life_next, Pairwise, Stepped, clock_in, Is_known, Is_below, Is_stopped, Node_holds, Ended_holds, Lives_hold, All_known, owner_of, LivesHold}
+use Rattle.st_laws_pages.specs.Losses.{Fit, is_ended}
+use Rattle.st_laws_pages.specs.Lives.{rows_said, ended_rows, rows_lost, Life_next, Pairwise, Stepped, clock_in, Is_known, Is_below, Is_stopped, Node_holds, Lives_hold, All_known, owner_of, LivesHold}
 use Rattle.st_laws_pages.proofs.Lives.{find_front, find_back, rows_own}
 use Rattle.st_laws_pages.proofs.Associations.{own_found, lost_has, lost_found, Lost_of}
 use Rattle.st_laws_pages.proofs.Living.{New_row, Goes_or_ended, Turned, turned_lives, turned_all}

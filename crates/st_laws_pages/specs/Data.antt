@@ -44,4 +44,5 @@ Done_write_is_hard =
     (w : World) (k : ℕ) (x : IssuedCommand) (d : DiskCommand) (at : BlockAt) (tag : Tag) (bytes : List ℕ) → PagesHold w → FatesHold w →
     issued_of w k ≡ Some x → disks.command w.disks k ≡ Some d → d.what ≡ commands.Write at tag bytes → d.effected ≡ true →
     x.carries ≡ Some (record { file = tag.file; page = tag.page; index = latest w.log x.client tag.file tag.page }) →
-    ended_of w x.client tag.file.server x.life ≡ None → Before_end w (owner x.client x.life tag.file tag.page) → Hard_of (owner x.client x.life tag.file tag.page) w.log
+    ended_of w x.client tag.file.server x.life ≡ None → Before_end w (owner x.client x.life tag.file tag.page) →
+    Hard_of (owner x.client x.life tag.file tag.page) w.log

@@ -1,5 +1,5 @@
 -- The lives of leases in the world: those that ended, with the ends that they had, and the present ones.
-use Rattle.std.specs.Prelude.{◌≡◌, ℕ, ◌≤◌, ◌<◌, ◌⊎◌, Bool, true, false, if◌then◌else◌, List, [], ◌∷◌, ◌++◌, find, map, unwrap_or, Option, Some, None}
+use Rattle.std.specs.Prelude.{◌≡◌, ℕ, ◌≤◌, ◌<◌, ◌⊎◌, Bool, true, false, if◌then◌else◌, List, [], ◌∷◌, ◌++◌, find, map, unwrap_or, Some, None}
 use Rattle.st_base.specs.declared.config.Config.{Config}
 use Rattle.st_base.specs.declared.ids.ClientId.{ClientId}
 use Rattle.st_base.specs.declared.ids.ServerId.{ServerId}
@@ -13,7 +13,7 @@ use Rattle.st_rules.specs.declared.log.LogOwner.{LogOwner}
 use Rattle.st_rules.specs.declared.world.IssuedCommand.{IssuedCommand}
 use Rattle.st_rules.specs.declared.world.LeaseLife.{LeaseLife}
 use Rattle.st_rules.specs.Client as cl
-use Rattle.st_rules.specs.ClientState.{Association, ClientState, ClientSession, is_at}
+use Rattle.st_rules.specs.ClientState.{Association, ClientState, is_at}
 use Rattle.st_rules.specs.World.{World, ClientSite, numbered, is_life_of, ended_of}
 use Rattle.st_rules.specs.Events as ev
 use Rattle.st_lemmas.specs.Lists.{Has}
@@ -129,6 +129,7 @@ pub record All_known (cs : List ClientSite) (es : List LeaseLife) (xs : List Iss
   pub commands : (x : IssuedCommand) → Has x xs → Is_known cs es x.client x.server x.life
   pub owners : (o : LogOwner) → Has o os → Is_known cs es o.client o.file.server o.life
 
+-- What stands of the lives in a world, and of those that its commands and entries name.
 pub record LivesHold (w : World) : Type 0 where
   pub lives : Lives_hold w.config w.clocks w.clients w.ended
   pub known : All_known w.clients w.ended w.commands (map owner_of w.log)
@@ -136,4 +137,5 @@ pub record LivesHold (w : World) : Type 0 where
 -- the commands of a client are of lives that ended, or of its present ones
 abbrev pub Crash_lives : World → ClientId → Type 0
 Crash_lives w c =
-    (k : ℕ) (x : IssuedCommand) → numbered w.commands k ≡ Some x → x.client ≡ c → ended_of w x.client x.server x.life ≡ None → (ev.present_life w x.client x.server).0 ≡ x.life.0
+    (k : ℕ) (x : IssuedCommand) → numbered w.commands k ≡ Some x → x.client ≡ c → ended_of w x.client x.server x.life ≡ None →
+    (ev.present_life w x.client x.server).0 ≡ x.life.0

@@ -1,5 +1,5 @@
 -- What becomes of an association in a client's step: its lease is lost, or it goes on; and how a disk command ends for it.
-use Rattle.std.specs.Prelude.{◌≡◌, ℕ, ◌≤◌, ◌<◌, Bool, true, false, List, [], ◌∷◌, nat_le, Option, Some, None}
+use Rattle.std.specs.Prelude.{◌≡◌, ℕ, ◌≤◌, ◌<◌, Bool, true, false, nat_le, Option, Some, None}
 use Rattle.st_base.specs.declared.config.Config.{Config}
 use Rattle.st_base.specs.declared.ids.PageNo.{PageNo}
 use Rattle.st_base.specs.declared.ids.Stamp.{Stamp}
@@ -44,7 +44,8 @@ Session_next k now (Some s) (Some u) = s.lease.date.0 ≤ u.lease.date.0
 -- Losing: a lease that has come to its end is lost, with a note, and nothing is left of the association but its lost pages.
 pub data Loses (now : Stamp) (t : Turn) : Turn → Type 0 where
   Lasts : is_ended t.config now t.here.session ≡ false → Loses now t t
-  Is_lost : (s : ClientSession) → t.here.session ≡ Some s → is_ended t.config now t.here.session ≡ true → (v : Turn) → Changes now (note t (notes.Lost t.here.server t.here.life)) v → Loses now t (cl.empty_here v)
+  Is_lost : (s : ClientSession) → t.here.session ≡ Some s → is_ended t.config now t.here.session ≡ true → (v : Turn) →
+      Changes now (note t (notes.Lost t.here.server t.here.life)) v → Loses now t (cl.empty_here v)
 
 -- the command's version is not the page's
 abbrev pub Is_outdated : Turn → PageCommand → Type 0
@@ -60,6 +61,8 @@ pub data Ends (number : ℕ) (ok : Bool) (t : Turn) : Turn → Type 0 where
   -- a read, or a write of an older version
   Passes : (c : PageCommand) → pages.command_of t.here.store.commands number ≡ Some c → Is_outdated t c → Ends number ok t (without number t)
   -- a write of the page as it is, which is done
-  Hardens : (c : PageCommand) (v : ℕ) → pages.command_of t.here.store.commands number ≡ Some c → ok ≡ true → c.kind ≡ io.Write v → pages.version_of t.here.store.pages c.ino c.page ≡ v → Ends number ok t (cl.hardened (without number t) c)
+  Hardens : (c : PageCommand) (v : ℕ) → pages.command_of t.here.store.commands number ≡ Some c → ok ≡ true → c.kind ≡ io.Write v →
+      pages.version_of t.here.store.pages c.ino c.page ≡ v → Ends number ok t (cl.hardened (without number t) c)
   -- a write of the page as it is, which failed
-  Fails : (c : PageCommand) (v : ℕ) → pages.command_of t.here.store.commands number ≡ Some c → ok ≡ false → c.kind ≡ io.Write v → Ends number ok t (cl.with_failed c (without number t))
+  Fails : (c : PageCommand) (v : ℕ) → pages.command_of t.here.store.commands number ≡ Some c → ok ≡ false → c.kind ≡ io.Write v →
+      Ends number ok t (cl.with_failed c (without number t))

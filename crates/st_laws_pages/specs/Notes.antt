@@ -1,5 +1,5 @@
 -- What the notes of a client's step say of its pages: a page that was changed is dirty, under a lease that is not over.
-use Rattle.std.specs.Prelude.{◌≡◌, ℕ, ◌<◌, List, [], ◌∷◌, ◌++◌, Option, Some, None}
+use Rattle.std.specs.Prelude.{◌≡◌, ℕ, ◌<◌, List, [], ◌∷◌, Some}
 use Rattle.st_base.specs.declared.config.Config.{Config}
 use Rattle.st_base.specs.declared.ids.FileId.{FileId}
 use Rattle.st_base.specs.declared.ids.PageNo.{PageNo}
@@ -39,4 +39,5 @@ Is_changed_at k now al f p = (a : Association) × Has a al × Is_changed k now a
 
 -- what is dirty stays so
 abbrev pub Stays_dirty : Association → Association → Type 0
-Stays_dirty a b = (ino : ℕ) (p : PageNo) (d : DirtyPage) → pages.dirty_of a.store.pages ino p ≡ Some d → (e : DirtyPage) × (pages.dirty_of b.store.pages ino p ≡ Some e)
+Stays_dirty a b =
+    (ino : ℕ) (p : PageNo) (d : DirtyPage) → pages.dirty_of a.store.pages ino p ≡ Some d → (e : DirtyPage) × (pages.dirty_of b.store.pages ino p ≡ Some e)

@@ -7,4 +7,6 @@ use Rattle.st_laws_pages.specs.Runs.{steps_of}
 
 -- In every run the lines of each event tell the log behind it, with no premise.
 abbrev pub Runs_tell_the_log : Type 0
-Runs_tell_the_log = (k : Config) (clients servers disks blocks form : ℕ) (es : List Event) → Throughout TheReportTellsTheLog [] (steps_of k clients servers disks blocks form es)
+Runs_tell_the_log =
+    (k : Config) (clients servers disks blocks form : ℕ) (es : List Event) →
+    Throughout TheReportTellsTheLog [] (steps_of k clients servers disks blocks form es)

@@ -68,3 +68,20 @@ module _ {V : Type 0} (key : V → Key) (p : V → Bool) where
   seconds_are ks n es d l a =
       rising_is ks (map (second_of key) (filter p (listed n (row_at es)))) a.rising
       (λ k. a.same k ∙ sym (any_value (λ v. p v && (second_of key v == k)) n es d l) ∙ sym (any_map_filter (second_of key) p k (listed n (row_at es))))
+
+-- one more row is looked at
+pub any_next : {V : Type 0} (p : V → Bool) (xs : List V) (i : ℕ) (x : V) → slice_get xs i ≡ Some x → list_any p (take (i + 1) xs) ≡ list_any p (take i xs) || p x
+any_next p xs i x e = ap (λ n. list_any p (take n xs)) (add-one i) ∙ from p xs i x e
+  where
+    alone : (b : Bool) → b || false ≡ b
+    alone true = refl
+    alone false = refl
+
+    turn : (a b c : Bool) → a || (b || c) ≡ (a || b) || c
+    turn true b c = refl
+    turn false b c = refl
+
+    from : {V : Type 0} (p : V → Bool) (xs : List V) (i : ℕ) (x : V) → slice_get xs i ≡ Some x → list_any p (take (suc i) xs) ≡ list_any p (take i xs) || p x
+    from p [] i x e = cc
+    from p (y ∷ ys) zero x e = let s : y ≡ x = cc in alone (p y) ∙ ap p s
+    from p (y ∷ ys) (suc i) x e = ap (λ b. p y || b) (from p ys i x e) ∙ turn (p y) (list_any p (take i ys)) (p x)

@@ -149,6 +149,13 @@ impl<V: Row> ClientTable<V> {
         self.table.has(key, test)
     }
 
+    /// Whether a row passes the test. It looks at every row.
+    pub fn any<T: Test<V>>(&self, test: &T) -> bool
+        ensures { result ≡ list_any (T.passes test.now) self.now }
+    {
+        self.table.any(test)
+    }
+
     /// Puts a row in the place of that with its key, or last where there is none. The first number of its key is a client's,
     /// from 1 to 16.
     pub fn put(&mut self, row: V) -> Result<(), AllocError>

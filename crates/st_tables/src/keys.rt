@@ -31,6 +31,20 @@ pub trait Test<V> {
         ensures { result ≡ passes self.now row.now };
 }
 
+/// Every row passes.
+#[derive(Clone, Copy)]
+pub struct Every;
+
+impl<V> Test<V> for Every {
+    ghost use Rattle.std.specs.Prelude.{true};
+
+    ghost passes = { λ t v. true };
+
+    fn test(&self, _row: &V) -> bool {
+        true
+    }
+}
+
 impl Row for LockRow {
     ghost use Rattle.st_tables.specs.Tables.{lock_key};
 

@@ -8,6 +8,6 @@ mod rising;
 mod table;
 
 pub use clients::ClientTable;
-pub use keys::{Key, Row, Test};
+pub use keys::{Every, Key, Row, Test};
 pub use rising::put_key;
 pub use table::Table;

@@ -1,5 +1,5 @@
 // Rows in the order in which they came, found by their keys.
-ghost use Rattle.std.specs.Prelude.{◌≡◌, ◌<◌, ◌^◌, ◌&&◌, ◌==◌, ℕ, [], OnOk, OnErr, IfOk, IsSome, find, filter, map, not, length, if◌then◌else◌, Some, cond, nat_eq, is_some};
+ghost use Rattle.std.specs.Prelude.{◌≡◌, ◌<◌, ◌^◌, ◌&&◌, ◌||◌, ◌==◌, ℕ, [], OnOk, OnErr, IfOk, IsSome, find, filter, map, not, length, if◌then◌else◌, Some, cond, nat_eq, is_some};
 ghost use Rattle.std.specs.List.{IsDistinct, list_any};
 ghost use Rattle.std.specs.Option.{option_copied};
 ghost use Rattle.st_rules.specs.Keys.{put, rising, with_key};
@@ -44,6 +44,13 @@ fn put_second<V: Row, T: Test<V>>(found: &mut Vec<u32>, row: &V, test: &T) -> Re
     } else {
         Ok(())
     }
+}
+
+/// Either.
+fn either(a: bool, b: bool) -> bool
+    ensures { result ≡ a || b }
+{
+    a || b
 }
 
 /// The lower of two places.
@@ -148,6 +155,17 @@ impl<V: Row> Table<V> {
             Some(row) => test.test(row),
             None => false,
         }
+    }
+
+    /// Whether a row passes the test. It looks at every row.
+    pub fn any<T: Test<V>>(&self, test: &T) -> bool
+        ensures { result ≡ list_any (T.passes test.now) self.now }
+    {
+        let mut found = false;
+        for i in 0..self.rows.len() {
+            found = either(found, test.test(&self.rows[i]));
+        }
+        found
     }
 
     /// Writes a row over the one with its key, where there is one.

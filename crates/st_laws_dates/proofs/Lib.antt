@@ -1,0 +1,7 @@
+pub mod Known
+pub mod Serving
+pub mod Asking
+pub mod Hearing
+pub mod Said
+pub mod Steps
+pub mod Law

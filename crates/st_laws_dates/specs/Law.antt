@@ -1,0 +1,16 @@
+-- The law on the dates of leases, over whole runs.
+use Rattle.std.specs.Prelude.{◌≡◌, ℕ, ◌+◌, true, List, []}
+use Rattle.std.specs.List.{list_all}
+use Rattle.st_base.specs.declared.config.Config.{Config}
+use Rattle.st_messages.specs.declared.event.Event.{Event}
+use Rattle.st_rules.specs.World.{fresh_world}
+use Rattle.st_rules.specs.History.{traced}
+use Rattle.st_rules.specs.Safety.{Throughout, LeasesAreDatedFromRequests, IsHead, is_event, steps}
+
+-- In every run from the world of a head, over every list of events in their ranges, leases are dated from requests at every step.
+abbrev pub Leases_are_dated : Type 0
+Leases_are_dated =
+    (k : Config) (clients servers disks blocks form : ℕ) (es : List Event)
+    → IsHead k clients servers disks blocks form
+    → list_all (is_event (clients + servers)) es ≡ true
+    → Throughout LeasesAreDatedFromRequests [] (steps es (traced (fresh_world k clients servers disks blocks form)))

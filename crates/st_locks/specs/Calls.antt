@@ -1,0 +1,70 @@
+-- What the calls of a lock table answer.
+use Rattle.std.specs.Prelude.{◌≡◌, ◌<◌, ◌^◌, ◌&&◌, ◌==◌, ◌++◌, ◌∷◌, [], ℕ, Bool, not, is_some, find, List, Option, None, Some, Result, Ok, Err}
+use Rattle.st_base.specs.declared.ids.ClientId.{ClientId}
+use Rattle.st_base.specs.declared.ids.Life.{Life}
+use Rattle.st_base.specs.declared.ids.Epoch.{Epoch}
+use Rattle.st_base.specs.declared.ids.GrantNo.{GrantNo}
+use Rattle.st_base.specs.declared.mode.Mode.{Mode}
+use Rattle.st_rules.specs.declared.locks.LockRow.{LockRow}
+use Rattle.st_rules.specs.declared.locks.Waiter.{Waiter}
+use Rattle.st_rules.specs.declared.locks.Verdict.{Verdict}
+use Rattle.st_rules.specs.declared.locks.AcquireRefusal.{AcquireRefusal}
+use Rattle.st_rules.specs.declared.locks.AcquireRefusal.TheVariants as acquiring
+use Rattle.st_rules.specs.declared.locks.InstallRefusal.{InstallRefusal}
+use Rattle.st_rules.specs.declared.locks.InstallRefusal.TheVariants as installing
+use Rattle.st_locks.specs.declared.refusal.LockRefusal.{LockRefusal}
+use Rattle.st_locks.specs.declared.refusal.LockRefusal.TheVariants.{TooManyLocks, Conflict, Memory}
+use Rattle.st_rules.specs.Locks.{Locks, Acquired, Granting, Demanding, is_wait_by, is_row_of}
+
+-- what is always so of the counters of a lock table
+pub record IsSound (epoch : Epoch) (grants : ℕ) : Type 0 where
+  pub epochs : epoch.0 < 2 ^ 32
+  pub counted : grants < 2 ^ 32
+
+-- a wait of the client for a file of which it has no row
+abbrev pub waits_alone : List LockRow → ClientId → Waiter → Bool
+waits_alone rows c w = is_wait_by c w && not (is_some (find (is_row_of c w.ino) rows))
+
+-- a row as it is told
+abbrev pub told : Option LockRow → Option (GrantNo × Mode)
+told None = None
+told (Some r) = Some (r.g, r.mode)
+
+-- the table and the verdict after an acquire
+abbrev pub acquired : Locks → Verdict → Acquired
+acquired l v = record { locks = l; verdict = v }
+
+-- an acquire answers as its definition; where it refuses and where memory runs out nothing changes
+abbrev pub Answers : Locks → Locks → Result Verdict LockRefusal → Result Acquired AcquireRefusal → Type 0
+Answers old new (Ok v) machine = machine ≡ Ok (acquired new v)
+Answers old new (Err Memory) machine = new ≡ old
+Answers old new (Err TooManyLocks) machine = (machine ≡ Err acquiring.TooManyLocks) × (new ≡ old)
+Answers old new (Err (Conflict ino holder)) machine = ⊥
+
+-- an acquire that is not refused
+abbrev pub Gives : Locks → Locks → Result Verdict LockRefusal → Acquired → Type 0
+Gives old new (Ok v) a = a ≡ acquired new v
+Gives old new (Err e) a = (e ≡ Memory) × (new ≡ old)
+
+-- the table and the grants so far
+abbrev pub granting : Locks → List (ClientId × Life × ℕ × GrantNo × Mode) → Granting
+granting l g = record { locks = l; granted = g }
+
+-- the table and the demands so far
+abbrev pub demanding : Locks → List (ClientId × Life × ℕ × GrantNo × Mode) → Demanding
+demanding l g = record { locks = l; due = g }
+
+-- one file
+abbrev pub same_file : ℕ × GrantNo × Mode → ℕ × GrantNo × Mode → Bool
+same_file a b = a.0 == b.0
+
+-- a row goes last
+abbrev pub with_one : Locks → LockRow → Locks
+with_one l r = record l { rows = l.rows ++ r ∷ [] }
+
+-- an install answers as its definition; where it refuses nothing changes, and where memory runs out nothing is said
+abbrev pub Installs : Locks → Locks → Result (Unit {0}) LockRefusal → Result Locks InstallRefusal → Type 0
+Installs old new (Ok v) machine = machine ≡ Ok new
+Installs old new (Err Memory) machine = Unit {0}
+Installs old new (Err TooManyLocks) machine = ⊥
+Installs old new (Err (Conflict ino holder)) machine = (machine ≡ Err (installing.Conflict ino holder)) × (new ≡ old)

@@ -1,0 +1,117 @@
+// Installing the locks that a client holds.
+ghost use Rattle.std.specs.Prelude.{◌≡◌, ◌≤◌, ◌<◌, ◌+◌, ◌^◌, ◌++◌, ◌∷◌, ◌&&◌, [], IfOk, IfSome, OnOk, OnErr, Some, find, filter, map, not, length, slice_get, None, false, nat_lt, nat_le, ◌==◌, if◌then◌else◌};
+ghost use Rattle.std.specs.List.{IsDistinct, list_any};
+ghost use Rattle.std.specs.Option.{option_copied, option_map, option_to_list};
+ghost use Rattle.st_rules.specs.Keys as keys;
+ghost use Rattle.st_rules.specs.Locks as rules;
+ghost use Rattle.st_locks.specs.Since.{IsClient, KeepsSince, since_of_demand};
+ghost use Rattle.st_locks.specs.Calls.{Answers, Gives, Installs, demanding, granting, same_file, told, with_one};
+
+use crate::refusal::LockRefusal;
+use crate::table::LockTable;
+use st_base::{ClientId, GrantNo, Life, Mode};
+use st_rules::LockRow;
+use std::alloc::AllocError;
+
+fn first_of(clients: &[ClientId]) -> Option<ClientId>
+    ensures { result ≡ slice_get clients.now 0 }
+{
+    match clients {
+        [] => None,
+        [first, ..] => Some(*first),
+    }
+}
+
+impl LockTable {
+    /// The least other client whose row of the file conflicts with the mode.
+    fn holder_against(
+        &self,
+        client: ClientId,
+        ino: u32,
+        mode: Mode,
+    ) -> Result<Option<ClientId>, AllocError>
+        ensures { IfOk result (λ h. h ≡ rules.holder_against self.now client ino mode) }
+    {
+        let alloc = self.alloc;
+        let clients = self.rows.clients_against(alloc, client, ino, mode)?;
+        Ok(first_of(clients.as_slice()))
+    }
+
+    /// The first row that conflicts with another client, and that client.
+    #[tactic(auto, unfolding(st_rules::specs::Locks::first_conflict, st_rules::specs::Locks::conflict_or))]
+    fn first_conflict(
+        &self,
+        client: ClientId,
+        rows: &[(u32, GrantNo, Mode)],
+    ) -> Result<Option<(u32, ClientId)>, AllocError>
+        ensures { IfOk result (λ f. f ≡ rules.first_conflict self.now client rows.now) }
+    {
+        for row in rows {
+            if let Some(holder) = self.holder_against(client, row.0, row.2)? {
+                return Ok(Some((row.0, holder)));
+            }
+        }
+        Ok(None)
+    }
+
+    fn push_installed(
+        &mut self,
+        client: ClientId,
+        life: Life,
+        row: (u32, GrantNo, Mode),
+    ) -> Result<(), AllocError>
+        requires client { IsClient client }
+        requires new { rules.row_of self.old client row.0 ≡ None }
+        ensures { OnOk result (self.new ≡ with_one self.old (rules.installed client life row)) }
+    {
+        self.rows.put(LockRow {
+            ino: row.0,
+            client,
+            life,
+            g: row.1,
+            mode: row.2,
+            demand: None,
+        })?;
+        Ok(())
+    }
+
+    #[tactic(auto, unfolding(st_rules::specs::Locks::with_rows))]
+    fn push_rows(
+        &mut self,
+        client: ClientId,
+        life: Life,
+        rows: &[(u32, GrantNo, Mode)],
+    ) -> Result<(), AllocError>
+        requires client { IsClient client }
+        requires distinct { IsDistinct same_file rows.now }
+        requires none { rules.has_rows self.old client ≡ false }
+        ensures { OnOk result (self.new ≡ rules.with_rows self.old client life rows.now) }
+    {
+        for row in rows {
+            self.push_installed(client, life, *row)?;
+        }
+        Ok(())
+    }
+
+    /// All rows of a client are installed, or none, at the first row that conflicts with another client's.
+    #[tactic(auto, unfolding(st_rules::specs::Locks::install, st_rules::specs::Locks::install_at))]
+    pub fn install(
+        &mut self,
+        client: ClientId,
+        life: Life,
+        rows: &[(u32, GrantNo, Mode)],
+    ) -> Result<(), LockRefusal>
+        requires client { IsClient client }
+        requires distinct { IsDistinct same_file rows.now }
+        requires none { rules.has_rows self.old client ≡ false }
+        ensures { Installs self.old self.new result (rules.install self.old client life rows.now) }
+    {
+        match self.first_conflict(client, rows)? {
+            Some((ino, holder)) => Err(LockRefusal::Conflict(ino, holder)),
+            None => {
+                self.push_rows(client, life, rows)?;
+                Ok(())
+            }
+        }
+    }
+}

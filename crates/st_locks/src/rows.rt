@@ -1,0 +1,298 @@
+// The lock rows: by client and file, counted by client, and those that wait for an answer by the moment.
+ghost use Rattle.std.specs.Prelude.{◌≡◌, ◌<◌, ◌^◌, ◌&&◌, ◌==◌, ◌+◌, ℕ, [], IfOk, IfSome, OnOk, OnErr, None, Some, find, filter, map, not, length, if◌then◌else◌, true, nat_le};
+ghost use Rattle.std.specs.List.{IsDistinct, list_all, list_any};
+ghost use Rattle.std.specs.BTreeSet.{contains};
+ghost use Rattle.st_base.specs.declared.ids.ClientId.{ClientId};
+ghost use Rattle.st_base.specs.declared.ids.Stamp.{Stamp};
+ghost use Rattle.st_rules.specs.declared.locks.LockRow.{LockRow};
+ghost use Rattle.st_base.specs.Mode.{conflicts};
+ghost use Rattle.st_rules.specs.Keys as keys;
+ghost use Rattle.st_rules.specs.Locks as rules;
+ghost use Rattle.st_tables.specs.Tables.{is_of_client, lock_key, same_key};
+ghost use Rattle.st_locks.specs.Since.{IsClient, KeepsSince, is_since, since_of, since_of_demand, wait_order};
+
+use crate::since::{Unanswered, forget, put_in, take_out};
+use st_base::{ClientId, Config, Mode, Stamp};
+use st_rules::{LockRow, RowDemand};
+use st_tables::{ClientTable, Every, Key, Test};
+use std::alloc::{AllocError, Global};
+use std::collections::BTreeSet;
+use std::marker::Model;
+
+/// The key of a client's row or wait for a file.
+pub fn key(client: ClientId, ino: u32) -> Key
+    ensures { result ≡ record { first = client.0; second = ino } }
+{
+    Key {
+        first: client.0 as u32,
+        second: ino,
+    }
+}
+
+fn since_of_demand(demand: Option<RowDemand>) -> Option<Stamp>
+    ensures { result ≡ since_of_demand demand }
+{
+    match demand {
+        None => None,
+        Some(d) => d.since,
+    }
+}
+
+fn since_of(row: Option<LockRow>) -> Option<Stamp>
+    ensures { result ≡ since_of row }
+{
+    match row {
+        None => None,
+        Some(row) => since_of_demand(row.demand),
+    }
+}
+
+/// Another client's rows that conflict with a mode.
+#[derive(Clone, Copy)]
+struct Against {
+    client: ClientId,
+    mode: Mode,
+}
+
+impl Test<LockRow> for Against {
+    ghost use Rattle.std.specs.Prelude.{◌&&◌, not};
+    ghost use Rattle.st_base.specs.Mode.{conflicts};
+    ghost use Rattle.st_rules.specs.Keys.{same_client};
+
+    ghost passes = { λ t r. not (same_client r.client t.client) && conflicts r.mode t.mode };
+
+    fn test(&self, row: &LockRow) -> bool {
+        row.client.0 != self.client.0 && row.mode.conflicts(self.mode)
+    }
+}
+
+/// Whether at least this time has passed since a moment.
+pub fn passed(since: Stamp, wait: u64, now: Stamp) -> bool
+    ensures { result ≡ nat_le (since.0 + wait) now.0 }
+{
+    wait <= now.0 && since.0 <= now.0 - wait
+}
+
+fn is_overdue_since(since: Option<Stamp>, now: Stamp, config: Config) -> bool
+    ensures { result ≡ rules.is_overdue_since config now since }
+{
+    match since {
+        None => false,
+        Some(since) => passed(since, config.demand, now),
+    }
+}
+
+fn is_overdue_row(row: &LockRow, now: Stamp, config: Config) -> bool
+    ensures { result ≡ rules.is_overdue config now row.now }
+{
+    match row.demand {
+        None => false,
+        Some(d) => is_overdue_since(d.since, now, config),
+    }
+}
+
+/// A client's rows whose demands wait too long for their answers.
+#[derive(Clone, Copy)]
+struct Overdue {
+    client: ClientId,
+    now: Stamp,
+    config: Config,
+}
+
+impl Test<LockRow> for Overdue {
+    ghost use Rattle.std.specs.Prelude.{◌&&◌, ◌==◌};
+    ghost use Rattle.st_rules.specs.Locks.{is_overdue};
+
+    ghost passes = { λ t r. is_overdue t.config t.now r && (r.client.0 == t.client.0) };
+
+    fn test(&self, row: &LockRow) -> bool {
+        is_overdue_row(row, self.now, self.config) && row.client.0 == self.client.0
+    }
+}
+
+/// A client's rows.
+#[derive(Clone, Copy)]
+struct OfClient {
+    client: ClientId,
+}
+
+impl Test<LockRow> for OfClient {
+    ghost use Rattle.st_rules.specs.Locks.{is_row_by};
+
+    ghost passes = { λ t r. is_row_by t.client r };
+
+    fn test(&self, row: &LockRow) -> bool {
+        row.client.0 == self.client.0
+    }
+}
+
+/// The lock rows, in the order in which they were first granted or installed. Contracts see the list.
+#[derive(Drop)]
+pub struct Rows {
+    table: ClientTable<LockRow>,
+    since: BTreeSet<Unanswered>,
+}
+
+impl Model for Rows {
+    ghost use Rattle.std.specs.Prelude.{List};
+    ghost use Rattle.st_rules.specs.declared.locks.LockRow.{LockRow};
+
+    ghost Value = { List LockRow };
+
+    ghost use Rattle.st_locks.specs.Since.{AreListed};
+
+    ghost view = { λ r. r.table };
+
+    ghost invariant = { λ r. AreListed r.table r.since };
+}
+
+impl Rows {
+    pub fn new(alloc: Global) -> Rows
+        ensures { result ≡ [] }
+    {
+        Rows {
+            table: ClientTable::new(alloc),
+            since: BTreeSet::new(alloc),
+        }
+    }
+
+    /// How many rows there are.
+    pub fn len(&self) -> usize
+        ensures len { result ≡ length self.now }
+        ensures small { result < 2 ^ 63 }
+        ensures distinct { IsDistinct same_key (map lock_key self.now) }
+        ensures clients { list_all (is_of_client lock_key) self.now ≡ true }
+    {
+        self.table.len()
+    }
+
+    /// How many rows the client has.
+    pub fn count(&self, client: ClientId) -> u64
+        ensures { result ≡ length (filter (rules.is_row_by client) self.now) }
+    {
+        self.table.count(client)
+    }
+
+    /// The client's row of the file.
+    pub fn get(&self, client: ClientId, ino: u32) -> Option<LockRow>
+        ensures row { result ≡ find (rules.is_row_of client ino) self.now }
+        ensures same { IfSome result (λ r. (r.client ≡ client) × (r.ino ≡ ino)) }
+    {
+        self.table.get(key(client, ino)).copied()
+    }
+
+    /// The demands that wait for an answer: since when, of which file, of which client.
+    pub fn by_since(&self) -> &BTreeSet<Unanswered>
+        ensures { (s : Stamp) (i : ℕ) (c : ClientId) → contains wait_order result.now (s, i, c) ≡ is_since s (since_of (find (rules.is_row_of c i) self.now)) }
+    {
+        &self.since
+    }
+
+    /// Puts a row without a demand in place of its client's row of the file.
+    pub fn put(&mut self, row: LockRow) -> Result<(), AllocError>
+        requires client { IsClient row.client }
+        requires fresh { row.demand ≡ None }
+        ensures ok { OnOk result (self.new ≡ rules.with_row row self.old) }
+        ensures err { OnErr result (self.new ≡ self.old) }
+    {
+        let old = self.table.get(key(row.client, row.ino)).copied();
+        self.table.put(row)?;
+        take_out(&mut self.since, since_of(old), row.ino, row.client);
+        Ok(())
+    }
+
+    /// Takes out the client's row of the file.
+    pub fn remove(&mut self, client: ClientId, ino: u32)
+        ensures { self.new ≡ rules.without_row client ino self.old }
+    {
+        let old = self.table.get(key(client, ino)).copied();
+        self.table.remove(key(client, ino));
+        take_out(&mut self.since, since_of(old), ino, client);
+    }
+
+    /// Writes a row that waits for no answer over its client's row of the file, where it has one.
+    pub fn change(&mut self, row: LockRow)
+        requires { since_of_demand row.demand ≡ None }
+        ensures { (f : LockRow → LockRow) (v : LockRow) → find (rules.is_row_of row.client row.ino) self.old ≡ Some v → row ≡ f v → self.new ≡ map (λ r. if rules.is_row_of row.client row.ino r then f r else r) self.old }
+    {
+        let old = self.table.get(key(row.client, row.ino)).copied();
+        self.table.change(row);
+        take_out(&mut self.since, since_of(old), row.ino, row.client);
+    }
+
+    /// Writes a row over its client's row of the file, which has waited for an answer since the same moment or does not wait.
+    pub fn demand(&mut self, old: LockRow, row: LockRow) -> Result<(), AllocError>
+        requires found { find (rules.is_row_of row.client row.ino) self.old ≡ Some old }
+        requires since { KeepsSince (since_of_demand old.demand) (since_of_demand row.demand) }
+        ensures { OnOk result ((f : LockRow → LockRow) → row ≡ f old → self.new ≡ map (λ r. if rules.is_row_of row.client row.ino r then f r else r) self.old) }
+    {
+        put_in(
+            &mut self.since,
+            since_of_demand(row.demand),
+            row.ino,
+            row.client,
+        )?;
+        self.table.change(row);
+        Ok(())
+    }
+
+    /// Takes out all rows of a client.
+    pub fn forget(&mut self, client: ClientId)
+        ensures { self.new ≡ filter (λ r. not (rules.is_row_by client r)) self.old }
+    {
+        self.table.forget(client);
+        forget(&mut self.since, client);
+    }
+
+    /// Whether another client's row of the file conflicts with the mode.
+    pub fn stands_against(&self, client: ClientId, ino: u32, mode: Mode) -> bool
+        ensures { result ≡ list_any (rules.stands_against client ino mode) self.now }
+    {
+        self.table.any_on(ino, &Against { client, mode })
+    }
+
+    /// Whether this holder's row of the file, if it has one, conflicts with another client's mode.
+    pub fn is_against(&self, client: ClientId, ino: u32, mode: Mode, holder: ClientId) -> bool
+        ensures { result ≡ list_any (λ r. rules.is_row_of holder ino r && (not (keys.same_client r.client client) && conflicts r.mode mode)) self.now }
+    {
+        self.table.has(key(holder, ino), &Against { client, mode })
+    }
+
+    /// The other clients whose rows of the file conflict with the mode, in rising order.
+    pub fn clients_against(
+        &self,
+        alloc: Global,
+        client: ClientId,
+        ino: u32,
+        mode: Mode,
+    ) -> Result<Vec<ClientId>, AllocError>
+        ensures { IfOk result (λ v. v.items ≡ map keys.client (keys.rising (map rules.client_of_row (filter (rules.stands_against client ino mode) self.now)))) }
+    {
+        self.table.clients_on(alloc, ino, &Against { client, mode })
+    }
+
+    /// Whether the client has a row whose demand waits too long for its answer.
+    pub fn is_overdue(&self, client: ClientId, now: Stamp, config: Config) -> bool
+        ensures { result ≡ list_any (λ r. rules.is_overdue config now r && (r.client.0 == client.0)) self.now }
+    {
+        self.table.any(&Overdue {
+            client,
+            now,
+            config,
+        })
+    }
+
+    /// The clients with a row of the file, in rising order.
+    pub fn clients_with(&self, alloc: Global, ino: u32) -> Result<Vec<ClientId>, AllocError>
+        ensures { IfOk result (λ v. v.items ≡ map keys.client (keys.rising (map rules.client_of_row (filter (rules.is_row_on ino) self.now)))) }
+    {
+        self.table.clients_on(alloc, ino, &Every)
+    }
+
+    /// The files of the client's rows, in rising order.
+    pub fn files(&self, alloc: Global, client: ClientId) -> Result<Vec<u32>, AllocError>
+        ensures { IfOk result (λ v. v.items ≡ keys.rising (map rules.ino_of_row (filter (rules.is_row_by client) self.now))) }
+    {
+        self.table.seconds(alloc, &OfClient { client })
+    }
+}

@@ -1,0 +1,491 @@
+// The lock table: look-ups, and what acquires a lock.
+ghost use Rattle.std.specs.Prelude.{◌≡◌, ◌≤◌, ◌<◌, ◌+◌, ◌^◌, ◌++◌, ◌∷◌, ◌&&◌, ◌||◌, [], ℕ, IfOk, IfSome, OnOk, OnErr, Some, find, filter, map, not, length, slice_get, None, false, nat_lt, nat_le, ◌==◌, if◌then◌else◌};
+ghost use Rattle.std.specs.List.{IsDistinct, list_any};
+ghost use Rattle.std.specs.Option.{option_copied, option_map, option_to_list};
+ghost use Rattle.st_rules.specs.Keys as keys;
+ghost use Rattle.st_rules.specs.Locks as rules;
+ghost use Rattle.std.specs.BTreeSet.{contains};
+ghost use Rattle.st_base.specs.declared.ids.ClientId.{ClientId};
+ghost use Rattle.st_base.specs.declared.ids.Stamp.{Stamp};
+ghost use Rattle.st_locks.specs.Since.{IsClient, is_since, since_of, wait_order};
+ghost use Rattle.st_locks.specs.Calls.{Answers, Gives, Installs, demanding, granting, same_file, told, with_one};
+
+use crate::refusal::LockRefusal;
+use crate::rows::{Rows, key};
+use crate::since::Unanswered;
+use st_base::{ClientId, Clients, Epoch, GrantNo, Life, Mode, ServerId, Stamp};
+use st_rules::{LockRow, Verdict, Waiter};
+use st_tables::{ClientTable, Every, Test};
+use std::alloc::{AllocError, Global};
+use std::collections::BTreeSet;
+use std::marker::Model;
+
+/// The locks of one server in one epoch. Contracts see them as the epoch, the number of grants, the list of rows and the
+/// list of waiters.
+#[derive(Drop)]
+pub struct LockTable {
+    pub(crate) alloc: Global,
+    pub(crate) epoch: Epoch,
+    pub(crate) grants: u64,
+    pub(crate) rows: Rows,
+    pub(crate) waits: ClientTable<Waiter>,
+}
+
+impl Model for LockTable {
+    ghost use Rattle.std.specs.Prelude.{◌<◌, ◌^◌, ◌+◌};
+    ghost use Rattle.st_rules.specs.Locks as rules;
+
+    ghost Value = { rules.Locks };
+
+    ghost use Rattle.st_locks.specs.Calls.{IsSound};
+
+    ghost view = { λ t. record { epoch = t.epoch; grants = t.grants; rows = t.rows; waiters = t.waits } };
+
+    ghost invariant = { λ t. IsSound t.epoch t.grants };
+}
+
+/// The waits of other clients.
+#[derive(Clone, Copy)]
+pub(crate) struct Besides {
+    pub(crate) client: ClientId,
+}
+
+impl Test<Waiter> for Besides {
+    ghost use Rattle.std.specs.Prelude.{not};
+    ghost use Rattle.st_rules.specs.Keys.{same_client};
+
+    ghost passes = { λ t w. not (same_client w.client t.client) };
+
+    fn test(&self, wait: &Waiter) -> bool {
+        wait.client.0 != self.client.0
+    }
+}
+
+/// The waits of a client for files of which it has no row.
+#[derive(Clone, Copy)]
+pub(crate) struct Alone<'a> {
+    pub(crate) client: ClientId,
+    pub(crate) rows: &'a Rows,
+}
+
+impl<'a> Test<Waiter> for Alone<'a> {
+    ghost use Rattle.st_locks.specs.Calls.{waits_alone};
+
+    ghost passes = { λ t w. waits_alone t.rows.now t.client w };
+
+    fn test(&self, wait: &Waiter) -> bool {
+        wait.client.0 == self.client.0 && self.rows.get(self.client, wait.ino).is_none()
+    }
+}
+
+/// The greater of two modes.
+fn greater(a: Mode, b: Mode) -> Mode
+    ensures { result ≡ rules.greater a b }
+{
+    if a.covers(b) { a } else { b }
+}
+
+pub(crate) fn push_if(
+    found: &mut Vec<ClientId>,
+    client: ClientId,
+    yes: bool,
+) -> Result<(), AllocError>
+    ensures { OnOk result (found.new.items ≡ found.old.items ++ (if yes then client ∷ [] else [])) }
+{
+    if yes {
+        found.push(client)?;
+        Ok(())
+    } else {
+        Ok(())
+    }
+}
+
+/// Either.
+fn either(a: bool, b: bool) -> bool
+    ensures { result ≡ a || b }
+{
+    a || b
+}
+
+fn push_holder(
+    found: &mut Vec<(ClientId, GrantNo, Mode)>,
+    row: Option<LockRow>,
+) -> Result<(), AllocError>
+    ensures { OnOk result (found.new.items ≡ found.old.items ++ option_to_list (option_map rules.holder_in_list row)) }
+{
+    match row {
+        None => Ok(()),
+        Some(row) => {
+            found.push((row.client, row.g, row.mode))?;
+            Ok(())
+        }
+    }
+}
+
+fn push_row(
+    found: &mut Vec<(u32, GrantNo, Mode)>,
+    ino: u32,
+    row: Option<LockRow>,
+) -> Result<(), AllocError>
+    ensures { OnOk result (found.new.items ≡ found.old.items ++ option_to_list (option_map (rules.row_in_list ino) row)) }
+{
+    match row {
+        None => Ok(()),
+        Some(row) => {
+            found.push((ino, row.g, row.mode))?;
+            Ok(())
+        }
+    }
+}
+
+impl LockTable {
+    /// A table without locks, of this epoch, which is from 1 to 2^32 - 1.
+    pub fn new(alloc: Global, _server: ServerId, epoch: Epoch) -> LockTable
+        requires { epoch.0 < 2 ^ 32 }
+        ensures { result ≡ rules.no_locks epoch }
+    {
+        LockTable {
+            alloc,
+            epoch,
+            grants: 0,
+            rows: Rows::new(alloc),
+            waits: ClientTable::new(alloc),
+        }
+    }
+
+    /// The epoch of the table.
+    pub fn epoch(&self) -> Epoch
+        ensures { result ≡ self.now.epoch }
+    {
+        self.epoch
+    }
+
+    pub(crate) fn row_at(&self, client: ClientId, ino: u32) -> Option<LockRow>
+        ensures row { result ≡ rules.row_of self.now client ino }
+        ensures same { IfSome result (λ r. (r.client ≡ client) × (r.ino ≡ ino)) }
+    {
+        self.rows.get(client, ino)
+    }
+
+    /// The grant number and the mode of the client's row of the file.
+    pub fn row(&self, client: ClientId, ino: u32) -> Option<(GrantNo, Mode)>
+        ensures { result ≡ told (rules.row_of self.now client ino) }
+    {
+        let row = self.row_at(client, ino)?;
+        Some((row.g, row.mode))
+    }
+
+    /// Whether the client has a row.
+    pub fn has_rows(&self, client: ClientId) -> bool
+        ensures { result ≡ rules.has_rows self.now client }
+    {
+        self.rows.count(client) > 0
+    }
+
+    /// The demands that wait for an answer: since when, of which file, of which client; a row is there exactly where its
+    /// demand waits.
+    pub fn by_since(&self) -> &BTreeSet<Unanswered>
+        ensures { (s : Stamp) (i : ℕ) (c : ClientId) → contains wait_order result.now (s, i, c) ≡ is_since s (since_of (rules.row_of self.now c i)) }
+    {
+        self.rows.by_since()
+    }
+
+    /// The number of the next grant.
+    pub(crate) fn next_grant(&self) -> GrantNo
+        requires { self.now.grants + 1 < 2 ^ 32 }
+        ensures { result ≡ rules.next_grant self.now }
+    {
+        GrantNo(self.epoch.0 * 4294967296 + self.grants + 1)
+    }
+
+    /// The client gets a lock.
+    #[tactic(auto, unfolding(st_rules::specs::Locks::grant))]
+    pub(crate) fn grant(
+        &mut self,
+        client: ClientId,
+        life: Life,
+        ino: u32,
+        mode: Mode,
+    ) -> Result<(), AllocError>
+        requires client { IsClient client }
+        requires room { self.old.grants + 1 < 2 ^ 32 }
+        ensures ok { OnOk result (self.new ≡ rules.grant self.old client life ino mode) }
+        ensures err { OnErr result (self.new ≡ self.old) }
+    {
+        let g = self.next_grant();
+        self.rows.put(LockRow {
+            ino,
+            client,
+            life,
+            g,
+            mode,
+            demand: None,
+        })?;
+        self.waits.remove(key(client, ino));
+        self.grants += 1;
+        Ok(())
+    }
+
+    /// The client waits for a lock.
+    #[tactic(auto, unfolding(st_rules::specs::Locks::queue, st_rules::specs::Locks::queue_at))]
+    fn queue(
+        &mut self,
+        client: ClientId,
+        life: Life,
+        ino: u32,
+        mode: Mode,
+    ) -> Result<(), AllocError>
+        requires client { IsClient client }
+        ensures ok { OnOk result (self.new ≡ rules.queue self.old client life ino mode) }
+        ensures err { OnErr result (self.new ≡ self.old) }
+    {
+        match self.waits.get(key(client, ino)).copied() {
+            None => {
+                self.waits.put(Waiter {
+                    ino,
+                    client,
+                    life,
+                    mode,
+                })?;
+                Ok(())
+            }
+            Some(wait) => {
+                self.waits.change(Waiter {
+                    ino,
+                    client,
+                    life: wait.life,
+                    mode: greater(wait.mode, mode),
+                });
+                Ok(())
+            }
+        }
+    }
+
+    /// The client holds the lock, is granted one, or waits.
+    #[tactic(auto, unfolding(st_rules::specs::Locks::acquire_granted))]
+    fn acquire_granted(
+        &mut self,
+        client: ClientId,
+        life: Life,
+        ino: u32,
+        mode: Mode,
+    ) -> Result<Verdict, LockRefusal>
+        requires client { IsClient client }
+        requires room { self.old.grants + 1 < 2 ^ 32 }
+        ensures { Gives self.old self.new result (rules.acquire_granted self.old client life ino mode) }
+    {
+        let g = self.next_grant();
+        self.grant(client, life, ino, mode)?;
+        Ok(Verdict::Granted(g, mode))
+    }
+
+    /// The other clients that wait for the file or whose rows conflict.
+    fn in_the_way(
+        &self,
+        client: ClientId,
+        ino: u32,
+        mode: Mode,
+    ) -> Result<Vec<ClientId>, AllocError>
+        ensures { IfOk result (λ v. v.items ≡ rules.in_the_way self.now client ino mode) }
+    {
+        let _rows = self.rows.len();
+        let _waits = self.waits.len();
+        let mut found = Vec::new(self.alloc);
+        for i in 0..16u16 {
+            let other = ClientId(i + 1);
+            let waits = self.waits.has(key(other, ino), &Besides { client });
+            let holds = self.rows.is_against(client, ino, mode, other);
+            push_if(&mut found, other, either(waits, holds))?;
+        }
+        Ok(found)
+    }
+
+    #[tactic(auto, unfolding(st_rules::specs::Locks::acquire_queued))]
+    fn acquire_queued(
+        &mut self,
+        client: ClientId,
+        life: Life,
+        ino: u32,
+        mode: Mode,
+    ) -> Result<Verdict, LockRefusal>
+        requires { IsClient client }
+        ensures { Gives self.old self.new result (rules.acquire_queued self.old client life ino mode) }
+    {
+        let others = self.in_the_way(client, ino, mode)?;
+        self.queue(client, life, ino, mode)?;
+        Ok(Verdict::Queued(Clients::from_vec(others)))
+    }
+
+    fn may_grant(&self, client: ClientId, ino: u32, mode: Mode, grants: bool) -> bool
+        ensures { result ≡ rules.may_grant self.now client ino mode grants }
+    {
+        grants
+            && (!self.waits.any_on(ino, &Besides { client })
+                && !self.rows.stands_against(client, ino, mode))
+    }
+
+    #[tactic(auto, unfolding(st_rules::specs::Locks::acquire_more))]
+    fn acquire_more(
+        &mut self,
+        client: ClientId,
+        life: Life,
+        ino: u32,
+        mode: Mode,
+        grants: bool,
+    ) -> Result<Verdict, LockRefusal>
+        requires client { IsClient client }
+        requires room { self.old.grants + 1 < 2 ^ 32 }
+        ensures { Gives self.old self.new result (rules.acquire_more self.old client life ino mode grants) }
+    {
+        if self.may_grant(client, ino, mode, grants) {
+            self.acquire_granted(client, life, ino, mode)
+        } else {
+            self.acquire_queued(client, life, ino, mode)
+        }
+    }
+
+    /// The client has rows or waits on fewer than 1,024 files. It is counted only where it has fewer rows and has waits that
+    /// could make up the number.
+    fn has_few(&self, client: ClientId) -> Result<bool, AllocError>
+        ensures { IfOk result (λ few. few ≡ nat_lt (length (rules.files_of self.now client)) 1024) }
+    {
+        let _rows = self.rows.len();
+        let _waits = self.waits.len();
+        let rows = self.rows.count(client);
+        if rows >= 1024 {
+            return Ok(false);
+        }
+        if self.waits.count(client) < 1024 - rows {
+            return Ok(true);
+        }
+        let alone = Alone {
+            client,
+            rows: &self.rows,
+        };
+        let files = self.waits.seconds(self.alloc, &alone)?;
+        Ok((files.len() as u64) < 1024 - rows)
+    }
+
+    fn has_place(&self, client: ClientId, ino: u32) -> Result<bool, AllocError>
+        ensures { IfOk result (λ has. has ≡ rules.has_place self.now client ino) }
+    {
+        if self.waits.holds(key(client, ino)) {
+            Ok(true)
+        } else {
+            self.has_few(client)
+        }
+    }
+
+    #[tactic(auto, unfolding(st_rules::specs::Locks::acquire_new))]
+    fn acquire_new(
+        &mut self,
+        client: ClientId,
+        life: Life,
+        ino: u32,
+        mode: Mode,
+        grants: bool,
+    ) -> Result<Verdict, LockRefusal>
+        requires client { IsClient client }
+        requires room { self.old.grants + 1 < 2 ^ 32 }
+        ensures { Answers self.old self.new result (rules.acquire_new self.old client life ino mode grants) }
+    {
+        if self.has_place(client, ino)? {
+            self.acquire_more(client, life, ino, mode, grants)
+        } else {
+            Err(LockRefusal::TooManyLocks)
+        }
+    }
+
+    #[tactic(auto, unfolding(st_rules::specs::Locks::acquire_over, st_rules::specs::Locks::acquire_held))]
+    fn acquire_over(
+        &mut self,
+        client: ClientId,
+        life: Life,
+        ino: u32,
+        mode: Mode,
+        grants: bool,
+        row: LockRow,
+    ) -> Result<Verdict, LockRefusal>
+        requires client { IsClient client }
+        requires room { self.old.grants + 1 < 2 ^ 32 }
+        ensures { Gives self.old self.new result (rules.acquire_over self.old client life ino mode grants row) }
+    {
+        if row.mode.covers(mode) {
+            Ok(Verdict::Granted(row.g, row.mode))
+        } else {
+            self.acquire_more(client, life, ino, mode, grants)
+        }
+    }
+
+    /// The client asks for the file in this mode, S or X; `grants` tells whether new locks may be granted at all.
+    ///
+    /// # Errors
+    /// `TooManyLocks` where the client has neither row nor wait on the file and has 1,024 files with one of them; `Memory`
+    /// where memory runs out. Then nothing changed.
+    #[tactic(auto, unfolding(st_rules::specs::Locks::acquire, st_rules::specs::Locks::acquire_at))]
+    pub fn acquire(
+        &mut self,
+        client: ClientId,
+        life: Life,
+        ino: u32,
+        mode: Mode,
+        grants: bool,
+    ) -> Result<Verdict, LockRefusal>
+        requires client { IsClient client }
+        requires room { self.old.grants + 1 < 2 ^ 32 }
+        ensures { Answers self.old self.new result (rules.acquire self.old client life ino mode grants) }
+    {
+        match self.row_at(client, ino) {
+            None => self.acquire_new(client, life, ino, mode, grants),
+            Some(row) => self.acquire_over(client, life, ino, mode, grants, row),
+        }
+    }
+
+    /// Whether one more lock may be granted in this epoch.
+    pub fn has_room(&self) -> bool
+        ensures { result ≡ nat_lt (self.now.grants + 1) (2 ^ 32) }
+    {
+        self.grants + 1 < 4294967296
+    }
+
+    /// The rows of a file, by rising client: the client, the grant number and the mode.
+    #[tactic(auto, unfolding(st_rules::specs::Locks::holders))]
+    pub fn holders(
+        &self,
+        alloc: Global,
+        ino: u32,
+    ) -> Result<Vec<(ClientId, GrantNo, Mode)>, AllocError>
+        ensures { IfOk result (λ v. v.items ≡ rules.holders self.now ino) }
+    {
+        let clients = self.rows.clients_with(alloc, ino)?;
+        let mut found = Vec::new(alloc);
+        for client in clients.as_slice() {
+            push_holder(&mut found, self.row_at(*client, ino))?;
+        }
+        Ok(found)
+    }
+
+    /// The rows of a client, by rising file: the file, the grant number and the mode.
+    #[tactic(auto, unfolding(st_rules::specs::Locks::rows_of))]
+    pub fn of(
+        &self,
+        alloc: Global,
+        client: ClientId,
+    ) -> Result<Vec<(u32, GrantNo, Mode)>, AllocError>
+        ensures { IfOk result (λ v. v.items ≡ rules.rows_of self.now client) }
+    {
+        let files = self.rows.files(alloc, client)?;
+        let mut found = Vec::new(alloc);
+        for ino in files.as_slice() {
+            push_row(&mut found, *ino, self.row_at(client, *ino))?;
+        }
+        Ok(found)
+    }
+
+    /// The files for which somebody waits, in rising order.
+    pub(crate) fn waited_files(&self) -> Result<Vec<u32>, AllocError>
+        ensures { IfOk result (λ v. v.items ≡ rules.waited_files self.now) }
+    {
+        self.waits.seconds(self.alloc, &Every)
+    }
+}
