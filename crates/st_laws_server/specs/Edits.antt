@@ -122,7 +122,8 @@ pub data Edit (n : ServerState) (now : Stamp) (i : ServerInput) : Turn → Turn 
       Edit n now i t (keep_and_reply (with_locks l t) m.header b)
   Releases : (t : Turn) (c : ClientId) (ino : ℕ) (to : Mode) → Edit n now i t (with_locks (release_to t.state.locks c ino to) t)
   Drops_file : (t : Turn) (ino : ℕ) → Edit n now i t (with_locks (locks.drop_file_waits t.state.locks ino) t)
-  Grants : (t : Turn) (w : Waiter) → grace.is_on t.state.grace now ≡ false → Has w t.state.locks.waiters → list_any (stands_against w.client w.ino w.mode) t.state.locks.rows ≡ false →
+  Grants : (t : Turn) (w : Waiter) → grace.is_on t.state.grace now ≡ false → Has w t.state.locks.waiters →
+      list_any (stands_against w.client w.ino w.mode) t.state.locks.rows ≡ false →
       Edit n now i t (with_locks (grant t.state.locks w.client w.life w.ino w.mode) t)
   Demands : (t : Turn) (r : LockRow) (x : RowDemand) → Edit n now i t (with_locks (with_demand r x t.state.locks) t)
   -- names and pages
