@@ -23,7 +23,7 @@ use Rattle.st_rules.specs.ClientState as cs
 use Rattle.st_rules.specs.ClientState.{ClientSession, Association, ClientState, ClientTurn, Turn, client_turn, enter, leave, at_these, at_each, with_associations, only_at, is_at, server_of}
 use Rattle.st_lemmas.specs.Lists.{Has}
 use Rattle.st_laws_pages.specs.Losses.{Fit, is_ended, Loses, Lasts, Is_lost}
-use Rattle.st_laws_pages.specs.Lives.{Life_next, Pairwise, Stepped}
+use Rattle.st_laws_pages.specs.Lives.{Life_next, Pairwise}
 use Rattle.st_laws_pages.proofs.Tables.{clash, some_is}
 use Rattle.st_laws_pages.proofs.Losing.{lose_is}
 use Rattle.st_laws_pages.proofs.Stepping.{step_lives}

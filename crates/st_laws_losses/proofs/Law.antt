@@ -1,6 +1,6 @@
 -- An expired lease empties its client's association, in each event and over whole runs.
-use Rattle.std.proofs.Common.{◌≡◌, ℕ, ◌+◌, Bool, true, false, not, ◌&&◌, ◌||◌, List, [], ◌∷◌, ◌++◌, ◌==◌, Option, Some, None, Ok, Err, refl, sym, ap, ◌∙◌, subst, if◌then◌else◌}
-use Rattle.std.specs.Prelude.{find, is_some, option_map, Result}
+use Rattle.std.proofs.Common.{◌≡◌, ℕ, ◌+◌, Bool, true, false, not, ◌&&◌, ◌||◌, [], ◌==◌, Option, Some, None, Ok, Err, refl, sym, ap, ◌∙◌, subst, if◌then◌else◌}
+use Rattle.std.specs.Prelude.{is_some, option_map}
 use Rattle.std.specs.List.{list_all}
 use Rattle.std.specs.Option.{option_or}
 use Rattle.std.proofs.lemmas.Bool.{eqb-true, eq-eqb}
@@ -28,7 +28,7 @@ use Rattle.st_rules.specs.ClientState.{ClientSession, Association, ClientState}
 use Rattle.st_rules.specs.Disks as disks
 use Rattle.st_rules.specs.Events as ev
 use Rattle.st_rules.specs.Events.{Scene, present_life}
-use Rattle.st_rules.specs.History.{Traced, traced, traced_after, association_of, association_at}
+use Rattle.st_rules.specs.History.{Traced, traced, association_of, association_at}
 use Rattle.st_rules.specs.World as world
 use Rattle.st_rules.specs.World.{World, ClientSite, site_of, site_runs, is_running, numbered, with_numbered, clock_of, same_node, message_of, receiver_of, issued_of, all_clients, all_servers, fresh_world}
 use Rattle.st_rules.specs.Safety.{step, takes_step, is_expired, has_reached, is_emptied, is_empty_store, is_told_at}
