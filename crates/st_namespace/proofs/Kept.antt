@@ -1,5 +1,5 @@
 -- The order of names stays: when an entry is added, when one goes, and when one moves.
-use Rattle.std.proofs.Common.{◌≡◌, ℕ, zero, suc, ◌+◌, ◌<◌, ◌≤◌, Bool, true, false, List, [], ◌∷◌, length, get_or, set, take, arith, rules, refl, sym, ap, ◌∙◌, ⊎_elim, true≢false, map}
+use Rattle.std.proofs.Common.{◌≡◌, ℕ, zero, suc, ◌+◌, ◌<◌, ◌≤◌, Bool, true, false, List, [], ◌∷◌, ◌++◌, length, get_or, set, take, arith, rules, refl, sym, ap, ◌∙◌, ⊎_elim, true≢false, map}
 use Rattle.std.specs.Prelude.{◌&&◌, not, ◌==◌, find, filter, is_some, bytes_eq}
 use Rattle.std.specs.List.{IsDistinct, AllByRecursion, list_any}
 use Rattle.std.specs.Cmp.{IsEquivalence, both_ways}
@@ -7,11 +7,11 @@ use Rattle.std.proofs.lemmas.Slice.Eq.{bytes_eq-Decides}
 use Rattle.std.proofs.lemmas.Bool.{cases_Bool, and_parts, or_parts}
 use Rattle.std.proofs.lemmas.Map.Keys.{IsDistinct-head, IsDistinct-tail, IsDistinct-cons, IsDistinct-push}
 use Rattle.std.proofs.lemmas.List.Folds.{list_any_none, list_any_at}
-use Rattle.std.proofs.lemmas.List.Elements.{All-from_recursion, All-push, All-filter, All-weaker, All-map}
+use Rattle.std.proofs.lemmas.List.Elements.{All-from_recursion, recursion_from_All, All-push, All-filter, All-weaker, All-map}
 use Rattle.std.proofs.lemmas.List.{length_push, length-map, take_all}
 use Rattle.st_rules.specs.declared.names.NameEntry.{NameEntry}
 use Rattle.st_rules.specs.Names as rules
-use Rattle.st_namespace.specs.Order.{IsInOrder, of_one_name, of_one_inode}
+use Rattle.st_namespace.specs.Order.{IsInOrder, IsRising, of_one_name, of_one_inode}
 
 -- Lists.
 every_filter : {K : Type 0} (P : K → Type 0) (p : K → Bool) (xs : List K) → AllByRecursion P xs → AllByRecursion P (filter p xs)
@@ -77,9 +77,28 @@ unfolding rules.fresh_names IsDistinct
 fresh_in_order = record {
   names = ((refl, (refl, (refl, (refl, (refl, (refl, (refl, tt))))))), ((refl, (refl, (refl, (refl, (refl, (refl, tt)))))), ((refl, (refl, (refl, (refl, (refl, tt))))), ((refl, (refl, (refl, (refl, tt)))), ((refl, (refl, (refl, tt))), ((refl, (refl, tt)), ((refl, tt), (tt, tt))))))));
   inodes = ((refl, (refl, (refl, (refl, (refl, (refl, (refl, tt))))))), ((refl, (refl, (refl, (refl, (refl, (refl, tt)))))), ((refl, (refl, (refl, (refl, (refl, tt))))), ((refl, (refl, (refl, (refl, tt)))), ((refl, (refl, (refl, tt))), ((refl, (refl, tt)), ((refl, tt), (tt, tt))))))));
+  rising = ((omega arith, (omega arith, (omega arith, (omega arith, (omega arith, (omega arith, (omega arith, tt))))))), ((omega arith, (omega arith, (omega arith, (omega arith, (omega arith, (omega arith, tt)))))), ((omega arith, (omega arith, (omega arith, (omega arith, (omega arith, tt))))), ((omega arith, (omega arith, (omega arith, (omega arith, tt)))), ((omega arith, (omega arith, (omega arith, tt))), ((omega arith, (omega arith, tt)), ((omega arith, tt), (tt, tt))))))));
   used = All-from_recursion (λ (e : NameEntry). e.ino < 10) rules.fresh_names.entries (omega arith, (omega arith, (omega arith, (omega arith, (omega arith, (omega arith, (omega arith, (omega arith, tt))))))));
   few = omega arith;
 }
+
+-- Entries by rising inode.
+rising_push : (es : List NameEntry) (e : NameEntry) → IsRising es → AllByRecursion (λ (d : NameEntry). d.ino < e.ino) es → IsRising (es ++ e ∷ [])
+rising_push [] e r a = (tt, tt)
+rising_push (d ∷ es) e r a = (every_push (λ (x : NameEntry). d.ino < x.ino) es e r.0 a.0, rising_push es e r.1 a.1)
+  where
+    every_push : (P : NameEntry → Type 0) (es : List NameEntry) (e : NameEntry) → AllByRecursion P es → P e → AllByRecursion P (es ++ e ∷ [])
+    every_push P [] e a p = (p, tt)
+    every_push P (x ∷ es) e a p = (a.0, every_push P es e a.1 p)
+
+rising_filter : (p : NameEntry → Bool) (es : List NameEntry) → IsRising es → IsRising (filter p es)
+rising_filter p [] r = r
+rising_filter p (e ∷ es) r =
+    let rest = rising_filter p es r.1 in
+    ⊎_elim
+    (λ t. rw t (every_filter (λ (d : NameEntry). e.ino < d.ino) p es r.0, rest))
+    (λ f. rw f rest)
+    (cases_Bool (p e))
 
 -- An entry is added.
 pub added_in_order : (n : rules.Names) (dir : ℕ) (name : List ℕ) (directory : Bool) → IsInOrder n → is_some (rules.entry_at n dir name) ≡ false → length n.entries < 4095 → IsInOrder (rules.added n dir name directory).names
@@ -89,6 +108,7 @@ added_in_order n dir name directory o new few =
     record {
       names = IsDistinct-push names_equiv n.entries e o.names (sym (found_is_any (rules.is_entry_at dir name) n.entries) ∙ new);
       inodes = IsDistinct-push inodes_equiv n.entries e o.inodes (list_any_none (of_one_inode e) n.entries (All-weaker (λ (d : NameEntry). d.ino < n.next) (λ (d : NameEntry). of_one_inode e d ≡ false) (λ d l. grind arith) n.entries o.used));
+      rising = rising_push n.entries e o.rising (recursion_from_All (λ (d : NameEntry). d.ino < n.next) n.entries o.used);
       used = All-push (λ (d : NameEntry). d.ino < n.next + 1) n.entries e (All-weaker (λ (d : NameEntry). d.ino < n.next) (λ (d : NameEntry). d.ino < n.next + 1) (λ d l. omega (arith, l)) n.entries o.used) (omega arith);
       few = rw (length_push n.entries e) (omega arith);
     }
@@ -100,6 +120,7 @@ gone_in_order n dir name o =
     record {
       names = distinct_filter of_one_name keep n.entries o.names;
       inodes = distinct_filter of_one_inode keep n.entries o.inodes;
+      rising = rising_filter keep n.entries o.rising;
       used = All-filter keep (λ (d : NameEntry). d.ino < n.next) n.entries o.used;
       few = omega (arith, fewer keep n.entries, o.few);
     }
@@ -197,10 +218,19 @@ module _ (dir : ℕ) (name : List ℕ) (dir2 : ℕ) (name2 : List ℕ) where
   inodes_after [] d = d
   inodes_after (e ∷ es) d = IsDistinct-cons of_one_inode (move e) (map move es) (inodes_apart e es (IsDistinct-head of_one_inode e es d)) (inodes_after es (IsDistinct-tail of_one_inode e es d))
 
+  above_after : (x : NameEntry) (es : List NameEntry) → AllByRecursion (λ (y : NameEntry). x.ino < y.ino) es → AllByRecursion (λ (y : NameEntry). (move x).ino < y.ino) (map move es)
+  above_after x [] a = tt
+  above_after x (e ∷ es) a = (rw (ino_stays x, ino_stays e) a.0, above_after x es a.1)
+
+  rising_after : (es : List NameEntry) → IsRising es → IsRising (map move es)
+  rising_after [] r = r
+  rising_after (e ∷ es) r = (above_after e es r.0, rising_after es r.1)
+
   pub renamed_in_order : (n : rules.Names) → IsInOrder n → is_some (rules.entry_at n dir2 name2) ≡ false → IsInOrder (record { entries = map (rules.move_entry dir name dir2 name2) n.entries; next = n.next })
   renamed_in_order n o new = record {
     names = names_after n.entries o.names (sym (found_is_any is_new n.entries) ∙ new);
     inodes = inodes_after n.entries o.inodes;
+    rising = rising_after n.entries o.rising;
     used = All-map (λ (e : NameEntry). e.ino < n.next) move n.entries (All-weaker (λ (e : NameEntry). e.ino < n.next) (λ (e : NameEntry). (move e).ino < n.next) (λ e l. rw (ino_stays e) l) n.entries o.used);
     few = rw (length-map n.entries move) o.few;
   }

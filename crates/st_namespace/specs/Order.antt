@@ -1,8 +1,9 @@
 -- What always holds of the names of a server.
-use Rattle.std.specs.Prelude.{◌≤◌, ◌<◌, Bool, ◌==◌, All, length}
-use Rattle.std.specs.List.{IsDistinct}
+use Rattle.std.specs.Prelude.{◌≡◌, ◌≤◌, ◌<◌, Bool, false, ◌==◌, All, List, [], ◌∷◌, length, ⊤}
+use Rattle.std.specs.List.{AllByRecursion, IsDistinct}
+use Rattle.st_base.specs.declared.names.NameRow.{NameRow}
 use Rattle.st_rules.specs.declared.names.NameEntry.{NameEntry}
-use Rattle.st_rules.specs.Names.{Names, is_entry_at}
+use Rattle.st_rules.specs.Names.{Names, is_entry_at, name_below}
 
 -- two entries have one name in one directory
 abbrev pub of_one_name : NameEntry → NameEntry → Bool
@@ -12,10 +13,21 @@ of_one_name a b = is_entry_at a.dir a.name b
 abbrev pub of_one_inode : NameEntry → NameEntry → Bool
 of_one_inode a b = b.ino == a.ino
 
--- No name stands twice in a directory, no inode has two entries, the numbers of inodes are below the next one, and there are
--- fewer than 4,096 entries.
+-- the inodes of entries rise
+abbrev pub IsRising : List NameEntry → Type 0
+IsRising [] = ⊤
+IsRising (e ∷ es) = AllByRecursion (λ d. e.ino < d.ino) es × IsRising es
+
+-- No name stands twice in a directory, no inode has two entries, entries stand in the order of their inodes, the numbers of
+-- inodes are below the next one, and there are fewer than 4,096 entries.
 pub record IsInOrder (n : Names) : Type 0 where
   pub names : IsDistinct of_one_name n.entries
   pub inodes : IsDistinct of_one_inode n.entries
+  pub rising : IsRising n.entries
   pub used : All (λ e. e.ino < n.next) n.entries
   pub few : length n.entries ≤ 4095
+
+-- rows in the order of their names: no later one has a name below that of an earlier one
+abbrev pub AreOrdered : List NameRow → Type 0
+AreOrdered [] = ⊤
+AreOrdered (r ∷ rows) = AllByRecursion (λ s. name_below s.name r.name ≡ false) rows × AreOrdered rows

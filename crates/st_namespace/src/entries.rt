@@ -1,17 +1,44 @@
-ghost use Rattle.std.specs.Prelude.{◌≡◌, find, filter, map, not};
+ghost use Rattle.std.specs.Prelude.{◌≡◌, ◌≤◌, ◌<◌, ℕ, find, filter, get_or, length, map, not};
 ghost use Rattle.std.specs.List.{list_any, IsDistinct};
 ghost use Rattle.std.specs.Option.{option_copied};
 ghost use Rattle.st_rules.specs.Names as names;
-ghost use Rattle.st_namespace.specs.Order.{of_one_name};
+ghost use Rattle.st_namespace.specs.Order.{IsRising, of_one_name};
+ghost use Rattle.st_rules.specs.declared.names.NameEntry.{NameEntry};
 
 use st_base::Name;
 use st_rules::NameEntry;
 
-/// The entry with this inode, if there is one.
+/// The place of the first entry whose inode is not below this one, or the number of entries. The entries stand by rising inode.
+fn place_of_ino(entries: &[NameEntry], ino: u32) -> usize
+    requires { IsRising entries.now }
+    ensures within { result ≤ length entries.now }
+    ensures below { (j : ℕ) (d : NameEntry) → j < result → (get_or entries.now j d).ino < ino }
+    ensures above { (j : ℕ) (d : NameEntry) → result ≤ j → j < length entries.now → ino ≤ (get_or entries.now j d).ino }
+{
+    let mut low = 0;
+    let mut high = entries.len();
+    'halves: while low < high {
+        let middle = low + (high - low) / 2;
+        if entries[middle].ino < ino {
+            low = middle + 1;
+        } else {
+            high = middle;
+        }
+    }
+    low
+}
+
+/// The entry with this inode, if there is one. The entries stand by rising inode.
 pub fn entry_of_ino(entries: &[NameEntry], ino: u32) -> Option<&NameEntry>
+    requires { IsRising entries.now }
     ensures { option_copied result ≡ find (names.is_of_ino ino) entries.now }
 {
-    entries.iter().find(|entry| entry.ino == ino)
+    let place = place_of_ino(entries, ino);
+    if place >= entries.len() {
+        return None;
+    }
+    let entry = &entries[place];
+    if entry.ino == ino { Some(entry) } else { None }
 }
 
 fn is_entry_at(dir: u32, name: &[u8], entry: &NameEntry) -> bool

@@ -1,5 +1,6 @@
 ghost use Rattle.std.specs.Prelude.{◌≡◌, ◌≤◌, IfOk, OnOk, filter, map, insert, length};
 ghost use Rattle.st_rules.specs.Names as names;
+ghost use Rattle.st_namespace.specs.Order.{AreOrdered};
 
 use crate::name_bytes::is_below;
 use st_base::NameRow;
@@ -22,21 +23,29 @@ fn is_listed(dir: u32, after: &[u8], entry: &NameEntry) -> bool
     entry.dir == dir && is_below(after, entry.name.as_slice())
 }
 
-/// The index of the first row above this one, or the number of rows where there is none.
+/// The index of the first row above this one, or the number of rows where there is none. The rows are in the order of their names.
 fn place_of(rows: &[NameRow], row: &NameRow) -> usize
+    requires { AreOrdered rows.now }
     ensures within { result ≤ length rows.now }
     ensures placed { insert rows.now result row.now ≡ names.with_name_row row.now rows.now }
 {
-    for place in 0..rows.len() {
-        if is_below(row.name.as_slice(), rows[place].name.as_slice()) {
-            return place;
+    let mut low = 0;
+    let mut high = rows.len();
+    'halves: while low < high {
+        let middle = low + (high - low) / 2;
+        if is_below(row.name.as_slice(), rows[middle].name.as_slice()) {
+            high = middle;
+        } else {
+            low = middle + 1;
         }
     }
-    rows.len()
+    low
 }
 
 fn add_row(rows: &mut Vec<NameRow>, row: NameRow) -> Result<(), AllocError>
-    ensures { OnOk result (rows.new.items ≡ names.with_name_row row rows.old.items) }
+    requires { AreOrdered rows.old.items }
+    ensures added { OnOk result (rows.new.items ≡ names.with_name_row row rows.old.items) }
+    ensures ordered { OnOk result (AreOrdered rows.new.items) }
 {
     let place = place_of(rows.as_slice(), &row);
     rows.insert(place, row)?;

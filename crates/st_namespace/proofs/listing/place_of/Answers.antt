@@ -1,14 +1,23 @@
-use Rattle.std.proofs.Common.{sym, ◌∙◌, refl}
-use Rattle.st_namespace.proofs.Rows.{row_here, row_on, row_last}
+use Rattle.std.proofs.Common.{arith, sym, ◌∙◌}
+use Rattle.st_namespace.proofs.Ordered.{higher, lower, placed_at}
 use Rattle.st_namespace.proofs.listing.place_of.Goals as goal
 
-pub returns-then-is_below-clause-placed : goal.returns-then-is_below-clause-placed
-returns-then-is_below-clause-placed c = row_here c.args.row.now c.args.rows.now _ c.loop-place.place c.index-rows-place.result c.loop-place-test.true c.index-rows-place.is
-    (rw (c.as_slice.ensures, c.as_slice-in-loop-place.ensures, ← c.index-rows-place.is) at (sym c.is_below.ensures ∙ c.if-is_below.true)) c.loop-place.invariant
+pub halves-preserved-then-is_below : goal.halves-preserved-then-is_below
+halves-preserved-then-is_below c = record {
+  order = omega arith;
+  within = omega (arith, c.halves-test.true, c.halves.invariant.within);
+  lower = c.halves.invariant.lower;
+  higher = higher c.args.row.now c.args.rows.now c.requires _ c.index-rows-middle.result (omega (arith, c.halves-test.true, c.halves.invariant.within)) (rw (c.as_slice.ensures, c.as_slice-in-halves.ensures) at (sym c.is_below.ensures ∙ c.if-is_below.true));
+}
 
-pub loop-place-preserved : goal.loop-place-preserved
-loop-place-preserved c = row_on c.args.row.now c.args.rows.now _ c.loop-place.place c.index-rows-place.result c.loop-place-test.true c.index-rows-place.is
-    (rw (c.as_slice.ensures, c.as_slice-in-loop-place.ensures, ← c.index-rows-place.is) at (sym c.is_below.ensures ∙ c.if-is_below.false)) c.loop-place.invariant
+pub halves-preserved : goal.halves-preserved
+halves-preserved c = record {
+  order = omega (arith, c.halves-test.true);
+  within = c.halves.invariant.within;
+  lower = lower c.args.row.now c.args.rows.now c.requires _ c.index-rows-middle.result (omega (arith, c.halves-test.true, c.halves.invariant.within)) (rw (c.as_slice.ensures, c.as_slice-in-halves.ensures) at (sym c.is_below.ensures ∙ c.if-is_below.false));
+  higher = c.halves.invariant.higher;
+}
 
 pub returns-clause-placed : goal.returns-clause-placed
-returns-clause-placed c = row_last c.args.row.now c.args.rows.now _ c.loop-place.place _ c.loop-place-test.false refl c.loop-place.auto.place-end c.loop-place.invariant
+returns-clause-placed c =
+    placed_at c.args.row.now c.args.rows.now c.halves.low c.args.row.now c.halves.invariant.lower (omega (arith, c.halves.invariant.order, c.halves.invariant.within)) (λ j d k s. c.halves.invariant.higher j d (omega (arith, k, c.halves-test.false)) s)

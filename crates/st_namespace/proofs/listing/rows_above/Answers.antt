@@ -3,7 +3,7 @@ use Rattle.st_namespace.proofs.Rows.{rows_none, rows_more}
 use Rattle.st_namespace.proofs.listing.rows_above.Goals as goal
 
 pub loop-left-init : goal.loop-left-init
-loop-left-init c = record { rows = c.new-rows.ensures.items ∙ rows_none _ _ c.args.entries.now _ (omega arith); within = omega arith }
+loop-left-init c = record { rows = c.new-rows.ensures.items ∙ rows_none _ _ c.args.entries.now _ (omega arith); ordered = rw c.new-rows.ensures.items tt; within = omega arith }
 
 pub loop-left-preserved : goal.loop-left-preserved
 loop-left-preserved c =
@@ -11,6 +11,7 @@ loop-left-preserved c =
     record {
       rows = rows_more c.args.dir c.args.after.now c.args.entries.now _ c.index-entries-left.result c.loop-left.rows.items c.add_row.new.rows.items
           (omega (arith, c.loop-left-test.true, c.loop-left.invariant.within)) c.index-entries-left.is (sym c.is_listed.ensures ∙ c.if-not-is_listed.false)
-          (rw back c.loop-left.invariant.rows) (rw c.in_ok-row_of.ensures at c.in_ok-add_row.ensures);
+          (rw back c.loop-left.invariant.rows) (rw c.in_ok-row_of.ensures at c.in_ok-add_row.ensures.added);
+      ordered = c.in_ok-add_row.ensures.ordered;
       within = omega (arith, c.loop-left-test.true, c.loop-left.invariant.within);
     }
