@@ -94,3 +94,51 @@ command_elsewhere past cs es c starts next a x num n h =
         (pages.is_being_written a.store.commands ino p ≡ true) ⊎ (list_any (reports_failure (last_write (cs ++ x ∷ []) (owner_at_page c a ino p))) past ≡ true)
     fail ino p (inl b) = inl b
     fail ino p (inr b) = inr (ap (λ m. list_any (reports_failure m) past) (last_stays (owner_at_page c a ino p) cs x (n ino p)) ∙ b)
+
+-- The association's own changes.
+
+-- what is outstanding and dirty stays, by a store of the same dirty pages, commands and versions
+pub store_same : (past : List Step) (cs : List IssuedCommand) (es : List LogEntry) (c : ClientId) (starts next : ℕ) (a b : Association) → a.server ≡ b.server → a.life ≡ b.life → a.store.pages.dirty ≡ b.store.pages.dirty → a.store.pages.next_version ≡ b.store.pages.next_version → a.store.commands ≡ b.store.commands →
+    Cared past cs es c starts next a → Cared past cs es c starts next b
+store_same past cs es c starts next a b s l d v k h =
+    subst (λ (z : List PageCommand). Cared past cs es c starts next (at s2 l2 d2 v2 z)) k
+    (subst (λ (z : ℕ). Cared past cs es c starts next (at s2 l2 d2 z k2)) v (subst (λ (z : List DirtyPage). Cared past cs es c starts next (at s2 l2 z v1 k2)) d (subst (λ (z : Life). Cared past cs es c starts next (at s2 z d1 v1 k2)) l (subst (λ (z : ServerId). Cared past cs es c starts next (at z l1 d1 v1 k2)) s (own h)))))
+  where
+    at : ServerId → Life → List DirtyPage → ℕ → List PageCommand → Association
+    at s l d v k = record b { server = s; life = l; store = record b.store { pages = record b.store.pages { dirty = d; next_version = v }; commands = k } }
+
+    s2 : ServerId
+    s2 = b.server
+
+    l1 : Life
+    l1 = a.life
+
+    l2 : Life
+    l2 = b.life
+
+    d1 : List DirtyPage
+    d1 = a.store.pages.dirty
+
+    d2 : List DirtyPage
+    d2 = b.store.pages.dirty
+
+    v1 : ℕ
+    v1 = a.store.pages.next_version
+
+    v2 : ℕ
+    v2 = b.store.pages.next_version
+
+    k2 : List PageCommand
+    k2 = a.store.commands
+
+    own : Cared past cs es c starts next a → Cared past cs es c starts next (at a.server l1 d1 v1 k2)
+    own h =
+        record {
+          entries = h.entries;
+          writes = λ pc i v q. let w = h.writes pc i v q in record { world = λ k x j s. let o = w.world k x j s in record { index = o.index; carries = o.carries; last = o.last; latest_is = o.latest_is }; low = w.low; link = w.link };
+          reads = h.reads;
+          below = h.below;
+          once = h.once;
+          versions = h.versions;
+          failed = h.failed;
+        }
