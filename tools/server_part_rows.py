@@ -14,7 +14,7 @@ from tank_oracle.wire import Ack, Hello, KeepAlive, Message, Nack, Reassert, Rea
 
 CONFIG = base.Config(100, 50, 70, 85, 10, 5, 3, 2, 2)
 COUNTS = base.Counts(16, 1, 1, 8)
-NO_SESSION, OTHER_EPOCH, SUSPECT = 2, 3, 1
+NO_SESSION, OTHER_EPOCH, SUSPECT, GRACE_OVER, CONFLICT, NOT_HOLDER = 2, 3, 1, 5, 6, 7
 
 
 def fresh():
@@ -169,14 +169,54 @@ GRACE = [
 PLAY |= {"Begin": begin, "None": none, "IsOn": is_on, "Start": start}
 
 
+def accept(node, now, client, life, rows):
+    """The rows are written as a list of (ino, grant number, mode); what they leave of the node is kept."""
+    node.now = now
+    if now == 700 and node.epoch == 1:
+        node.start(now)
+    body = send(node, client, life, 2, 1, Reassert(tuple(rows)))[0]
+    if isinstance(body, Reasserted):
+        return "accepted"
+    return {GRACE_OVER: "grace over", CONFLICT: "conflict", NOT_HOLDER: "not holder"}[body.why] + f" {body.a} {body.b}"
+
+
+def forget(node, client):
+    for by in node.rows.values():
+        by.pop(client, None)
+    node.sessions.pop(client, None)
+    return "done"
+
+
+# Two rows are written side by side; a row of file 0 is none.
+G, NEW, NONE = 4294967297, 8589934592, (0, 0, 0)
+ACCEPT = [
+    ("Accept", 700, 1, 1, [(2, NEW + 1, 2)]), ("Accept", 700, 1, 1, [(2, NEW, 2)]), ("Life", 1), ("Accept", 700, 1, 1, [(2, G, 2)]), ("Life", 1),
+    ("Accept", 701, 2, 1, [(2, G + 1, 1)]), ("Accept", 701, 2, 1, [(3, G + 2, 1)]), ("Accept", 702, 3, 4, [(3, G + 3, 1)]),
+    ("Accept", 703, 4, 1, [(2, G + 4, 1), (3, G + 5, 2)]), ("Accept", 703, 4, 1, [(3, G + 4, 2), (4, G + 5, 2)]),
+    ("Accept", 704, 4, 1, [(4, G + 4, 2), (5, NEW + 7, 2)]), ("Accept", 704, 4, 1, [(2, NEW + 8, 2), (5, NEW + 7, 2)]), ("Life", 4),
+    ("Accept", 705, 4, 1, [(4, G + 4, 2), (5, NEW - 1, 2)]), ("Life", 4), ("Accept", 705, 5, 1, []), ("Life", 5),
+    ("Accept", 706, 6, 1, [(5, G + 9, 1), (6, G + 9, 1)]), ("Forget", 4), ("Accept", 706, 6, 1, [(5, G + 9, 1), (6, G + 9, 1)]),
+    ("Accept", 851, 7, 2, [(3, G + 10, 1), (6, G + 11, 1)]), ("Accept", 851, 8, 2, [(6, G + 10, 2)]), ("Accept", 852, 8, 2, [(9, G + 10, 2)]),
+    ("Accept", 852, 8, 2, [(9, NEW + 10, 2)]), ("Accept", 851, 8, 2, [(9, G + 10, 2)]), ("Life", 8), ("Accept", 900, 9, 2, []), ("Life", 9),
+    ("Accept", 851, 16, 1, [(3, G + 12, 1), (9, G + 13, 1)]), ("Accept", 851, 16, 1, [(3, G + 12, 1), (10, G + 13, 1)]), ("Life", 16),
+]
+PLAY |= {"Accept": accept, "Forget": forget}
+
+
+def word(value):
+    if isinstance(value, list):
+        return "[" + ", ".join(str(tuple(row)) for row in (value + [NONE, NONE])[:2]) + "]"
+    return str(value).lower() if isinstance(value, bool) else str(value)
+
+
 def table(calls):
     node = fresh()
     for name, *args in calls:
         answer = PLAY[name](node, *args)
-        words = ", ".join(str(a).lower() if isinstance(a, bool) else str(a) for a in args)
+        words = ", ".join(word(a) for a in args)
         print(f'        (Call::{name}{"(" + words + ")" if args else ""}, "{answer}"),')
     print()
 
 
-for calls in (SESSIONS, AUTHORITY, GRACE):
+for calls in (SESSIONS, AUTHORITY, GRACE, ACCEPT):
     table(calls)

@@ -50,7 +50,9 @@ pub record Unseen (s : ℕ) (w v : World) : Type 0 where
   pub ended : v.ended ≡ w.ended
   pub config : v.config ≡ w.config
   pub found : node_of v (server s) ≡ node_of w (server s)
-  pub messages : (m : SentMessage) → Has m v.net.messages → ((x : SentMessage) × Has x w.net.messages × (x.message ≡ m.message)) ⊎ ((m.message.header.from ≢ 32768 + s) × (is_client_node m.message.header.from ≡ true → ⊥))
+  pub messages : (m : SentMessage) → Has m v.net.messages →
+      ((x : SentMessage) × Has x w.net.messages × (x.message ≡ m.message)) ⊎
+      ((m.message.header.from ≢ 32768 + s) × (is_client_node m.message.header.from ≡ true → ⊥))
 
 -- each grant that any server sent has a mode
 abbrev pub Grants_have_modes : World → Type 0

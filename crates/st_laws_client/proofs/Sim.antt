@@ -145,6 +145,7 @@ own_moves k sv w c site input own a N m comes =
       moves = r.moves;
       sim = record { id_ = id_; terms = r.ready.terms; place = r.place; born = r.ready.born; kept = r.ready.kept };
       said = subst (λ i. Said i own t.out r.net) id_ (subst (λ x. Said t.state.id.0 x t.out r.net) r.place.here r.ready.said);
+      lasts = r.ready.lasts;
     }
 
 pub others_stay : Other_associations_stay

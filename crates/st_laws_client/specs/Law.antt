@@ -42,7 +42,8 @@ pub record Client_result (k : Config) (b d : Beside) (now : ℕ) (hs : List Msg)
 -- no life ended and the lease lasts, or the present life ended and a later one began
 abbrev pub Life_ends : Config → ℕ → Association → ℕ → (ℕ → ℕ) → (ℕ → ℕ) → Type 0
 Life_ends k now a last e f =
-    record { lasts : Lasts k.lease now a.session; same : f ≡ e; life : a.life.0 ≤ last } ⊎ record { ended : f ≡ upd e a.life.0 (end_now k (client_of e now a)); life : a.life.0 < last }
+    record { lasts : Lasts k.lease now a.session; same : f ≡ e; life : a.life.0 ≤ last } ⊎
+    record { ended : f ≡ upd e a.life.0 (end_now k (client_of e now a)); life : a.life.0 < last }
 
 -- a whole step: the lives that are over have their ends
 pub record Client_step (k : Config) (b : Beside) (now : ℕ) (hs : List Msg) (own : ServerId) (a : Association) (U : ClientTurn) (N : List Msg) : Type 0 where
@@ -58,13 +59,18 @@ Heard_of input = Unit {0}
 
 -- what an input brings to a client from this server
 abbrev pub Comes : ServerId → ℕ → ClientInput → List Msg → Type 0
-Comes own id (inputs.Control m) hs = record { shows : m.header.from ≡ server_node own → m.header.to ≡ id → Shows m.header.life m.header.epoch m.header.stamp (shown m.header.number m.body) hs; fine : (x : ServerId) → m.header.from ≡ server_node x → Fine m.body }
+Comes own id (inputs.Control m) hs =
+    record {
+      shows : m.header.from ≡ server_node own → m.header.to ≡ id → Shows m.header.life m.header.epoch m.header.stamp (shown m.header.number m.body) hs;
+      fine : (x : ServerId) → m.header.from ≡ server_node x → Fine m.body;
+    }
 Comes own id input hs = Unit {0}
 
 -- a step of a client, whatever comes, is for its association with a server a list of moves, and what stood before it stands after it
 abbrev pub Steps_are_moves : Type 0
 Steps_are_moves =
-    (k : Config) (b : Beside) (now : Stamp) (hs : List Msg) (own : ServerId) (s : ClientState) (input : ClientInput) (a : Association) (N : List Msg) → s.config.lease ≡ k.lease → Place own s.associations a → 1 ≤ a.life.0 → Kept a.life.0 a.store a.session N →
+    (k : Config) (b : Beside) (now : Stamp) (hs : List Msg) (own : ServerId) (s : ClientState) (input : ClientInput) (a : Association) (N : List Msg) →
+    s.config.lease ≡ k.lease → Place own s.associations a → 1 ≤ a.life.0 → Kept a.life.0 a.store a.session N →
     Comes own s.id.0 input hs → ((m : Msg) → In m hs → In m N) → Client_step k b now.0 hs own a (cl.client_step s now input) N
 
 -- The client has an association with this server, in this life, whose lease is over.

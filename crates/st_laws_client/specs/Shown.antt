@@ -46,7 +46,7 @@ is_request b = false
 -- every message that was put out is from this client, and is shown where it is to this server
 abbrev pub Said : ℕ → ServerId → List Output → List Msg → Type 0
 Said id sv [] N = Unit {0}
-Said id sv (outputs.Send m ∷ os) N = record { from : m.header.from ≡ id; one : (m.header.to ≡ server_node sv → Heard m.header m.body N); rest : Said id sv os N }
+Said id sv (outputs.Send m ∷ os) N = record { from : m.header.from ≡ id; one : m.header.to ≡ server_node sv → Heard m.header m.body N; rest : Said id sv os N }
 Said id sv (outputs.Submit c a w ∷ os) N = Said id sv os N
 Said id sv (outputs.Answer o a ∷ os) N = Said id sv os N
 Said id sv (outputs.Note n ∷ os) N = Said id sv os N

@@ -20,7 +20,7 @@ use Rattle.st_rules.specs.Events as ev
 use Rattle.st_rules.specs.Events.{present_life}
 use Rattle.st_assoc.specs.Assoc.{Config, Msg, Moves}
 use Rattle.st_views.specs.Halves.{client_of}
-use Rattle.st_laws_client.specs.Shown.{Beside, Kept, Said}
+use Rattle.st_laws_client.specs.Shown.{Beside, Kept, Lasts, Said}
 use Rattle.st_laws_client.specs.Law.{Comes, Life_ends, Place}
 
 -- the log behind an output of a client: an accepted write or patch joins it, under the client's life at the file's server
@@ -100,8 +100,9 @@ pub record World_left (w : World) (c : ClientId) (site : ClientSite) (input : Cl
   pub ended : (world_left w c site input).ended ≡ w.ended ++ lost_lives c site.node.state (stepped w c site input).out
 
 -- What a client's step makes of its association with one server: moves, and what stood of it stands again, with the messages that
--- it said.
-pub record Own_moves (k : Config) (b : Beside) (w : World) (c : ClientId) (site : ClientSite) (input : ClientInput) (own : ServerId) (a : Association) (N : List Msg) : Type 0 where
+-- it said; and a lease that is held then lasts.
+pub record Own_moves (k : Config) (b : Beside) (w : World) (c : ClientId) (site : ClientSite) (input : ClientInput) (own : ServerId)
+    (a : Association) (N : List Msg) : Type 0 where
   pub ended : ℕ → ℕ
   pub last : Association
   pub ends : Life_ends k (clock_of w (nodes.Client c)).0 a last.life.0 b.ended ended
@@ -111,6 +112,7 @@ pub record Own_moves (k : Config) (b : Beside) (w : World) (c : ClientId) (site 
       (record { c = client_of ended (clock_of w (nodes.Client c)).0 last; s = b.s; net = net })
   pub sim : Sim k c own (site_left w c site input) last net
   pub said : Said c.0 own (stepped w c site input).out net
+  pub lasts : Lasts k.lease (clock_of w (nodes.Client c)).0 last.session
 
 -- In the world a client's step is moves of its association with each server.
 abbrev pub Own_associations_move : Type 0

@@ -1,5 +1,5 @@
 -- A rule at each server in turn: what is done at one leaves the pages of the others, and all stay as the log has them.
-use Rattle.std.proofs.Common.{◌≡◌, ℕ, Bool, true, false, List, [], ◌∷◌, ◌++◌, ◌==◌, Option, refl, sym, ap, ◌∙◌, subst, append_assoc}
+use Rattle.std.proofs.Common.{◌≡◌, ℕ, Bool, true, false, List, [], ◌∷◌, ◌++◌, ◌==◌, Option, refl, sym, ap, ◌∙◌, subst, append_assoc, inl, inr}
 use Rattle.std.proofs.lemmas.Bool.{eqb-true, eq-eqb}
 use Rattle.st_base.specs.declared.ids.ClientId.{ClientId}
 use Rattle.st_base.specs.declared.ids.ServerId.{ServerId}
@@ -10,8 +10,8 @@ use Rattle.st_rules.specs.Keys.{same_server}
 use Rattle.st_rules.specs.ClientState.{Association, Turn, ClientTurn, enter, leave, at_these, at_each, with_associations}
 use Rattle.st_views.specs.Halves.{held_in}
 use Rattle.st_laws_client.specs.World.{logged}
-use Rattle.st_laws_copies.specs.Copies.{Right, Page_ok, Asked_so, Joined, Keeps, Copies, file_at}
-use Rattle.st_laws_copies.specs.Law.{Copies_at, All_copies, Differs, Apart}
+use Rattle.st_laws_copies.specs.Copies.{Right, Page_ok, Asked_so, Joined, All_of, Keeps, Copies, file_at}
+use Rattle.st_laws_copies.specs.Law.{Copies_at, All_copies, Differs, Apart, Listed, All_listed, Joined_by}
 use Rattle.st_laws_copies.proofs.Away.{joined_content, joined_fates}
 use Rattle.st_laws_client.proofs.Steps.{nothing_more}
 
@@ -104,6 +104,38 @@ behind : (past rest : List Association) (a : Association) → Apart (past ++ a �
 behind [] rest a d = d.one
 behind (x ∷ past) rest a d = behind past rest a d.rest
 
+-- Entries of files of these servers.
+listed_amid : (past rest : List Association) (a : Association) → Listed a.server (past ++ a ∷ rest)
+listed_amid [] rest a = inl refl
+listed_amid (x ∷ past) rest a = inr (listed_amid past rest a)
+
+listed_same : (sv : ServerId) (xs ys : List Association) → Same_servers xs ys → Listed sv xs → Listed sv ys
+listed_same sv (a ∷ xs) (b ∷ ys) s (inl e) = inl (s.there ∙ e)
+listed_same sv (a ∷ xs) (b ∷ ys) s (inr l) = inr (listed_same sv xs ys s.rest l)
+listed_same sv [] ys s l = elim l [ ]
+listed_same sv (a ∷ xs) [] s l = absurd s
+
+all_same : (xs ys : List Association) (es : List LogEntry) → Same_servers xs ys → All_listed xs es → All_listed ys es
+all_same xs ys [] s a = record {}
+all_same xs ys (e ∷ es) s a = record { one = listed_same e.of.file.server xs ys s a.one; rest = all_same xs ys es s a.rest }
+
+all_of_server : (sv : ServerId) (xs : List Association) (es : List LogEntry) → Listed sv xs → All_of sv es → All_listed xs es
+all_of_server sv xs [] l a = record {}
+all_of_server sv xs (e ∷ es) l a = record { one = subst (λ v. Listed v xs) (sym a.one) l; rest = all_of_server sv xs es l a.rest }
+
+all_listed_both : (xs : List Association) (es fs : List LogEntry) → All_listed xs es → All_listed xs fs → All_listed xs (es ++ fs)
+all_listed_both xs [] fs a b = b
+all_listed_both xs (e ∷ es) fs a b = record { one = a.one; rest = all_listed_both xs es fs a.rest b }
+
+pub joined_nothing : (xs : List Association) (l m : List LogEntry) → m ≡ l → Joined_by xs l m
+joined_nothing xs l m e = record { more = []; is = e ∙ sym (nothing_more l); listed = record {} }
+
+pub joined_next : (xs : List Association) (l m n : List LogEntry) → Joined_by xs l m → Joined_by xs m n → Joined_by xs l n
+joined_next xs l m n p q = record { more = p.more ++ q.more; is = q.is ∙ ap (λ x. x ++ q.more) p.is ∙ append_assoc l p.more q.more; listed = all_listed_both xs p.more q.more p.listed q.listed }
+
+pub joined_over : (xs ys : List Association) (l m : List LogEntry) → Same_servers xs ys → Joined_by xs l m → Joined_by ys l m
+joined_over xs ys l m s p = record { more = p.more; is = p.is; listed = all_same xs ys p.more s p.listed }
+
 module _ (ask_of : ℕ → Option Ask) (c : ClientId) (lives : ServerId → Life) (es : List LogEntry) where
   -- what stands at each association stands in a log that goes on by another server's entries
   copies_away : (sv : ServerId) (l m : List LogEntry) (list : List Association) → Joined sv l m → Differs sv list → All_copies c lives l list → All_copies c lives m list
@@ -133,6 +165,7 @@ module _ (ask_of : ℕ → Option Ask) (c : ClientId) (lives : ServerId → Life
   pub record Made (T : ClientTurn) (rest : List Association) (U : ClientTurn) : Type 0 where
     pub within : Within T rest → Within U []
     pub places : Same_places (T.state.associations ++ rest) U.state.associations
+    pub joined : Joined_by U.state.associations (logged c lives T.out es) (logged c lives U.out es)
 
   -- a premise of a rule, at each association
   abbrev pub At_each : (List LogEntry → Association → Type 0) → List LogEntry → List Association → Type 0
@@ -151,7 +184,12 @@ module _ (ask_of : ℕ → Option Ask) (c : ClientId) (lives : ServerId → Life
   pub these_keep : (P : List LogEntry → Association → Type 0) → Stays_away P → (rule : Turn → Turn) → ((t : Turn) → P (logged c lives t.out es) t.here → Keeps ask_of c lives es t (rule t)) →
       (rest : List Association) (T : ClientTurn) → Apart (T.state.associations ++ rest) → At_each P (logged c lives T.out es) rest → Made T rest (at_these rule rest T)
   unfolding at_these
-  these_keep P f rule k [] T d o = record { within = λ r. r; places = subst (λ xs. Same_places xs T.state.associations) (sym (nothing_more T.state.associations)) (same_self T.state.associations) }
+  these_keep P f rule k [] T d o =
+      record {
+        within = λ r. r;
+        places = subst (λ xs. Same_places xs T.state.associations) (sym (nothing_more T.state.associations)) (same_self T.state.associations);
+        joined = joined_nothing T.state.associations _ _ refl;
+      }
   these_keep P f rule k (a ∷ rest) T d o =
       let t : Turn = enter T a in
       let u : Turn = rule t in
@@ -164,9 +202,18 @@ module _ (ask_of : ℕ → Option Ask) (c : ClientId) (lives : ServerId → Life
       (premises_away P f a.server (logged c lives T.out es) (logged c lives u.out es) rest j (behind T.state.associations rest a d) o.rest) in
       record {
         within = λ r. m.within (next r (w.keep (record { pages = r.ahead.one.pages; right = r.right; asked = r.asked; fates = r.ahead.one.fates })) j);
-        places = same_next _ _ _ s (subst (λ xs. Same_places xs (at_these rule rest (leave T u)).state.associations) (sym e) m.places);
+        places = places m e s;
+        joined = joined_next _ _ _ _ (first j (places m e s)) m.joined;
       }
     where
+      places : Made (leave T (rule (enter T a))) rest (at_these rule rest (leave T (rule (enter T a)))) → T.state.associations ++ (rule (enter T a)).here ∷ rest ≡ (T.state.associations ++ (rule (enter T a)).here ∷ []) ++ rest →
+          Same_places (T.state.associations ++ a ∷ rest) (T.state.associations ++ (rule (enter T a)).here ∷ rest) → Same_places (T.state.associations ++ a ∷ rest) (at_these rule rest (leave T (rule (enter T a)))).state.associations
+      places m e s = same_next _ _ _ s (subst (λ xs. Same_places xs (at_these rule rest (leave T (rule (enter T a)))).state.associations) (sym e) m.places)
+
+      first : Joined a.server (logged c lives T.out es) (logged c lives (rule (enter T a)).out es) → Same_places (T.state.associations ++ a ∷ rest) (at_these rule rest (leave T (rule (enter T a)))).state.associations →
+          Joined_by (at_these rule rest (leave T (rule (enter T a)))).state.associations (logged c lives T.out es) (logged c lives (rule (enter T a)).out es)
+      first j s = record { more = j.more; is = j.is; listed = all_of_server a.server _ j.more (listed_same a.server _ _ (servers_of _ _ s) (listed_amid T.state.associations rest a)) j.own }
+
       next : Within T (a ∷ rest) → Copies ask_of c lives es (rule (enter T a)) → Joined a.server (logged c lives T.out es) (logged c lives (rule (enter T a)).out es) → Within (leave T (rule (enter T a))) rest
       next r x j =
           let u : Turn = rule (enter T a) in
@@ -187,4 +234,5 @@ module _ (ask_of : ℕ → Option Ask) (c : ClientId) (lives : ServerId → Life
       record {
         within = λ r. m.within (record { done = record {}; ahead = r.done; right = r.right; asked = r.asked });
         places = subst (λ xs. Same_places xs (at_each rule T).state.associations) (sym (nothing_more T.state.associations)) m.places;
+        joined = m.joined;
       }

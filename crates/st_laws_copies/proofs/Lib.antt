@@ -10,3 +10,5 @@ pub mod Everywhere
 pub mod Losing
 pub mod Step
 pub mod Seen
+pub mod Held
+pub mod Locked

@@ -31,7 +31,7 @@ use Rattle.st_laws_client.specs.World.{logged}
 use Rattle.st_laws_client.proofs.Steps.{nothing_more}
 use Rattle.st_laws_copies.specs.Copies.{Right, Right_one, Fates_ok, Hard_on, Asked_so, Joined, All_of, Keeps, file_at}
 use Rattle.st_laws_copies.specs.Owed.{Message_owed, End_owed, Numbered}
-use Rattle.st_laws_copies.specs.Law.{Copies_at, All_copies, Apart, Lived, Stands_at, All_stand, All_owed, Lives_are, Steps_keep_copies}
+use Rattle.st_laws_copies.specs.Law.{Copies_at, All_copies, Apart, Lived, Stands_at, All_stand, All_owed, Lives_are, Steps_keep_copies, Joined_by}
 use Rattle.st_laws_copies.proofs.Logs.{logged_both, right_both, still}
 use Rattle.st_laws_copies.proofs.Away.{joined_content}
 use Rattle.st_laws_copies.proofs.Copies.{k_same, k_then, k_if, k_aside, k_keep}
@@ -39,7 +39,7 @@ use Rattle.st_laws_copies.proofs.Hearing.{k_hear}
 use Rattle.st_laws_copies.proofs.Ends.{k_end_of}
 use Rattle.st_laws_copies.proofs.Passes.{k_passes}
 use Rattle.st_laws_copies.proofs.Losing.{lose_keeps, Loses}
-use Rattle.st_laws_copies.proofs.Everywhere.{Same_places, Same_servers, same_self, same_next, servers_of, servers_self, servers_next, servers_amid, apart_same, Within, Made, At_each, each_keep}
+use Rattle.st_laws_copies.proofs.Everywhere.{Same_places, Same_servers, same_self, same_next, servers_of, servers_self, servers_next, servers_amid, apart_same, Within, Made, At_each, each_keep, joined_nothing, joined_next, joined_over}
 
 -- what is owed stands in a log that goes on by entries of another server's files
 hard_apart : (c : ClientId) (life : Life) (x : ServerId) (ino : ℕ) (p : PageNo) (l : List LogEntry) (e : LogEntry) → same_server e.of.file.server x ≡ false → Hard_on c life x ino p l → Hard_on c life x ino p (l ++ e ∷ [])
@@ -180,10 +180,21 @@ module _ (ask_of : ℕ → Option Ask) (c : ClientId) (lives : ServerId → Life
 
   -- taking the input
   made_same : (T : ClientTurn) → Made ask_of c lives es T [] T
-  made_same T = record { within = λ r. r; places = subst (λ xs. Same_places xs T.state.associations) (sym (nothing_more T.state.associations)) (same_self T.state.associations) }
+  made_same T =
+      record {
+        within = λ r. r;
+        places = subst (λ xs. Same_places xs T.state.associations) (sym (nothing_more T.state.associations)) (same_self T.state.associations);
+        joined = joined_nothing T.state.associations _ _ refl;
+      }
 
   made_then : (T U V : ClientTurn) → Made ask_of c lives es T [] U → Made ask_of c lives es U [] V → Made ask_of c lives es T [] V
-  made_then T U V p q = record { within = λ r. q.within (p.within r); places = same_next _ _ _ p.places (subst (λ xs. Same_places xs V.state.associations) (nothing_more U.state.associations) q.places) }
+  made_then T U V p q =
+      let s : Same_places U.state.associations V.state.associations = subst (λ xs. Same_places xs V.state.associations) (nothing_more U.state.associations) q.places in
+      record {
+        within = λ r. q.within (p.within r);
+        places = same_next _ _ _ p.places s;
+        joined = joined_next V.state.associations _ _ _ (joined_over U.state.associations V.state.associations _ _ (servers_of _ _ s) p.joined) q.joined;
+      }
 
   made_if : (T : ClientTurn) (b : Bool) (U V : ClientTurn) → Made ask_of c lives es T [] U → Made ask_of c lives es T [] V → Made ask_of c lives es T [] (if b then U else V)
   made_if T true U V p q = p
@@ -201,6 +212,7 @@ module _ (ask_of : ℕ → Option Ask) (c : ClientId) (lives : ServerId → Life
           asked = r.asked;
         };
         places = subst (λ xs. Same_places xs T.state.associations) (sym (nothing_more T.state.associations)) (same_self T.state.associations);
+        joined = joined_nothing T.state.associations _ _ same;
       }
 
   k_told_lost : (t : Turn) (op ino : ℕ) → Keeps ask_of c lives es t (cl.tell_lost t op ino)
@@ -283,4 +295,5 @@ law ask_of c lives es s n input h a o e =
             asked = r.asked;
           };
       right = r.right;
+      joined = subst (λ l. Joined_by W.state.associations l (logged c lives W.out es)) losing.log all.joined;
     }

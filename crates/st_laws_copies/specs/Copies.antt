@@ -56,7 +56,8 @@ last_of last (o ∷ os) = last_of (Some o) os
 -- each output is right by the log at it, behind the one before it
 abbrev pub Right_behind : (ℕ → Option Ask) → ClientId → (ServerId → Life) → Option Output → List LogEntry → List Output → Type 0
 Right_behind asked c lives last es [] = Unit {0}
-Right_behind asked c lives last es (o ∷ os) = record { one : Right_one asked c lives last es o; rest : Right_behind asked c lives (Some o) (logged_one c lives o es) os }
+Right_behind asked c lives last es (o ∷ os) =
+    record { one : Right_one asked c lives last es o; rest : Right_behind asked c lives (Some o) (logged_one c lives o es) os }
 
 -- the outputs of a step are right
 abbrev pub Right : (ℕ → Option Ask) → ClientId → (ServerId → Life) → List LogEntry → List Output → Type 0
@@ -74,7 +75,11 @@ Fates_ok c life sv x (e ∷ es) = record { one : Fate_ok c life sv x e; rest : F
 -- the entries of this life to a page are hard
 abbrev pub Hard_on : ClientId → Life → ServerId → ℕ → PageNo → List LogEntry → Type 0
 Hard_on c life sv ino p [] = Unit {0}
-Hard_on c life sv ino p (e ∷ es) = record { one : is_of_life c sv life e.of ≡ true → e.of.file.ino ≡ ino → e.of.page ≡ p → is_hard_fate e.fate ≡ true; rest : Hard_on c life sv ino p es }
+Hard_on c life sv ino p (e ∷ es) =
+    record {
+      one : is_of_life c sv life e.of ≡ true → e.of.file.ino ≡ ino → e.of.page ≡ p → is_hard_fate e.fate ≡ true;
+      rest : Hard_on c life sv ino p es;
+    }
 
 -- a page at a client: under what lock it is dirty; what it has is what the log says
 pub record Page_ok (held : ℕ) (bytes : List ℕ) (x : Store) (ino : ℕ) (p : PageNo) : Type 0 where
@@ -104,7 +109,8 @@ file_at sv ino = record { server = sv; ino = ino }
 
 -- What stands of the copies within a step, at one server, with the log from before the step.
 pub record Copies (asked_as : ℕ → Option Ask) (c : ClientId) (lives : ServerId → Life) (es : List LogEntry) (t : Turn) : Type 0 where
-  pub pages : (ino : ℕ) (p : PageNo) → Page_ok (held_in t.here.session ino).mode (content (logged c lives t.out es) (file_at t.here.server ino) p) t.here.store ino p
+  pub pages : (ino : ℕ) (p : PageNo) →
+      Page_ok (held_in t.here.session ino).mode (content (logged c lives t.out es) (file_at t.here.server ino) p) t.here.store ino p
   pub right : Right asked_as c lives es t.out
   pub asked : Asked_so asked_as t.operations
   pub fates : Fates_ok c (lives t.here.server) t.here.server t.here.store (logged c lives t.out es)

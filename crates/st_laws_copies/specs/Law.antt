@@ -1,8 +1,9 @@
 -- The laws of the copies that a client has of a server's pages.
-use Rattle.std.specs.Prelude.{ℕ, ◌≡◌, ◌≤◌, true, false, List, [], ◌∷◌, Option, Some, None}
+use Rattle.std.specs.Prelude.{ℕ, ◌≡◌, ◌⊎◌, ◌≤◌, true, false, List, [], ◌∷◌, ◌++◌, Option, Some, None, is_some}
 use Rattle.st_base.specs.declared.ids.ClientId.{ClientId}
 use Rattle.st_base.specs.declared.ids.ServerId.{ServerId}
 use Rattle.st_base.specs.declared.ids.Life.{Life}
+use Rattle.st_base.specs.declared.ids.NodeId.TheVariants as nodes
 use Rattle.st_base.specs.declared.ids.PageNo.{PageNo}
 use Rattle.st_base.specs.declared.ids.Stamp.{Stamp}
 use Rattle.st_messages.specs.declared.ask.Ask.{Ask}
@@ -12,9 +13,11 @@ use Rattle.st_rules.specs.declared.observation.Observation.{Observation}
 use Rattle.st_rules.specs.declared.observation.Observation.TheVariants as seen
 use Rattle.st_messages.specs.declared.answer.AppAnswer.TheVariants as answers
 use Rattle.st_messages.specs.declared.output.Output.{Output}
+use Rattle.st_messages.specs.declared.output.Note.TheVariants as notes
+use Rattle.st_messages.specs.declared.output.Output.TheVariants as outputs
 use Rattle.st_rules.specs.Lines.{AtEach}
 use Rattle.st_rules.specs.Safety as safety
-use Rattle.st_rules.specs.World.{World}
+use Rattle.st_rules.specs.World.{World, ClientSite, site_of, clock_of}
 use Rattle.st_rules.specs.Events.{client_says_all, quiet, present_life}
 use Rattle.st_rules.specs.Client as cl
 use Rattle.st_rules.specs.ClientState.{Association, ClientState, ClientTurn, Turn, client_turn}
@@ -25,6 +28,11 @@ use Rattle.st_rules.specs.ClientPasses as cp
 use Rattle.st_laws_copies.specs.Copies.{Copies, Right, Asked_so, Page_ok, Fates_ok, file_at}
 use Rattle.st_laws_client.specs.World.{logged}
 use Rattle.st_laws_copies.specs.Owed.{Owed_at, Numbered}
+use Rattle.st_base.specs.declared.ids.FileId.{FileId}
+use Rattle.st_lemmas.specs.Lists.{Has}
+use Rattle.st_rules.specs.ClientPages.{dirty_of}
+use Rattle.std.specs.List.{list_all}
+use Rattle.st_laws_client.specs.Shown.{Lasts}
 
 -- What stands of the copies at one server, by a log: each page is as the log has it, and an entry of the present life that is not hard
 -- has its page dirty.
@@ -79,18 +87,76 @@ abbrev pub Lives_are : (ServerId → Life) → List Association → Type 0
 Lives_are lives [] = Unit {0}
 Lives_are lives (a ∷ rest) = record { one : lives a.server ≡ a.life; rest : Lives_are lives rest }
 
--- What a step makes of it: it stands again by the log behind the step, and each output is right by the log at it.
+-- the server of one of these associations
+abbrev pub Listed : ServerId → List Association → Type 0
+Listed sv [] = ⊥
+Listed sv (a ∷ xs) = (a.server ≡ sv) ⊎ Listed sv xs
+
+-- entries of files of these servers
+abbrev pub All_listed : List Association → List LogEntry → Type 0
+All_listed xs [] = Unit {0}
+All_listed xs (e ∷ es) = record { one : Listed e.of.file.server xs; rest : All_listed xs es }
+
+-- The second log is the first and entries of files of these servers.
+pub record Joined_by (xs : List Association) (l m : List LogEntry) : Type 0 where
+  pub more : List LogEntry
+  pub is : m ≡ l ++ more
+  pub listed : All_listed xs more
+
+-- What a step makes of it: it stands again by the log behind the step, each output is right by the log at it, and what joined the log is
+-- of files of the client's servers.
 pub record Step_keeps (asked_as : ℕ → Option Ask) (c : ClientId) (lives : ServerId → Life) (es : List LogEntry) (t : ClientTurn) : Type 0 where
   pub stands : Client_stands asked_as c (logged c lives t.out es) t.state
   pub right : Right asked_as c lives es t.out
+  pub joined : Joined_by t.state.associations es (logged c lives t.out es)
 
 -- A client's step keeps the copies, whatever comes, under what other laws owe of the client behind its losses. The lives are those
 -- behind the step, under which its entries join the log.
 abbrev pub Steps_keep_copies : Type 0
 Steps_keep_copies =
     (asked_as : ℕ → Option Ask) (c : ClientId) (lives : ServerId → Life) (es : List LogEntry) (s : ClientState) (now : Stamp) (input : ClientInput) →
-    Client_stands asked_as c es s → Numbered asked_as input → All_owed c lives es input (cl.losses (client_turn s []) now).state.associations → Lives_are lives (cl.client_step s now input).state.associations →
+    Client_stands asked_as c es s → Numbered asked_as input → All_owed c lives es input (cl.losses (client_turn s []) now).state.associations →
+    Lives_are lives (cl.client_step s now input).state.associations →
     Step_keeps asked_as c lives es (cl.client_step s now input)
+
+-- One of these associations is of the file's server; it has an exclusive lock on the file, and the page is dirty.
+pub record Held_page (f : FileId) (p : PageNo) (xs : List Association) : Type 0 where
+  pub association : Association
+  pub listed : Has association xs
+  pub there : association.server ≡ f.server
+  pub exclusive : 2 ≤ (held_in association.session f.ino).mode
+  pub dirty : is_some (dirty_of association.store.pages f.ino p) ≡ true
+
+-- a note of a change has its page held
+abbrev pub Note_held : List Association → Output → Type 0
+Note_held xs (outputs.Note (notes.Accepted f p bytes)) = Held_page f p xs
+Note_held xs (outputs.Note (notes.Patched f p at bytes)) = Held_page f p xs
+Note_held xs o = Unit {0}
+
+-- each of these outputs does
+abbrev pub All_held : List Association → List Output → Type 0
+All_held xs [] = Unit {0}
+All_held xs (o ∷ os) = record { one : Note_held xs o; rest : All_held xs os }
+
+-- Changes are locked: each page that a step changed is dirty behind the step, under an exclusive lock.
+abbrev pub Changes_are_held : Type 0
+Changes_are_held =
+    (asked_as : ℕ → Option Ask) (c : ClientId) (lives : ServerId → Life) (es : List LogEntry) (t : ClientTurn) → Step_keeps asked_as c lives es t →
+    Lives_are lives t.state.associations → All_held t.state.associations t.out
+
+-- each lease that is held lasts
+abbrev pub All_last : ℕ → ℕ → List Association → Type 0
+All_last lease now [] = Unit {0}
+All_last lease now (a ∷ xs) = record { one : Lasts lease now a.session; rest : All_last lease now xs }
+
+-- In the world: where a client runs, its leases last, and each page that it changed is held, the lines of its step keep the promise that
+-- changes are locked.
+abbrev pub Changes_are_locked : Type 0
+Changes_are_locked =
+    (w v : World) (c : ClientId) (site : ClientSite) (before : ClientState) (os : List Output) → site_of w c ≡ Some site → site.node.running ≡ true →
+    Apart site.node.state.associations →
+    All_last site.node.state.config.lease (clock_of w (nodes.Client c)).0 site.node.state.associations → All_held site.node.state.associations os →
+    list_all (safety.is_change_locked w) (client_says_all c before os (quiet v)).seen ≡ true
 
 -- an answer `written` comes right behind the line of the change that was asked
 abbrev pub Is_written : List safety.Step → safety.Step → Option Observation → Observation → Type 0
@@ -112,9 +178,11 @@ pub record Seen_right (past : List safety.Step) (x : safety.Step) (es : List Log
 -- In the world: where each output of a client is right by the log at it, so are the lines of its step.
 abbrev pub Steps_answer_right : Type 0
 Steps_answer_right =
-    (past : List safety.Step) (x : safety.Step) (c : ClientId) (before : ClientState) (os : List Output) (v : World) → ◌≡◌ {A = ServerId → Life} (present_life x.after.world c) (present_life v c) →
+    (past : List safety.Step) (x : safety.Step) (c : ClientId) (before : ClientState) (os : List Output) (v : World) →
+    ◌≡◌ {A = ServerId → Life} (present_life x.after.world c) (present_life v c) →
     Right (safety.ask_of past x c) c (present_life v c) v.log os → Seen_right past x v.log (client_says_all c before os (quiet v)).seen
 
 -- The pass over the operations keeps the copies: pages have the bytes of the log, and every read is answered by it.
 abbrev pub Operations_keep_copies : Type 0
-Operations_keep_copies = (asks : ℕ → Option Ask) (c : ClientId) (lives : ServerId → Life) (es : List LogEntry) (n : Stamp) (t : Turn) → Copies asks c lives es t → Copies asks c lives es (cp.operations n t)
+Operations_keep_copies = (asks : ℕ → Option Ask) (c : ClientId) (lives : ServerId → Life) (es : List LogEntry) (n : Stamp) (t : Turn) →
+    Copies asks c lives es t → Copies asks c lives es (cp.operations n t)

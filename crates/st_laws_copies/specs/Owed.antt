@@ -33,19 +33,23 @@ use Rattle.st_laws_copies.specs.Copies.{Hard_on, Nothing, file_at}
 -- page whose bytes are zeros. Where a remove was asked, nothing of its file is at hand.
 pub record Reply_owed (es : List LogEntry) (a : Association) (s : ClientSession) (h : Header) (body : Body) : Type 0 where
   pub modes : Have_modes s.locks.rows
-  pub up : (ino : ℕ) (g : GrantNo) (mode : Mode) → body ≡ bodies.Granted ino g mode → is_above_seen s.locks ino g ≡ true → (held_at (lock_of s.locks ino)).mode ≤ number_of mode
-  pub zeros : (q : Request) (ino : ℕ) (g : GrantNo) (p : PageNo) → s.requests.asked ≡ Some q → q.body ≡ bodies.Map ino g p → body ≡ bodies.Extents ino [] → is_counting h.number body q ≡ true → is_current s.locks q.body ≡ true →
+  pub up : (ino : ℕ) (g : GrantNo) (mode : Mode) → body ≡ bodies.Granted ino g mode → is_above_seen s.locks ino g ≡ true →
+      (held_at (lock_of s.locks ino)).mode ≤ number_of mode
+  pub zeros : (q : Request) (ino : ℕ) (g : GrantNo) (p : PageNo) → s.requests.asked ≡ Some q → q.body ≡ bodies.Map ino g p →
+      body ≡ bodies.Extents ino [] → is_counting h.number body q ≡ true → is_current s.locks q.body ≡ true →
       filled 0 ≡ content es (file_at a.server ino) p
   pub removed : (q : Request) (ino : ℕ) (p : PageNo) → s.requests.asked ≡ Some q → asks_name q.body ≡ true → s.cutting ≡ Some ino → Nothing a.store ino p
 
 -- The same, of a message that a client hears at one server: from there, in this life and in the session's epoch.
 abbrev pub Message_owed : List LogEntry → Association → Header → Body → Type 0
-Message_owed es a h body = (s : ClientSession) → a.session ≡ Some s → h.from ≡ server_node a.server → h.life ≡ a.life.0 → h.epoch ≡ s.epoch.0 → Reply_owed es a s h body
+Message_owed es a h body = (s : ClientSession) → a.session ≡ Some s → h.from ≡ server_node a.server → h.life ≡ a.life.0 → h.epoch ≡ s.epoch.0 →
+    Reply_owed es a s h body
 
 -- Of the end of a command. Where a write is done and its page was not changed since, the entries of the page in this life are hard.
 -- A read found the bytes of the page.
 pub record End_owed (c : ClientId) (life : Life) (es : List LogEntry) (a : Association) (number : ℕ) (result : Option (Option (Tag × List ℕ))) : Type 0 where
-  pub hard : (x : PageCommand) (version : ℕ) → command_of a.store.commands number ≡ Some x → x.kind ≡ io.Write version → result ≡ Some None → version ≡ version_of a.store.pages x.ino x.page → Hard_on c life a.server x.ino x.page es
+  pub hard : (x : PageCommand) (version : ℕ) → command_of a.store.commands number ≡ Some x → x.kind ≡ io.Write version → result ≡ Some None →
+      version ≡ version_of a.store.pages x.ino x.page → Hard_on c life a.server x.ino x.page es
   pub read : (x : PageCommand) (block : Tag × List ℕ) → command_of a.store.commands number ≡ Some x → x.kind ≡ io.Read → result ≡ Some (Some block) →
       found a.store.extents (file_at a.server x.ino) x.page block.0 block.1 ≡ content es (file_at a.server x.ino) x.page
 

@@ -1,7 +1,7 @@
 //! What a client has of a server's pages is what the log says, through every rule of a client; and its answers are right by it.
 #![tactic(auto)]
 
-ghost use Rattle.st_laws_copies.specs.Law.{Operations_keep_copies, Steps_answer_right, Steps_keep_copies};
+ghost use Rattle.st_laws_copies.specs.Law.{Changes_are_held, Changes_are_locked, Operations_keep_copies, Steps_answer_right, Steps_keep_copies};
 
 /// The pass over the operations keeps the copies: pages have the bytes of the log, and reads are answered by it.
 pub fn operations_keep_copies()
@@ -17,4 +17,15 @@ pub fn steps_keep_copies()
 /// the file is hard.
 pub fn steps_answer_right()
     ensures { Steps_answer_right }
+{}
+
+/// Each page that a client's step changed is dirty behind the step, under an exclusive lock.
+pub fn changes_are_held()
+    ensures { Changes_are_held }
+{}
+
+/// In the world, a write or a patch that a client's step logged is behind the step of a client whose lease lasts, with an exclusive
+/// lock on the file, and its page is dirty.
+pub fn changes_are_locked()
+    ensures { Changes_are_locked }
 {}

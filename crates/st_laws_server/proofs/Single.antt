@@ -223,7 +223,7 @@ calm_edit n now i q t u (Reasserts _ m rows is w g f) o =
       calm = o.calm;
     }
 calm_edit n now i q t u (Sees _ c ino g) o = record { same = o.same; single = λ on. seen_single t.state.locks c ino g (o.single on); kept = o.kept; calm = o.calm }
-calm_edit n now i q t u (Acquires _ m l b is fi ok k a) o =
+calm_edit n now i q t u (Acquires _ m l b is fi hs ok k a) o =
     record {
       same = o.same;
       single = λ on. acquired_single _ t.state.locks (sender m.header) (life_in m.header) l (ap (λ g. grace.is_on g now) o.same ∙ on) a (o.single on);

@@ -165,6 +165,10 @@ module _ (n : ServerState) (now : Stamp) (m : Message) (P : Turn → Type 0) (ke
     from : is_client_node h.from ≡ true
     there : h.to ≡ server_node t.state.id
 
+  -- the sender has a session
+  abbrev Has_session : Turn → Type 0
+  Has_session t = is_some (sessions.session_of t.state.sessions (sender h)) ≡ true
+
   -- a reply to a request, and an answer that is kept
   says : (t : Turn) (b : Body) → is_request m.body ≡ true → is_conflict b ≡ false → (may_date h.number b ≡ true → Free t.state m) → P t → P (reply t h b)
   says t b r c f p = edit (Replies t m b refl (record { calm = c; free = f; request = r })) p
@@ -250,9 +254,9 @@ module _ (n : ServerState) (now : Stamp) (m : Message) (P : Turn → Type 0) (ke
       cond_either (λ (a : locks.Acquired). Acquired (grace.is_on t.state.grace now) t.state.locks c life a.locks) (may_grant t.state.locks c ino mode (sv.grants_now t now)) (acquire_granted t.state.locks c life ino mode) (acquire_queued t.state.locks c life ino mode)
       (λ e. let z = and_true (sv.grants_now t now) _ e in At_once ino mode (not_true _ z.0) w (not_true _ (and_true _ _ z.1).1)) (λ e. In_turn ino mode w)
 
-  w_acquired : (t : Turn) (ino : ℕ) (mode : Mode) (a : locks.Acquired) → First t → is_request m.body ≡ true → Free t.state m → Acquired (grace.is_on t.state.grace now) t.state.locks (sender h) (life_in h) a.locks → P t → P (serve h (sv.acquire_by t ino mode (Ok a)))
+  w_acquired : (t : Turn) (ino : ℕ) (mode : Mode) (a : locks.Acquired) → First t → Has_session t → is_request m.body ≡ true → Free t.state m → Acquired (grace.is_on t.state.grace now) t.state.locks (sender h) (life_in h) a.locks → P t → P (serve h (sv.acquire_by t ino mode (Ok a)))
   unfolding serve keep sv.acquire_by
-  w_acquired t ino mode a first r f q p = edit (Acquires t m a.locks (sv.verdict_body ino mode a.verdict) refl first.is (record { calm = kept_calm _ (verdict a.verdict); free = λ d. f; request = r }) (verdict a.verdict) q) p
+  w_acquired t ino mode a first has r f q p = edit (Acquires t m a.locks (sv.verdict_body ino mode a.verdict) refl first.is has (record { calm = kept_calm _ (verdict a.verdict); free = λ d. f; request = r }) (verdict a.verdict) q) p
     where
       verdict : (v : Verdict) → is_kept (sv.verdict_body ino mode v) ≡ true
       verdict (verdicts.Granted g held) = refl
@@ -266,15 +270,15 @@ module _ (n : ServerState) (now : Stamp) (m : Message) (P : Turn → Type 0) (ke
   unfolding sv.acquire_by acquire_held
   w_held t ino mode x r f p = answer t _ r refl f p
 
-  w_acquire_at : (t : Turn) (ino : ℕ) (mode : Mode) (o : Option LockRow) → First t → is_request m.body ≡ true → Free t.state m → 1 ≤ number_of mode → P t → P (serve h (sv.acquire_by t ino mode (acquire_at t.state.locks (sender h) (life_in h) ino mode (sv.grants_now t now) o)))
+  w_acquire_at : (t : Turn) (ino : ℕ) (mode : Mode) (o : Option LockRow) → First t → Has_session t → is_request m.body ≡ true → Free t.state m → 1 ≤ number_of mode → P t → P (serve h (sv.acquire_by t ino mode (acquire_at t.state.locks (sender h) (life_in h) ino mode (sv.grants_now t now) o)))
   unfolding acquire_at acquire_new acquire_over acquire_held
-  w_acquire_at t ino mode None first r f w p =
-      cond_either Q (locks.has_place t.state.locks (sender h) ino) (Ok _) (Err TooManyLocks) (λ e. w_acquired t ino mode _ first r f (w_more t (sender h) (life_in h) ino mode w) p) (λ e. w_full t ino mode r f p)
+  w_acquire_at t ino mode None first has r f w p =
+      cond_either Q (locks.has_place t.state.locks (sender h) ino) (Ok _) (Err TooManyLocks) (λ e. w_acquired t ino mode _ first has r f (w_more t (sender h) (life_in h) ino mode w) p) (λ e. w_full t ino mode r f p)
     where
       Q : Res locks.Acquired AcquireRefusal → Type 0
       Q x = P (serve h (sv.acquire_by t ino mode x))
-  w_acquire_at t ino mode (Some x) first r f w p =
-      cond_either Q _ (acquire_held t.state.locks x) (acquire_more t.state.locks (sender h) (life_in h) ino mode (sv.grants_now t now)) (λ e. w_held t ino mode x r f p) (λ e. w_acquired t ino mode _ first r f (w_more t (sender h) (life_in h) ino mode w) p)
+  w_acquire_at t ino mode (Some x) first has r f w p =
+      cond_either Q _ (acquire_held t.state.locks x) (acquire_more t.state.locks (sender h) (life_in h) ino mode (sv.grants_now t now)) (λ e. w_held t ino mode x r f p) (λ e. w_acquired t ino mode _ first has r f (w_more t (sender h) (life_in h) ino mode w) p)
     where
       Q : locks.Acquired → Type 0
       Q x = P (serve h (sv.acquire_by t ino mode (Ok x)))
@@ -352,28 +356,28 @@ module _ (n : ServerState) (now : Stamp) (m : Message) (P : Turn → Type 0) (ke
   unfolding serve keep
   silent t p = p
 
-  w_rule : (t : Turn) (b : Body) → First t → is_request m.body ≡ true → Free t.state m → Wish b → P t → P (serve h (rule t now h b))
+  w_rule : (t : Turn) (b : Body) → First t → Has_session t → is_request m.body ≡ true → Free t.state m → Wish b → P t → P (serve h (rule t now h b))
   unfolding rule sv.keep_alive sv.acquire sv.acquire_lock sv.no_file locks.acquire sv.released locks.released sv.map sv.map_held sv.map_page sv.not_holder sv.allocate sv.allocate_held sv.allocate_pages sv.cut sv.cut_held sv.cut_from
-  w_rule t bd.KeepAlive first r f w p = answer t _ r refl f p
-  w_rule t (bd.Acquire i md) first r f w p = cond_either A (sv.is_file t i) (sv.acquire_lock t now h i md) (sv.no_file t i) (λ e. w_acquire_at t i md _ first r f w p) (λ e. answer t _ r refl f p)
+  w_rule t bd.KeepAlive first has r f w p = answer t _ r refl f p
+  w_rule t (bd.Acquire i md) first has r f w p = cond_either A (sv.is_file t i) (sv.acquire_lock t now h i md) (sv.no_file t i) (λ e. w_acquire_at t i md _ first has r f w p) (λ e. answer t _ r refl f p)
     where
       A : Replied → Type 0
       A a = P (serve h a)
-  w_rule t (bd.Released i g to) first r f w p = w_released_at t i g to _ r f p
-  w_rule t (bd.Map i g pg) first r f w p = cond_either A (sv.is_file t i) (sv.map_held t h i g pg) (sv.no_file t i) (λ e. cond_either A (sv.holds t h i g modes.S) (sv.map_page t i pg) (sv.not_holder t i g) (λ e. answer t _ r refl f p) (λ e. answer t _ r refl f p)) (λ e. answer t _ r refl f p)
+  w_rule t (bd.Released i g to) first has r f w p = w_released_at t i g to _ r f p
+  w_rule t (bd.Map i g pg) first has r f w p = cond_either A (sv.is_file t i) (sv.map_held t h i g pg) (sv.no_file t i) (λ e. cond_either A (sv.holds t h i g modes.S) (sv.map_page t i pg) (sv.not_holder t i g) (λ e. answer t _ r refl f p) (λ e. answer t _ r refl f p)) (λ e. answer t _ r refl f p)
     where
       A : Replied → Type 0
       A a = P (serve h a)
-  w_rule t (bd.Allocate i g pg k) first r f w p = cond_either A (sv.is_file t i) (sv.allocate_held t h i g pg k) (sv.no_file t i) (λ e. cond_either A (sv.holds t h i g modes.X) (sv.allocate_pages t i pg k) (sv.not_holder t i g) (λ e. w_allocated t i pg k _ r f p) (λ e. answer t _ r refl f p)) (λ e. answer t _ r refl f p)
+  w_rule t (bd.Allocate i g pg k) first has r f w p = cond_either A (sv.is_file t i) (sv.allocate_held t h i g pg k) (sv.no_file t i) (λ e. cond_either A (sv.holds t h i g modes.X) (sv.allocate_pages t i pg k) (sv.not_holder t i g) (λ e. w_allocated t i pg k _ r f p) (λ e. answer t _ r refl f p)) (λ e. answer t _ r refl f p)
     where
       A : Replied → Type 0
       A a = P (serve h a)
-  w_rule t (bd.Cut i g pg) first r f w p = cond_either A (sv.is_file t i) (sv.cut_held t h i g pg) (sv.no_file t i) (λ e. cond_either A (sv.holds t h i g modes.X) (sv.cut_from t i pg) (sv.not_holder t i g) (λ e. answer _ _ r refl (cut_free t i pg f) (w_cut t i pg p)) (λ e. answer t _ r refl f p)) (λ e. answer t _ r refl f p)
+  w_rule t (bd.Cut i g pg) first has r f w p = cond_either A (sv.is_file t i) (sv.cut_held t h i g pg) (sv.no_file t i) (λ e. cond_either A (sv.holds t h i g modes.X) (sv.cut_from t i pg) (sv.not_holder t i g) (λ e. answer _ _ r refl (cut_free t i pg f) (w_cut t i pg p)) (λ e. answer t _ r refl f p)) (λ e. answer t _ r refl f p)
     where
       A : Replied → Type 0
       A a = P (serve h a)
-  w_rule t (bd.Name op) first r f w p = w_name t op r f p
-  w_rule t b first r f w p = silent t p
+  w_rule t (bd.Name op) first has r f w p = w_name t op r f p
+  w_rule t b first has r f w p = silent t p
 
   w_request_by : (t : Turn) (b : Body) (tk : Taken Body) → First t → is_request m.body ≡ true → Free t.state m → Take_ok (sessions.session_of t.state.sessions (sender h)) h.life h.number tk → Wish b → P t → P (request_by t now h b tk)
   unfolding request_by refuse_epoch
@@ -382,7 +386,7 @@ module _ (n : ServerState) (now : Stamp) (m : Message) (P : Turn → Type 0) (ke
   w_request_by t b takes.Stale first r f k w p = p
   w_request_by t b (takes.Again x) first r f k w p = edit (Repeats t m k.0 h.number x refl r f k.1 k.3) p
   w_request_by t b takes.OutOfOrder first r f k w p = p
-  w_request_by t b takes.Fresh first r f k w p = w_rule t b first r f w p
+  w_request_by t b takes.Fresh first r f k w p = w_rule t b first (ap is_some k.1) r f w p
 
   w_request : (t : Turn) (b : Body) → m.body ≡ b → First t → h.epoch ≡ t.state.stable.epoch.0 → is_request m.body ≡ true → Free t.state m → Wish b → P t → P (request t now h b)
   unfolding request

@@ -116,7 +116,8 @@ pub data Edit (n : ServerState) (now : Stamp) (i : ServerInput) : Turn → Turn 
       (with_locks (with_rows t.state.locks (sender m.header) (life_in m.header) rows) t))
   -- the lock table
   Sees : (t : Turn) (c : ClientId) (ino : ℕ) (g : GrantNo) → Edit n now i t (with_locks (locks.demand_seen t.state.locks c ino g) t)
-  Acquires : (t : Turn) (m : Message) (l : Locks) (b : Body) → i ≡ Control m → t ≡ thefts (turn n []) now → Reply_ok t.state m b → is_kept b ≡ true →
+  Acquires : (t : Turn) (m : Message) (l : Locks) (b : Body) → i ≡ Control m → t ≡ thefts (turn n []) now →
+      is_some (sessions.session_of t.state.sessions (sender m.header)) ≡ true → Reply_ok t.state m b → is_kept b ≡ true →
       Acquired (grace.is_on t.state.grace now) t.state.locks (sender m.header) (life_in m.header) l →
       Edit n now i t (keep_and_reply (with_locks l t) m.header b)
   Releases : (t : Turn) (c : ClientId) (ino : ℕ) (to : Mode) → Edit n now i t (with_locks (release_to t.state.locks c ino to) t)

@@ -1,5 +1,5 @@
 -- What stands between events at a server of the world, for all its clients at once.
-use Rattle.std.specs.Prelude.{◌≡◌, ◌≢◌, ℕ, ◌≤◌, true, false, Some, None}
+use Rattle.std.specs.Prelude.{◌≡◌, ◌≢◌, ℕ, ◌+◌, ◌≤◌, length, true, false, Some, None, is_some}
 use Rattle.std.specs.List.{list_all}
 use Rattle.st_base.specs.declared.ids.ClientId.{ClientId}
 use Rattle.st_base.specs.declared.ids.Life.{Life}
@@ -16,6 +16,8 @@ use Rattle.st_rules.specs.declared.sessions.SessionState.{SessionState}
 use Rattle.st_rules.specs.declared.sessions.SessionState.TheVariants.{Live, Ended}
 use Rattle.st_rules.specs.declared.world.SentMessage.{SentMessage}
 use Rattle.st_rules.specs.Locks.{Locks, row_of}
+use Rattle.st_rules.specs.declared.authority.Suspect.{Suspect}
+use Rattle.st_rules.specs.Sessions.{session_of}
 use Rattle.st_rules.specs.Grace as grace
 use Rattle.st_rules.specs.Server.{ServerState, ServerNode}
 use Rattle.st_rules.specs.World.{World, ClientSite, clock_of, site_of, ended_of, message_of, receiver_of, server}
@@ -49,6 +51,22 @@ pub record Stands (k : Config) (s : ℕ) (ended : ℕ → ℕ → ℕ) (w : Worl
 pub record Settings (k : Config) (w : World) : Type 0 where
   pub lease : (c : ClientId) (site : ClientSite) → site_of w c ≡ Some site → site.node.state.config.lease ≡ k.lease
   pub ended : (c : ClientId) (s : ServerId) (life : Life) → site_of w c ≡ None → ended_of w c s life ≡ None
+
+-- the locks that were granted in the epoch, and the waits
+abbrev pub taken_locks : Locks → ℕ
+taken_locks l = l.grants + length l.waiters
+
+-- Grants and waits of an epoch are few: each was paid for by a message, and a step is taken only while messages have fewer than
+-- 2^29 bytes.
+pub record Few (bytes : ℕ) (n : ServerState) : Type 0 where
+  pub paid : taken_locks n.locks ≤ bytes
+  pub few : taken_locks n.locks ≤ 536870912
+
+-- Each row, each wait and each timer at a server is of a client that has a session.
+pub record Known (n : ServerState) : Type 0 where
+  pub rows : (r : LockRow) → Has r n.locks.rows → is_some (session_of n.sessions r.client) ≡ true
+  pub waits : (w : Waiter) → Has w n.locks.waiters → is_some (session_of n.sessions w.client) ≡ true
+  pub timers : (x : Suspect) → Has x n.authority.suspects → is_some (session_of n.sessions x.client) ≡ true
 
 -- an event in which a server takes a step: a tick, or a message to it that is delivered
 pub data Steps_at (s : ℕ) (w : World) (e : Event) : Type 0 where
@@ -86,4 +104,5 @@ pub record After_step (k : Config) (s : ℕ) (ended : ℕ → ℕ → ℕ) (w : 
   pub late : (t : Traced) → t.world ≡ w → Dates_known w t.history.dates → ((c : ℕ) → Dates_shown k.lease c s t.history.dates (G c).net) →
       list_all (is_late t) sc.seen ≡ true
   pub calm : Calm before.state (clock_of w (nodes.Server (server s))) → Calm node.state (clock_of sc.world (nodes.Server (server s)))
+  pub few : Few w.net.bytes before.state → Few sc.world.net.bytes node.state
   pub quiet : Calm before.state (clock_of w (nodes.Server (server s))) → list_all is_no_conflict sc.seen ≡ true

@@ -1,9 +1,18 @@
-ghost use Rattle.std.specs.Prelude.{◌≡◌, IsOk};
+ghost use Rattle.std.specs.Prelude.{◌≡◌, IsOk, true};
+ghost use Rattle.std.specs.List.{IsDistinct};
 ghost use Rattle.st_base.specs.Config as settings;
+ghost use Rattle.st_locks.specs.Calls.{same_file};
+ghost use Rattle.st_locks.specs.Since.{IsClient};
 ghost use Rattle.st_rules.specs.Grace as rules;
+ghost use Rattle.st_reassert.specs.Accepting.{Accepts, is_older};
 
-use st_base::{Config, Stamp};
+use crate::accepting::accept_rows;
+use crate::refusal::ReassertRefusal;
+use st_base::{ClientId, Config, GrantNo, Life, Mode, Stamp};
 use st_clock::steal_wait;
+use st_locks::LockTable;
+use st_sessions::Sessions;
+use std::alloc::Global;
 use std::marker::Model;
 
 /// When a grace began, and how long it lasts.
@@ -67,6 +76,35 @@ impl Grace {
         match self.period {
             None => Stamp(0),
             Some(period) => period.start,
+        }
+    }
+
+    /// Accepts the rows that a client reasserts in this life: they are installed, and its session is made. It is refused, in this
+    /// order, if grace is not on (`GraceOver`), at the first row with a grant number that no earlier epoch gave (`NotHolder`),
+    /// if the client itself has rows, at the least file of them (`Conflict`), and at the first row that conflicts with another
+    /// client's (`Conflict`). A refusal changes nothing. If the call runs out of memory, nothing is said of the locks and the
+    /// sessions.
+    #[tactic(auto, unfolding(st_rules::specs::Grace::accept))]
+    pub fn accept(
+        &self,
+        alloc: Global,
+        now: Stamp,
+        client: ClientId,
+        life: Life,
+        rows: &[(u32, GrantNo, Mode)],
+        locks: &mut LockTable,
+        sessions: &mut Sessions,
+    ) -> Result<(), ReassertRefusal>
+        requires client { IsClient client }
+        requires distinct { IsDistinct same_file rows.now }
+        requires older { is_older locks.old client life ≡ true }
+        ensures { Accepts (record { locks = locks.old; sessions = sessions.old }) (record { locks = locks.new; sessions = sessions.new }) result
+            (rules.accept self.now now client life rows.now locks.old sessions.old) }
+    {
+        if self.is_on(now) {
+            accept_rows(alloc, client, life, rows, locks, sessions)
+        } else {
+            Err(ReassertRefusal::GraceOver(self.start(), now))
         }
     }
 }

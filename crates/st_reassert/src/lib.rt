@@ -2,7 +2,10 @@
 //! `docs/PROTOCOL.md`, "Grace and reassertion", has the rules.
 #![tactic(auto)]
 
+mod accepting;
 mod grace;
+mod refusal;
 
 pub use grace::Grace;
-pub use st_base::{Config, Stamp};
+pub use refusal::ReassertRefusal;
+pub use st_base::{ClientId, Config, GrantNo, Life, Mode, Stamp};

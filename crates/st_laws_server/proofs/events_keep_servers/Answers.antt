@@ -1,4 +1,4 @@
-use Rattle.st_laws_server.proofs.Laws.{steps_keep, advances_keep, crashes_keep, starts_keep, calm_stays}
+use Rattle.st_laws_server.proofs.Laws.{steps_keep, advances_keep, crashes_keep, starts_keep, calm_stays, few_stay}
 use Rattle.st_laws_server.proofs.events_keep_servers.Goals as goal
 
 pub returns-clause-steps : goal.returns-clause-steps
@@ -15,3 +15,6 @@ returns-clause-starts c = starts_keep
 
 pub returns-clause-calm : goal.returns-clause-calm
 returns-clause-calm c = calm_stays
+
+pub returns-clause-few : goal.returns-clause-few
+returns-clause-few c = few_stay

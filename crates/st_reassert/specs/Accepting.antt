@@ -1,0 +1,44 @@
+-- What a reassertion needs, and what accepting it leaves.
+use Rattle.std.specs.Prelude.{◌≡◌, Bool, true, ◌&&◌, not, nat_le, Result, Ok, Err}
+use Rattle.std.specs.List.{list_any}
+use Rattle.st_base.specs.declared.ids.ClientId.{ClientId}
+use Rattle.st_base.specs.declared.ids.Life.{Life}
+use Rattle.st_rules.specs.declared.authority.AcceptRefusal.{AcceptRefusal}
+use Rattle.st_rules.specs.declared.authority.AcceptRefusal.TheVariants as rules
+use Rattle.st_rules.specs.declared.locks.LockRow.{LockRow}
+use Rattle.st_rules.specs.Grace.{Accepted}
+use Rattle.st_rules.specs.Locks.{Locks, is_row_by}
+use Rattle.st_rules.specs.Sessions.{Sessions}
+use Rattle.st_reassert.specs.declared.refusal.ReassertRefusal.{ReassertRefusal}
+use Rattle.st_reassert.specs.declared.refusal.ReassertRefusal.TheVariants as refusals
+
+-- the row is the client's, and of this life or a higher one
+abbrev pub is_row_from : ClientId → Life → LockRow → Bool
+is_row_from c life r = is_row_by c r && nat_le life.0 r.life.0
+
+-- the client has no row of this life or a higher one
+abbrev pub is_older : Locks → ClientId → Life → Bool
+is_older l c life = not (list_any (is_row_from c life) l.rows)
+
+-- the rule's refusals, as a call tells them
+abbrev pub as_told : AcceptRefusal → ReassertRefusal
+as_told (rules.GraceOver start now) = refusals.GraceOver start now
+as_told (rules.Conflict ino holder) = refusals.Conflict ino holder
+as_told (rules.NotHolder ino g) = refusals.NotHolder ino g
+
+-- what the rule gives, as a call tells it
+abbrev pub told : Result Accepted AcceptRefusal → Result Accepted ReassertRefusal
+told (Ok a) = Ok a
+told (Err r) = Err (as_told r)
+
+-- the locks and the sessions before a call, or after it
+pub record Parts : Type 0 where
+  pub locks : Locks
+  pub sessions : Sessions
+
+-- Accepting leaves what the rule says, or returns its refusal; then nothing changed. Where it runs out of memory, nothing is
+-- said of the locks and the sessions.
+abbrev pub Accepts : Parts → Parts → Result Unit ReassertRefusal → Result Accepted AcceptRefusal → Type 0
+Accepts old new (Ok done) rule = rule ≡ Ok (record { locks = new.locks; sessions = new.sessions })
+Accepts old new (Err refusals.Memory) rule = Unit {0}
+Accepts old new (Err f) rule = (told rule ≡ Err f) × (new ≡ old)
