@@ -67,3 +67,7 @@ pub record Cared (past : List Step) (cs : List IssuedCommand) (es : List LogEntr
 -- the numbers of the commands of the instance that runs are below the next
 abbrev pub Numbers_below : List IssuedCommand → ClientId → ℕ → ℕ → Type 0
 Numbers_below cs c starts next = (x : IssuedCommand) → Has x cs → x.client ≡ c → x.starts ≡ starts → x.number < next
+
+-- the outstanding commands have numbers of their own
+abbrev pub Numbers_apart : List PageCommand → Type 0
+Numbers_apart cs = (pc qc : PageCommand) → Has pc cs → Has qc cs → pc.number ≡ qc.number → pc ≡ qc
