@@ -1,6 +1,6 @@
 -- What stands of an association's dirty pages and outstanding writes, as one of its disk commands ends.
 use Rattle.std.proofs.Common.{◌≡◌, ℕ, ◌+◌, ◌<◌, ◌⊎◌, Bool, true, false, not, ◌&&◌, ◌||◌, List, [], ◌∷◌, ◌++◌, ◌==◌, Option, Some, None, refl, sym, ap, ◌∙◌, subst, inl, inr, arith, if◌then◌else◌}
-use Rattle.std.specs.Prelude.{find, filter, map, option_map}
+use Rattle.std.specs.Prelude.{find, filter, map, option_map, unwrap_or}
 use Rattle.std.specs.List.{list_any}
 use Rattle.std.proofs.lemmas.Bool.{eqb-true, eq-eqb}
 use Rattle.st_base.specs.declared.ids.ClientId.{ClientId}
@@ -14,7 +14,7 @@ use Rattle.st_rules.specs.declared.client.PageCommand.{PageCommand}
 use Rattle.st_rules.specs.declared.log.LogEntry.{LogEntry}
 use Rattle.st_rules.specs.declared.log.LogOwner.{LogOwner}
 use Rattle.st_rules.specs.declared.world.IssuedCommand.{IssuedCommand}
-use Rattle.st_rules.specs.Keys.{same_page}
+use Rattle.st_rules.specs.Keys.{same_client, same_server, same_file, same_page}
 use Rattle.st_rules.specs.FlatLog as log
 use Rattle.st_rules.specs.ClientPages as pages
 use Rattle.st_rules.specs.ClientPages.{Pages}
@@ -22,11 +22,14 @@ use Rattle.st_rules.specs.ClientState.{Association}
 use Rattle.st_rules.specs.Events.{last_write}
 use Rattle.st_rules.specs.Safety.{Step, reports_failure}
 use Rattle.st_lemmas.specs.Lists.{Has}
-use Rattle.st_lemmas.proofs.Tables.{and_true, and_both, has_filter, has_filter_in, has_append, none_passes}
+use Rattle.st_lemmas.proofs.Tables.{and_true, and_both, not_true, has_filter, has_filter_in, has_append, none_passes}
 use Rattle.st_lemmas.proofs.Lookups.{some_is}
 use Rattle.st_lemmas.proofs.Contents.{Place_is, self_place, one_place, other_place, find_cut, find_stays}
+use Rattle.st_rules.specs.Client as cl
+use Rattle.st_rules.specs.ClientState.{Turn}
+use Rattle.st_laws_pages.specs.Losses.{Is_outdated, Ends, Unknown, Passes, Hardens, Fails, without}
 use Rattle.st_laws_pages.specs.Fates.{Pending_all}
-use Rattle.st_laws_pages.specs.Flush.{owner_at_page, Dirty_here, Cared, Numbers_apart}
+use Rattle.st_laws_pages.specs.Flush.{file_at, owner_at_page, Dirty_here, Cared, Numbers_apart}
 use Rattle.st_laws_pages.proofs.Nexts.{dirty_on}
 use Rattle.st_laws_pages.proofs.Fates.{pending_map}
 
@@ -173,6 +176,22 @@ cleaned_cared past cs es c starts next a ino p none h =
     dirty [] n f = record {}
     dirty (e ∷ xs) n f = record { one = λ t. one e.of (n.one t) (f.one t); rest = dirty xs n.rest f.rest }
 
+-- nothing is pending of a page that is not dirty
+undirtied : (past : List Step) (cs : List IssuedCommand) (es : List LogEntry) (c : ClientId) (starts next : ℕ) (a : Association) (ino : ℕ) (p : PageNo) → pages.dirty_of a.store.pages ino p ≡ None → Cared past cs es c starts next a → None_pending (owner_at_page c a ino p) es
+undirtied past cs es c starts next a ino p n h = pending_map (Dirty_here c a) (λ x. log.same_owner x (owner_at_page c a ino p) ≡ true → ⊥) es one h.entries
+  where
+    none_some : (d : DirtyPage) → ◌≡◌ {A = Option DirtyPage} None (Some d) → ⊥
+    none_some d z = cc
+
+    one : (o : LogOwner) → Dirty_here c a o → log.same_owner o (owner_at_page c a ino p) ≡ true → ⊥
+    one o f s =
+        let x = and_true (same_client o.client c && (o.life.0 == a.life.0)) (same_file o.file (file_at a ino) && same_page o.page p) s in
+        let y = and_true (same_client o.client c) (o.life.0 == a.life.0) x.0 in
+        let z = and_true (same_file o.file (file_at a ino)) (same_page o.page p) x.1 in
+        let w = and_true (same_server o.file.server a.server) (o.file.ino == ino) z.0 in
+        let d = f (ap (λ m. record { 0 = m }) (eqb-true _ _ y.0)) (ap (λ m. record { 0 = m }) (eqb-true _ _ w.0)) (ap (λ m. record { 0 = m }) (eqb-true _ _ y.1)) in
+        none_some d.0 (sym n ∙ subst (λ q. pages.dirty_of a.store.pages ino q ≡ Some d.0) (ap (λ m. record { 0 = m }) (eqb-true _ _ z.1)) (subst (λ j. pages.dirty_of a.store.pages j o.page ≡ Some d.0) (eqb-true _ _ w.1) d.1))
+
 -- what is dirty after a page's command failed
 failed_rows : (ino : ℕ) (p : PageNo) (n : ℕ) (i : ℕ) (q : PageNo) (xs : List DirtyPage) → find (pages.is_dirty_of i q) (map (pages.fail_of ino p n) xs) ≡ option_map (pages.fail_of ino p n) (find (pages.is_dirty_of i q) xs)
 unfolding pages.failed_by
@@ -264,3 +283,92 @@ failed_cared past cs es c starts next a ino p n free told h =
         let o = one_place ino p i q z in
         inr (subst (λ r. list_any (reports_failure (last_write cs (owner_at_page c a i r))) past ≡ true) o.1 (subst (λ j. list_any (reports_failure (last_write cs (owner_at_page c a j p))) past ≡ true) o.0 told))
     fail i q d k false z m e = h.failed i q m.page k m.is (ap (λ (x : DirtyPage). x.failed) (m.other z) ∙ e)
+
+-- a command that is found
+command_is : (cs : List PageCommand) (n : ℕ) (c : PageCommand) → pages.command_of cs n ≡ Some c → Has c cs × (c.number ≡ n)
+command_is [] n c e = cc
+command_is (x ∷ xs) n c e = go (x.number == n) refl e (command_is xs n c)
+  where
+    go : (b : Bool) → (x.number == n) ≡ b → (if b then Some x else pages.command_of xs n) ≡ Some c → (pages.command_of xs n ≡ Some c → Has c xs × (c.number ≡ n)) → Has c (x ∷ xs) × (c.number ≡ n)
+    go true f g r = (inl (sym (some_is g)), ap (λ (y : PageCommand). y.number) (sym (some_is g)) ∙ eqb-true x.number n f)
+    go false f g r = let z = r g in (inr z.0, z.1)
+
+-- What is owed as a write ends: one that failed is its page's last, and was reported so.
+abbrev pub Failure_owed : List Step → List IssuedCommand → ClientId → Association → PageCommand → Type 0
+Failure_owed past cs c a pc = list_any (reports_failure (last_write cs (owner_at_page c a pc.ino pc.page))) past ≡ true
+
+-- And one of the page as it is, which is done, leaves nothing of the page pending.
+abbrev pub Success_owed : List LogEntry → ClientId → Association → PageCommand → ℕ → Type 0
+Success_owed es c a pc v = (d : DirtyPage) → pages.dirty_of a.store.pages pc.ino pc.page ≡ Some d → d.version ≡ v → None_pending (owner_at_page c a pc.ino pc.page) es
+
+-- The end of a command.
+pub ends_cared : (past : List Step) (cs : List IssuedCommand) (es : List LogEntry) (c : ClientId) (starts next : ℕ) (number : ℕ) (ok : Bool) (t u : Turn) → Ends number ok t u → Numbers_apart t.here.store.commands →
+    ((pc : PageCommand) → Has pc t.here.store.commands → pc.number ≡ number → (v : ℕ) → pc.kind ≡ io.Write v → ok ≡ false → Failure_owed past cs c t.here pc) →
+    ((pc : PageCommand) → Has pc t.here.store.commands → pc.number ≡ number → (v : ℕ) → pc.kind ≡ io.Write v → ok ≡ true → Success_owed es c t.here pc v) →
+    Cared past cs es c starts next t.here → Cared past cs es c starts next u.here
+unfolding cl.hardened
+ends_cared past cs es c starts next number ok t _ Unknown ap_ fo so h = h
+ends_cared past cs es c starts next number ok t _ (Passes pc e o) ap_ fo so h = without_cared past cs es c starts next t.here number (λ qc i m v k d n y z. absurd (none qc (its qc i m) i v k d n y z)) h
+  where
+    is : Has pc t.here.store.commands × (pc.number ≡ number)
+    is = command_is t.here.store.commands number pc e
+
+    its : (qc : PageCommand) → Has qc t.here.store.commands → qc.number ≡ number → qc ≡ pc
+    its qc i m = ap_ qc pc i is.0 (m ∙ sym is.1)
+
+    none_some : (n : ℕ) → ◌≡◌ {A = Option ℕ} None (Some n) → ⊥
+    none_some n z = cc
+
+    none : (qc : PageCommand) → qc ≡ pc → Has qc t.here.store.commands → (v : ℕ) → qc.kind ≡ io.Write v → (d : DirtyPage) (n : ℕ) → pages.dirty_of t.here.store.pages qc.ino qc.page ≡ Some d → d.failed ≡ Some n → ⊥
+    none qc s i v k d n y z = go ((h.writes qc i v k).link d y)
+      where
+        go : (d.version ≡ v) ⊎ (d.failed ≡ None) → ⊥
+        go (inl f) = subst (λ x. Is_outdated t x) (sym s) o v d k y f
+        go (inr f) = none_some n (sym f ∙ z)
+ends_cared past cs es c starts next number ok t _ (Hardens pc v e o k w) ap_ fo so h = without_cared past cs es c starts next a number (λ qc i m v k d n y z. absurd (none qc (its qc i m) d y)) (clean (pages.dirty_of t.here.store.pages pc.ino pc.page) refl)
+  where
+    a : Association
+    a = record t.here { store = record t.here.store { pages = pages.harden t.here.store.pages pc.ino pc.page } }
+
+    is : Has pc t.here.store.commands × (pc.number ≡ number)
+    is = command_is t.here.store.commands number pc e
+
+    its : (qc : PageCommand) → Has qc t.here.store.commands → qc.number ≡ number → qc ≡ pc
+    its qc i m = ap_ qc pc i is.0 (m ∙ sym is.1)
+
+    none_some : (d : DirtyPage) → ◌≡◌ {A = Option DirtyPage} None (Some d) → ⊥
+    none_some d z = cc
+
+    none : (qc : PageCommand) → qc ≡ pc → (d : DirtyPage) → pages.dirty_of a.store.pages qc.ino qc.page ≡ Some d → ⊥
+    none qc s d y = none_some d (sym (hardened_is t.here.store.pages pc.ino pc.page pc.ino pc.page true (self_place pc.ino pc.page)) ∙ subst (λ (x : PageCommand). pages.dirty_of a.store.pages x.ino x.page ≡ Some d) s y)
+
+    version : (d : DirtyPage) → pages.dirty_of t.here.store.pages pc.ino pc.page ≡ Some d → d.version ≡ v
+    version d q = sym (ap (λ x. unwrap_or (option_map pages.version_of_dirty x) 0) q) ∙ w
+
+    clean : (x : Option DirtyPage) → pages.dirty_of t.here.store.pages pc.ino pc.page ≡ x → Cared past cs es c starts next a
+    clean (Some d) q = cleaned_cared past cs es c starts next t.here pc.ino pc.page (so pc is.0 is.1 v k o d q (version d q)) h
+    clean None q = cleaned_cared past cs es c starts next t.here pc.ino pc.page (undirtied past cs es c starts next t.here pc.ino pc.page q h) h
+ends_cared past cs es c starts next number ok t _ (Fails pc v e o k) ap_ fo so h =
+    failed_cared past cs es c starts next b pc.ino pc.page pc.number (free (pages.is_being_written b.store.commands pc.ino pc.page) refl) (fo pc is.0 is.1 v k o)
+    (without_cared past cs es c starts next t.here number (λ qc i m v k d n y z. fo qc i m v k o) h)
+  where
+    b : Association
+    b = record t.here { store = record t.here.store { commands = pages.without_command number t.here.store.commands } }
+
+    is : Has pc t.here.store.commands × (pc.number ≡ number)
+    is = command_is t.here.store.commands number pc e
+
+    keeps : PageCommand → Bool
+    keeps x = not (pages.is_numbered number x)
+
+    free : (x : Bool) → pages.is_being_written b.store.commands pc.ino pc.page ≡ x → x ≡ false
+    free false q = refl
+    free true q = absurd (go (some_has (pages.is_write_of pc.ino pc.page) b.store.commands q))
+      where
+        go : (qc : PageCommand) × Has qc b.store.commands × (pages.is_write_of pc.ino pc.page qc ≡ true) → ⊥
+        go (qc, i, z) =
+            let f = has_filter keeps t.here.store.commands qc i in
+            let m = and_true (pages.is_write qc.kind) ((qc.ino == pc.ino) && same_page qc.page pc.page) z in
+            let s = a_write qc.kind m.0 in
+            let l = one_place qc.ino qc.page pc.ino pc.page m.1 in
+            no_bool (pages.is_numbered number qc) (eq-eqb qc.number number (h.once qc pc f.0 is.0 s.0 v s.1 k l.0 l.1 ∙ is.1)) (not_true (pages.is_numbered number qc) f.1)
