@@ -263,7 +263,7 @@ unfolding ev.last_write_from ev.last_write_at
 last_new o n before [] x e = ap (λ b. if b then n else before) e ∙ (let z : n ≡ n + 0 = omega arith in z)
 last_new o n before (c ∷ cs) x e = last_new o (n + 1) (ev.last_write_at o n before c) cs x e ∙ (let z : (n + 1) + length cs ≡ n + suc (length cs) = omega arith in z)
 
-any_front : (q : PageCommand → Bool) (xs ys : List PageCommand) → list_any q xs ≡ true → list_any q (xs ++ ys) ≡ true
+pub any_front : (q : PageCommand → Bool) (xs ys : List PageCommand) → list_any q xs ≡ true → list_any q (xs ++ ys) ≡ true
 any_front q [] ys h = cc
 any_front q (x ∷ xs) ys h = go (q x) h (any_front q xs ys)
   where
@@ -416,3 +416,64 @@ submitted_cared past cs es c starts next a ino p d x is di dp free num xc xl car
             (pages.is_being_written (a.store.commands ++ new ∷ []) j q ≡ true) ⊎ (list_any (reports_failure (last_write (cs ++ x ∷ []) (owner_at_page c a j q))) past ≡ true)
         kept (inl w) = inl (any_front (pages.is_write_of j q) a.store.commands (new ∷ []) w)
         kept (inr w) = inr (ap (λ m. list_any (reports_failure m) past) (last_stays (owner_at_page c a j q) cs x (other j q z)) ∙ w)
+
+-- a read is submitted: it is outstanding, and carries nothing
+pub read_cared : (past : List Step) (cs : List IssuedCommand) (es : List LogEntry) (c : ClientId) (starts next : ℕ) (a : Association) (ino : ℕ) (p : PageNo) (x : IssuedCommand) → x.number ≡ next → x.carries ≡ None → Numbers_below cs c starts next → Cared past cs es c starts next a →
+    Cared past (cs ++ x ∷ []) es c starts (next + 1) (record a { store = record a.store { commands = pages.begin_command a.store.commands next ino p io.Read } })
+unfolding pages.begin_command
+read_cared past cs es c starts next a ino p x num none nb h =
+    record {
+      entries = h.entries;
+      writes = λ pc i v q. writes pc v q (has_append a.store.commands (new ∷ []) pc i);
+      reads = λ pc i q k y j s. reads pc q k y j s (has_append a.store.commands (new ∷ []) pc i);
+      below = λ pc i. below pc (has_append a.store.commands (new ∷ []) pc i);
+      once = λ pc qc i j v u q r m n. once pc qc v u q r m n (has_append a.store.commands (new ∷ []) pc i) (has_append a.store.commands (new ∷ []) qc j);
+      versions = h.versions;
+      failed = λ j q d n i w. fail j q (g.failed j q d n i w);
+    }
+  where
+    new : PageCommand
+    new = pages.page_command next ino p io.Read
+
+    b : Association
+    b = record a { store = record a.store { commands = a.store.commands ++ new ∷ [] } }
+
+    g : Cared past (cs ++ x ∷ []) es c starts (next + 1) a
+    g = command_elsewhere past cs es c starts next a x num (λ j q. ap (ev.carries_for (owner_at_page c a j q) x) none) h
+
+    no_write : (pc : PageCommand) (v : ℕ) → pc ≡ new → pc.kind ≡ io.Write v → ⊥
+    no_write pc v e q = no (sym (ap (λ (z : PageCommand). z.kind) e) ∙ q)
+      where
+        no : io.Read ≡ io.Write v → ⊥
+        no z = cc
+
+    writes : (pc : PageCommand) (v : ℕ) → pc.kind ≡ io.Write v → Has pc a.store.commands ⊎ Has pc (new ∷ []) → Write_cared (cs ++ x ∷ []) es c starts b pc v
+    writes pc v q (inl i) = let w = g.writes pc i v q in record { world = λ k y j s. let o = w.world k y j s in record { index = o.index; carries = o.carries; last = o.last; latest_is = o.latest_is }; low = w.low; link = w.link }
+    writes pc v q (inr (inl e)) = absurd (no_write pc v e q)
+    writes pc v q (inr (inr e)) = absurd e
+
+    reads : (pc : PageCommand) → pc.kind ≡ io.Read → (k : ℕ) (y : IssuedCommand) → numbered (cs ++ x ∷ []) k ≡ Some y → Is_its c starts pc.number y → Has pc a.store.commands ⊎ Has pc (new ∷ []) → y.carries ≡ None
+    reads pc q k y j s (inl i) = g.reads pc i q k y j s
+    reads pc q k y j s (inr (inl e)) = at (numbered_more cs x k y j)
+      where
+        at : (numbered cs k ≡ Some y) ⊎ ((k ≡ suc (length cs)) × (y ≡ x)) → y.carries ≡ None
+        at (inl j) = let z = nb y (numbered_has cs k y j) s.client s.instance_ in let u = s.number_is in let w = ap (λ (m : PageCommand). m.number) e in absurd (omega (arith, z, u, w))
+        at (inr j) = ap (λ (w : IssuedCommand). w.carries) j.1 ∙ none
+    reads pc q k y j s (inr (inr e)) = absurd e
+
+    below : (pc : PageCommand) → Has pc a.store.commands ⊎ Has pc (new ∷ []) → pc.number < next + 1
+    below pc (inl i) = g.below pc i
+    below pc (inr (inl e)) = let z = ap (λ (w : PageCommand). w.number) e in omega (arith, z)
+    below pc (inr (inr e)) = absurd e
+
+    once : (pc qc : PageCommand) (v u : ℕ) → pc.kind ≡ io.Write v → qc.kind ≡ io.Write u → pc.ino ≡ qc.ino → pc.page ≡ qc.page → Has pc a.store.commands ⊎ Has pc (new ∷ []) → Has qc a.store.commands ⊎ Has qc (new ∷ []) → pc.number ≡ qc.number
+    once pc qc v u q r m n (inl i) (inl j) = h.once pc qc i j v u q r m n
+    once pc qc v u q r m n (inl i) (inr (inl e)) = absurd (no_write qc u e r)
+    once pc qc v u q r m n (inl i) (inr (inr e)) = absurd e
+    once pc qc v u q r m n (inr (inl e)) j = absurd (no_write pc v e q)
+    once pc qc v u q r m n (inr (inr e)) j = absurd e
+
+    fail : (j : ℕ) (q : PageNo) → (pages.is_being_written a.store.commands j q ≡ true) ⊎ (list_any (reports_failure (last_write (cs ++ x ∷ []) (owner_at_page c a j q))) past ≡ true) →
+        (pages.is_being_written (a.store.commands ++ new ∷ []) j q ≡ true) ⊎ (list_any (reports_failure (last_write (cs ++ x ∷ []) (owner_at_page c a j q))) past ≡ true)
+    fail j q (inl w) = inl (any_front (pages.is_write_of j q) a.store.commands (new ∷ []) w)
+    fail j q (inr w) = inr w
