@@ -32,6 +32,9 @@ use Rattle.st_laws_pages.specs.Fates.{Pending_all}
 use Rattle.st_laws_pages.specs.Flush.{file_at, owner_at_page, Dirty_here, Cared, Numbers_apart}
 use Rattle.st_laws_pages.proofs.Nexts.{dirty_on}
 use Rattle.st_laws_pages.proofs.Fates.{pending_map}
+use Rattle.st_laws_pages.proofs.Caring.{store_same}
+use Rattle.st_laws_pages.specs.Client.{Change, Says, Operates, Answers, Greets, Tells_lost, Begins, Follows, Learns, Forgets, Caches, Writes, Reads, Submits}
+use Rattle.st_base.specs.declared.ids.Stamp.{Stamp}
 
 -- The numbers of outstanding commands.
 pub apart_fewer : (q : PageCommand → Bool) (cs : List PageCommand) → Numbers_apart cs → Numbers_apart (filter q cs)
@@ -372,3 +375,27 @@ ends_cared past cs es c starts next number ok t _ (Fails pc v e o k) ap_ fo so h
             let s = a_write qc.kind m.0 in
             let l = one_place qc.ino qc.page pc.ino pc.page m.1 in
             no_bool (pages.is_numbered number qc) (eq-eqb qc.number number (h.once qc pc f.0 is.0 s.0 v s.1 k l.0 l.1 ∙ is.1)) (not_true (pages.is_numbered number qc) f.1)
+
+-- A change that changes no page and submits nothing.
+abbrev pub Is_quiet : (now : Stamp) (t u : Turn) → Change now t u → Type 0
+Is_quiet now t _ (Writes _ s f p bytes n e sv own m h) = ⊥
+Is_quiet now t _ (Reads _ ino p m i) = ⊥
+Is_quiet now t _ (Submits _ s ino p d m e i k w) = ⊥
+Is_quiet now t u c = Unit {0}
+
+-- It leaves what stands of the association.
+pub quiet_cared : (past : List Step) (cs : List IssuedCommand) (es : List LogEntry) (c : ClientId) (starts : ℕ) (now : Stamp) (t u : Turn) (ch : Change now t u) → Is_quiet now t u ch → Cared past cs es c starts t.next_command t.here → Cared past cs es c starts u.next_command u.here
+unfolding pages.forget_from pages.drop_from
+quiet_cared past cs es c starts now t _ (Says _ o p) q h = h
+quiet_cared past cs es c starts now t _ (Operates _ os) q h = h
+quiet_cared past cs es c starts now t _ (Answers _ os ops a) q h = h
+quiet_cared past cs es c starts now t _ (Greets _ g) q h = store_same past cs es c starts t.next_command t.here (record t.here { greeting = g }) refl refl refl refl refl h
+quiet_cared past cs es c starts now t _ (Tells_lost _ lost) q h = store_same past cs es c starts t.next_command t.here _ refl refl refl refl refl h
+quiet_cared past cs es c starts now t _ (Begins _ s e b n) q h = store_same past cs es c starts t.next_command t.here (record t.here { session = Some s }) refl refl refl refl refl h
+quiet_cared past cs es c starts now t _ (Follows _ s u e g) q h = store_same past cs es c starts t.next_command t.here (record t.here { session = Some u }) refl refl refl refl refl h
+quiet_cared past cs es c starts now t _ (Learns _ e u n) q h = store_same past cs es c starts t.next_command t.here (record t.here { store = record t.here.store { extents = pages.with_known e t.here.store.extents } }) refl refl refl refl refl h
+quiet_cared past cs es c starts now t _ (Forgets _ ino p i) q h = store_same past cs es c starts t.next_command t.here (record t.here { store = pages.forget_from t.here.store ino p }) refl refl refl refl refl h
+quiet_cared past cs es c starts now t _ (Caches _ clean) q h = store_same past cs es c starts t.next_command t.here (record t.here { store = record t.here.store { pages = record t.here.store.pages { clean = clean } } }) refl refl refl refl refl h
+quiet_cared past cs es c starts now t _ (Writes _ s f p bytes n e sv own m z) q h = absurd q
+quiet_cared past cs es c starts now t _ (Reads _ ino p m i) q h = absurd q
+quiet_cared past cs es c starts now t _ (Submits _ s ino p d m e i k w) q h = absurd q
