@@ -1,8 +1,8 @@
 -- What stands of an association's dirty pages and outstanding writes, as the log and the commands grow elsewhere.
-use Rattle.std.proofs.Common.{◌≡◌, ℕ, ◌+◌, ◌≤◌, ◌<◌, ◌⊎◌, Bool, true, false, not, ◌&&◌, ◌||◌, List, [], ◌∷◌, ◌++◌, ◌==◌, Option, Some, None, refl, sym, ap, ◌∙◌, subst, inl, inr, arith, if◌then◌else◌}
+use Rattle.std.proofs.Common.{◌≡◌, ℕ, ◌+◌, ◌<◌, ◌⊎◌, Bool, true, false, not, ◌&&◌, ◌||◌, List, [], ◌∷◌, ◌++◌, ◌==◌, Option, Some, None, refl, sym, ap, ◌∙◌, subst, inl, inr, arith, if◌then◌else◌}
 use Rattle.std.specs.Prelude.{length, suc, find, filter}
 use Rattle.std.specs.List.{list_any}
-use Rattle.std.proofs.lemmas.Bool.{eqb-true, eq-eqb}
+use Rattle.std.proofs.lemmas.Bool.{eq-eqb}
 use Rattle.st_base.specs.declared.ids.ClientId.{ClientId}
 use Rattle.st_base.specs.declared.ids.FileId.{FileId}
 use Rattle.st_base.specs.declared.ids.PageNo.{PageNo}
@@ -31,7 +31,6 @@ use Rattle.st_lemmas.proofs.Lookups.{some_is, or_left, or_right}
 use Rattle.st_lemmas.proofs.Contents.{Place_is, self_place, one_place}
 use Rattle.st_laws_pages.proofs.Nexts.{dirty_put}
 use Rattle.st_laws_pages.proofs.Fates.{pending_map}
-use Rattle.st_laws_pages.specs.Fates.{Pending_all}
 use Rattle.st_laws_pages.specs.Flush.{file_at, owner_at_page, Is_its, Write_out, Write_cared, Dirty_here, Cared, Numbers_below}
 use Rattle.st_laws_pages.proofs.FateSteps.{pending_more}
 use Rattle.st_laws_pages.proofs.Owing.{last_more}

@@ -1,5 +1,5 @@
 -- What stands of an association's dirty pages and outstanding writes, as one of its disk commands ends.
-use Rattle.std.proofs.Common.{◌≡◌, ℕ, ◌+◌, ◌<◌, ◌⊎◌, Bool, true, false, not, ◌&&◌, ◌||◌, List, [], ◌∷◌, ◌++◌, ◌==◌, Option, Some, None, refl, sym, ap, ◌∙◌, subst, inl, inr, arith, if◌then◌else◌}
+use Rattle.std.proofs.Common.{◌≡◌, ℕ, ◌<◌, ◌⊎◌, Bool, true, false, not, ◌&&◌, ◌||◌, List, [], ◌∷◌, ◌++◌, ◌==◌, Option, Some, None, refl, sym, ap, ◌∙◌, subst, inl, inr, arith, if◌then◌else◌}
 use Rattle.std.specs.Prelude.{find, filter, map, option_map, unwrap_or}
 use Rattle.std.specs.List.{list_any}
 use Rattle.std.proofs.lemmas.Bool.{eqb-true, eq-eqb}
@@ -27,7 +27,7 @@ use Rattle.st_lemmas.proofs.Lookups.{some_is}
 use Rattle.st_lemmas.proofs.Contents.{Place_is, self_place, one_place, other_place, find_cut, find_stays}
 use Rattle.st_rules.specs.Client as cl
 use Rattle.st_rules.specs.ClientState.{Turn}
-use Rattle.st_laws_pages.specs.Losses.{Is_outdated, Ends, Unknown, Passes, Hardens, Fails, without}
+use Rattle.st_laws_pages.specs.Losses.{Is_outdated, Ends, Unknown, Passes, Hardens, Fails}
 use Rattle.st_laws_pages.specs.Fates.{Pending_all}
 use Rattle.st_laws_pages.specs.Flush.{file_at, owner_at_page, Dirty_here, Cared, Numbers_apart}
 use Rattle.st_laws_pages.proofs.Nexts.{dirty_on}

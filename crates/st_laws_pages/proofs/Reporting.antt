@@ -6,7 +6,6 @@ use Rattle.st_base.specs.declared.disk.BlockAt.{BlockAt}
 use Rattle.st_base.specs.declared.disk.Command.TheVariants as commands
 use Rattle.st_base.specs.declared.disk.Tag.{Tag}
 use Rattle.st_base.specs.declared.ids.ClientId.{ClientId}
-use Rattle.st_rules.specs.declared.pages.DirtyPage.{DirtyPage}
 use Rattle.st_rules.specs.declared.client.IoKind.TheVariants as io
 use Rattle.st_rules.specs.declared.client.PageCommand.{PageCommand}
 use Rattle.st_rules.specs.declared.disks.DiskCommand.{DiskCommand}
@@ -14,8 +13,7 @@ use Rattle.st_rules.specs.declared.log.LogEntry.{LogEntry}
 use Rattle.st_rules.specs.declared.log.LogOwner.{LogOwner}
 use Rattle.st_rules.specs.declared.world.Carried.{Carried}
 use Rattle.st_rules.specs.declared.world.IssuedCommand.{IssuedCommand}
-use Rattle.st_rules.specs.FlatLog.{owner, same_owner}
-use Rattle.st_rules.specs.ClientPages as pages
+use Rattle.st_rules.specs.FlatLog.{owner}
 use Rattle.st_rules.specs.ClientState.{Association}
 use Rattle.st_rules.specs.Disks as disks
 use Rattle.st_rules.specs.World.{numbered}

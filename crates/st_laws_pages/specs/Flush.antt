@@ -1,10 +1,9 @@
 -- What stands of a client's dirty pages and of its outstanding writes, against the log and the commands of the world.
-use Rattle.std.specs.Prelude.{◌≡◌, ℕ, ◌<◌, ◌⊎◌, true, List, Option, Some, None}
+use Rattle.std.specs.Prelude.{◌≡◌, ℕ, ◌<◌, ◌⊎◌, true, List, Some, None}
 use Rattle.std.specs.List.{list_any}
 use Rattle.st_base.specs.declared.ids.ClientId.{ClientId}
 use Rattle.st_base.specs.declared.ids.FileId.{FileId}
 use Rattle.st_base.specs.declared.ids.PageNo.{PageNo}
-use Rattle.st_base.specs.declared.ids.ServerId.{ServerId}
 use Rattle.st_rules.specs.declared.pages.DirtyPage.{DirtyPage}
 use Rattle.st_rules.specs.declared.client.IoKind.TheVariants as io
 use Rattle.st_rules.specs.declared.client.PageCommand.{PageCommand}
