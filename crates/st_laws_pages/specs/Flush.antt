@@ -56,9 +56,11 @@ Dirty_here c a o = o.client ≡ c → o.file.server ≡ a.server → o.life ≡ 
 pub record Cared (past : List Step) (cs : List IssuedCommand) (es : List LogEntry) (c : ClientId) (starts next : ℕ) (a : Association) : Type 0 where
   pub entries : Pending_all (Dirty_here c a) es
   pub writes : (pc : PageCommand) → Has pc a.store.commands → (v : ℕ) → pc.kind ≡ io.Write v → Write_cared cs es c starts a pc v
-  pub reads : (pc : PageCommand) → Has pc a.store.commands → pc.kind ≡ io.Read → (k : ℕ) (x : IssuedCommand) → numbered cs k ≡ Some x → Is_its c starts pc.number x → x.carries ≡ None
+  pub reads : (pc : PageCommand) → Has pc a.store.commands → pc.kind ≡ io.Read → (k : ℕ) (x : IssuedCommand) → numbered cs k ≡ Some x →
+      Is_its c starts pc.number x → x.carries ≡ None
   pub below : (pc : PageCommand) → Has pc a.store.commands → pc.number < next
-  pub once : (pc qc : PageCommand) → Has pc a.store.commands → Has qc a.store.commands → (v u : ℕ) → pc.kind ≡ io.Write v → qc.kind ≡ io.Write u → pc.ino ≡ qc.ino → pc.page ≡ qc.page → pc.number ≡ qc.number
+  pub once : (pc qc : PageCommand) → Has pc a.store.commands → Has qc a.store.commands → (v u : ℕ) → pc.kind ≡ io.Write v → qc.kind ≡ io.Write u →
+      pc.ino ≡ qc.ino → pc.page ≡ qc.page → pc.number ≡ qc.number
   pub versions : (ino : ℕ) (p : PageNo) (d : DirtyPage) → pages.dirty_of a.store.pages ino p ≡ Some d → d.version < a.store.pages.next_version
   pub failed : (ino : ℕ) (p : PageNo) (d : DirtyPage) (n : ℕ) → pages.dirty_of a.store.pages ino p ≡ Some d → d.failed ≡ Some n →
       (pages.is_being_written a.store.commands ino p ≡ true) ⊎ (list_any (reports_failure (last_write cs (owner_at_page c a ino p))) past ≡ true)
