@@ -1,5 +1,5 @@
 -- What stands of an association's dirty pages and outstanding writes, through each change, with what the change adds to the world.
-use Rattle.std.proofs.Common.{◌≡◌, ℕ, List, [], ◌∷◌, ◌++◌, Some, None, sym, subst}
+use Rattle.std.proofs.Common.{◌≡◌, ℕ, ◌+◌, ◌<◌, not, List, [], ◌∷◌, ◌++◌, Some, None, refl, sym, ap, subst}
 use Rattle.st_base.specs.declared.ids.ClientId.{ClientId}
 use Rattle.st_base.specs.declared.ids.Stamp.{Stamp}
 use Rattle.st_rules.specs.declared.log.LogEntry.{LogEntry}
@@ -13,9 +13,12 @@ use Rattle.st_rules.specs.ClientState.{Turn, note}
 use Rattle.st_rules.specs.Events.{latest}
 use Rattle.st_rules.specs.Safety.{Step}
 use Rattle.st_laws_pages.specs.Client.{Change, Says, Operates, Answers, Greets, Tells_lost, Begins, Follows, Learns, Forgets, Caches, Writes, Reads, Submits}
-use Rattle.st_laws_pages.specs.Flush.{file_at, Cared, Numbers_below}
+use Rattle.st_laws_pages.specs.Flush.{file_at, Cared, Numbers_below, Numbers_apart}
+use Rattle.st_lemmas.specs.Lists.{Has}
+use Rattle.st_rules.specs.declared.client.PageCommand.{PageCommand}
+use Rattle.st_rules.specs.declared.client.IoKind.TheVariants as io
 use Rattle.st_laws_pages.proofs.Caring.{written_cared, read_cared, submitted_cared}
-use Rattle.st_laws_pages.proofs.Ending.{Is_quiet, quiet_cared}
+use Rattle.st_laws_pages.proofs.Ending.{Is_quiet, quiet_cared, apart_fewer, apart_more}
 use Rattle.st_laws_pages.proofs.Nexts.{dirty_on}
 
 -- the world's commands and log after one more entry of this association
@@ -80,3 +83,20 @@ change_cared past c starts now t _ (Reads _ ino p m i) cs ds es gs z nb h = move
 change_cared past c starts now t _ (Submits _ s ino p d m e i k w) cs ds es gs z nb h =
     let o = dirty_on t.here.store.pages ino p d i in
     moved past c starts (cp.submit_write t d m) _ ds es gs z.commands z.log (submitted_cared past cs es c starts t.next_command t.here ino p d z.command i o.0 o.1 w z.number z.client z.life z.carries nb h)
+
+-- The numbers of outstanding commands stay apart.
+pub change_apart : (now : Stamp) (t u : Turn) → Change now t u → ((pc : PageCommand) → Has pc t.here.store.commands → pc.number < t.next_command) → Numbers_apart t.here.store.commands → Numbers_apart u.here.store.commands
+unfolding cp.submit_read cp.submit_write cp.submit_command pages.begin_command pages.forget_read pages.forget_from
+change_apart now t _ (Says _ o p) low h = h
+change_apart now t _ (Operates _ os) low h = h
+change_apart now t _ (Answers _ os ops a) low h = h
+change_apart now t _ (Greets _ g) low h = h
+change_apart now t _ (Tells_lost _ lost) low h = h
+change_apart now t _ (Begins _ s e b n) low h = h
+change_apart now t _ (Follows _ s v e g) low h = h
+change_apart now t _ (Learns _ e v n) low h = h
+change_apart now t _ (Forgets _ ino p i) low h = h
+change_apart now t _ (Caches _ clean) low h = h
+change_apart now t _ (Writes _ s f p bytes n e sv own m x) low h = apart_fewer (λ c. not (pages.is_read_of f.ino p c)) t.here.store.commands h
+change_apart now t _ (Reads _ ino p m i) low h = apart_more t.here.store.commands (pages.page_command t.next_command ino p io.Read) low h
+change_apart now t _ (Submits _ s ino p d m e i k w) low h = apart_more t.here.store.commands (pages.page_command t.next_command d.ino d.page (io.Write d.version)) low h
