@@ -190,7 +190,7 @@ over_apart w c old after out there r st h o kn ov i l = go (find (is_at o.file.s
     go (Some b) f = some b f (pair_found (Life_next now old.node.state) (λ x y p. p.server) o.file.server old.node.state.associations after.associations st.pairs b f)
 
 -- One more command: the last write of an owner stays, where it carries no entry of that owner.
-last_more : (o : LogOwner) (n before : ℕ) (cs : List IssuedCommand) (x : IssuedCommand) → ev.carries_for o x x.carries ≡ false → ev.last_write_from n before o (cs ++ x ∷ []) ≡ ev.last_write_from n before o cs
+pub last_more : (o : LogOwner) (n before : ℕ) (cs : List IssuedCommand) (x : IssuedCommand) → ev.carries_for o x x.carries ≡ false → ev.last_write_from n before o (cs ++ x ∷ []) ≡ ev.last_write_from n before o cs
 unfolding ev.last_write_from ev.last_write_at
 last_more o n before [] x e = ap (λ b. if b then n else before) e
 last_more o n before (c ∷ cs) x e = last_more o (n + 1) (ev.last_write_at o n before c) cs x e

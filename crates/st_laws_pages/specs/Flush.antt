@@ -1,0 +1,74 @@
+-- What stands of a client's dirty pages and of its outstanding writes, against the log and the commands of the world.
+use Rattle.std.specs.Prelude.{◌≡◌, ℕ, ◌<◌, ◌⊎◌, true, List, Some, None}
+use Rattle.std.specs.List.{list_any}
+use Rattle.st_base.specs.declared.ids.ClientId.{ClientId}
+use Rattle.st_base.specs.declared.ids.FileId.{FileId}
+use Rattle.st_base.specs.declared.ids.PageNo.{PageNo}
+use Rattle.st_rules.specs.declared.pages.DirtyPage.{DirtyPage}
+use Rattle.st_rules.specs.declared.client.IoKind.TheVariants as io
+use Rattle.st_rules.specs.declared.client.PageCommand.{PageCommand}
+use Rattle.st_rules.specs.declared.log.LogEntry.{LogEntry}
+use Rattle.st_rules.specs.declared.log.LogOwner.{LogOwner}
+use Rattle.st_rules.specs.declared.world.IssuedCommand.{IssuedCommand}
+use Rattle.st_rules.specs.FlatLog.{owner}
+use Rattle.st_rules.specs.ClientPages as pages
+use Rattle.st_rules.specs.ClientState.{Association}
+use Rattle.st_rules.specs.World.{numbered}
+use Rattle.st_rules.specs.Events.{latest, last_write}
+use Rattle.st_rules.specs.Safety.{Step, reports_failure}
+use Rattle.st_lemmas.specs.Lists.{Has}
+use Rattle.st_laws_pages.specs.Fates.{Pending_all}
+
+-- a file of the association's server
+abbrev pub file_at : Association → ℕ → FileId
+file_at a ino = record { server = a.server; ino = ino }
+
+-- the owner of an association's entries to a page
+abbrev pub owner_at_page : ClientId → Association → ℕ → PageNo → LogOwner
+owner_at_page c a ino p = owner c a.life (file_at a ino) p
+
+-- a command of the world is the client's command of this number, by the instance that runs
+pub record Is_its (c : ClientId) (starts number : ℕ) (x : IssuedCommand) : Type 0 where
+  pub client : x.client ≡ c
+  pub instance_ : x.starts ≡ starts
+  pub number_is : x.number ≡ number
+
+-- What the world has of an outstanding write of a page: it is the last write of its owner, and it carries the latest entry where the
+-- page was not changed since.
+pub record Write_out (cs : List IssuedCommand) (es : List LogEntry) (c : ClientId) (a : Association) (pc : PageCommand) (v k : ℕ) (x : IssuedCommand) : Type 0 where
+  pub index : ℕ
+  pub carries : x.carries ≡ Some (record { file = file_at a pc.ino; page = pc.page; index = index })
+  pub last : last_write cs (owner_at_page c a pc.ino pc.page) ≡ k
+  pub latest_is : (d : DirtyPage) → pages.dirty_of a.store.pages pc.ino pc.page ≡ Some d → d.version ≡ v → index ≡ latest es c (file_at a pc.ino) pc.page
+
+-- an outstanding write
+pub record Write_cared (cs : List IssuedCommand) (es : List LogEntry) (c : ClientId) (starts : ℕ) (a : Association) (pc : PageCommand) (v : ℕ) : Type 0 where
+  pub world : (k : ℕ) (x : IssuedCommand) → numbered cs k ≡ Some x → Is_its c starts pc.number x → Write_out cs es c a pc v k x
+  pub low : v < a.store.pages.next_version
+  pub link : (d : DirtyPage) → pages.dirty_of a.store.pages pc.ino pc.page ≡ Some d → (d.version ≡ v) ⊎ (d.failed ≡ None)
+
+-- the page of a pending entry of this association's life is dirty
+abbrev pub Dirty_here : ClientId → Association → LogOwner → Type 0
+Dirty_here c a o = o.client ≡ c → o.file.server ≡ a.server → o.life ≡ a.life → (d : DirtyPage) × (pages.dirty_of a.store.pages o.file.ino o.page ≡ Some d)
+
+-- What stands of an association: what is pending of its life is dirty; its outstanding commands are the world's; and the failed command of
+-- a dirty page of which no write is outstanding is the last write of the page, and was reported failed.
+pub record Cared (past : List Step) (cs : List IssuedCommand) (es : List LogEntry) (c : ClientId) (starts next : ℕ) (a : Association) : Type 0 where
+  pub entries : Pending_all (Dirty_here c a) es
+  pub writes : (pc : PageCommand) → Has pc a.store.commands → (v : ℕ) → pc.kind ≡ io.Write v → Write_cared cs es c starts a pc v
+  pub reads : (pc : PageCommand) → Has pc a.store.commands → pc.kind ≡ io.Read → (k : ℕ) (x : IssuedCommand) → numbered cs k ≡ Some x →
+      Is_its c starts pc.number x → x.carries ≡ None
+  pub below : (pc : PageCommand) → Has pc a.store.commands → pc.number < next
+  pub once : (pc qc : PageCommand) → Has pc a.store.commands → Has qc a.store.commands → (v u : ℕ) → pc.kind ≡ io.Write v → qc.kind ≡ io.Write u →
+      pc.ino ≡ qc.ino → pc.page ≡ qc.page → pc.number ≡ qc.number
+  pub versions : (ino : ℕ) (p : PageNo) (d : DirtyPage) → pages.dirty_of a.store.pages ino p ≡ Some d → d.version < a.store.pages.next_version
+  pub failed : (ino : ℕ) (p : PageNo) (d : DirtyPage) (n : ℕ) → pages.dirty_of a.store.pages ino p ≡ Some d → d.failed ≡ Some n →
+      (pages.is_being_written a.store.commands ino p ≡ true) ⊎ (list_any (reports_failure (last_write cs (owner_at_page c a ino p))) past ≡ true)
+
+-- the numbers of the commands of the instance that runs are below the next
+abbrev pub Numbers_below : List IssuedCommand → ClientId → ℕ → ℕ → Type 0
+Numbers_below cs c starts next = (x : IssuedCommand) → Has x cs → x.client ≡ c → x.starts ≡ starts → x.number < next
+
+-- the outstanding commands have numbers of their own
+abbrev pub Numbers_apart : List PageCommand → Type 0
+Numbers_apart cs = (pc qc : PageCommand) → Has pc cs → Has qc cs → pc.number ≡ qc.number → pc ≡ qc
