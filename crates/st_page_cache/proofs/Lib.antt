@@ -8,3 +8,4 @@ pub mod Sorting
 pub mod Places
 pub mod Dropping
 pub mod Changes
+pub mod Used

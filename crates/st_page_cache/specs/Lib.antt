@@ -1,3 +1,4 @@
 pub mod Caches
 pub mod Keyed
 pub mod Placing
+pub mod Reading

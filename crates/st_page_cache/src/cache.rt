@@ -2,13 +2,14 @@
 ghost use Rattle.std.specs.Prelude.{◌≡◌, ◌≤◌, ◌<◌, ◌+◌, ◌^◌, [], IfOk, OnOk, OnErr, None, Some, is_some, length, map, slice_get};
 ghost use Rattle.std.specs.Option.{option_copied, option_map};
 ghost use Rattle.st_rules.specs.ClientPages as pages;
-ghost use Rattle.st_page_cache.specs.Caches.{ArePages, Writes, bytes_shown, facts_of, shown, with_pages};
+ghost use Rattle.st_page_cache.specs.Caches.{ArePages, Writes, facts_of, shown, with_pages};
 
 use crate::clean_pages::CleanPages;
 use crate::dirty_pages::DirtyPages;
 use crate::refusal::CacheRefusal;
-use crate::shown::{Dirty, Page};
+use crate::shown::Dirty;
 use st_base::{PageBytes, PageNo, ServerId};
+use st_lease_client::{PageLoss, PagesGone, UsePermit};
 use st_rules::{CleanPage, DirtyPage};
 use std::alloc::{AllocError, Global};
 use std::marker::Model;
@@ -142,7 +143,8 @@ impl PageCache {
 
     /// A page that is read becomes the newest clean one, where it is clean and not dirty. It does not allocate.
     #[tactic(auto, unfolding(st_rules::specs::ClientPages::use_page, st_rules::specs::ClientPages::use_clean, st_rules::specs::ClientPages::use_at))]
-    pub fn use_page(&mut self, ino: u32, page: PageNo)
+    pub fn use_page(&mut self, permit: &UsePermit, ino: u32, page: PageNo)
+        requires { permit.now.server ≡ self.old.server }
         ensures { self.new ≡ with_pages (pages.use_page self.old.pages ino page) self.old }
     {
         if self.dirty.get(ino, page).is_none() {
@@ -175,7 +177,14 @@ impl PageCache {
     /// Changes a page: it is dirty with these bytes, the next version and no failed command, and its clean copy goes. It is
     /// refused exactly where 64 other pages are dirty. The bytes are shared.
     #[tactic(auto, unfolding(st_rules::specs::ClientPages::write))]
-    pub fn write(&mut self, ino: u32, page: PageNo, bytes: &PageBytes) -> Result<(), CacheRefusal>
+    pub fn write(
+        &mut self,
+        permit: &UsePermit,
+        ino: u32,
+        page: PageNo,
+        bytes: &PageBytes,
+    ) -> Result<(), CacheRefusal>
+        requires server { permit.now.server ≡ self.old.server }
         requires room { self.old.pages.next_version + 1 < 2 ^ 64 }
         ensures { Writes self.old self.new result (pages.write self.old.pages ino page bytes.now) }
     {
@@ -230,5 +239,17 @@ impl PageCache {
         ensures { self.new ≡ with_pages (pages.drop_from self.old.pages ino page) self.old }
     {
         self.clean.drop_from(ino, page);
+    }
+
+    /// The lease is lost: no page is dirty or clean, and versions begin at 1 again. It does not allocate.
+    pub fn clear(&mut self, loss: PageLoss) -> PagesGone
+        requires { loss.server ≡ self.old.server }
+        ensures pages { self.new ≡ with_pages pages.no_pages self.old }
+        ensures gone { result ≡ loss }
+    {
+        self.clean.clear();
+        self.dirty.clear();
+        self.next_version = 1;
+        loss.done()
     }
 }

@@ -65,7 +65,8 @@ impl CleanPages {
         ensures ok { OnOk result (self.new ≡ pages.with_newest page self.old) }
         ensures err { OnErr result (self.new ≡ self.old) }
     {
-        let _old = self.pages.put(key(page.ino, page.page), page)?;
+        let at = key(page.ino, page.page);
+        let _old = self.pages.put(at, page)?;
         let _len = self.pages.len();
         Ok(())
     }

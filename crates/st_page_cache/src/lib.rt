@@ -7,6 +7,7 @@ mod clean_pages;
 mod dirty_pages;
 mod key;
 mod placing;
+mod reading;
 mod refusal;
 mod shown;
 

@@ -11,7 +11,7 @@ invariant_of-self-2 c =
     record {
       cap = cap;
       few = few;
-      keyed = rw c.in_ok-_old.ensures.entries (keyed_put c.args.page c.key.result c.key.ensures c.self.inside.pages c.self.invariant (lookup_entry (same_key c.key.result) c.self.inside.pages.entries) refl);
+      keyed = rw c.in_ok-_old.ensures.entries (keyed_put c.args.page c.key-at.result c.key-at.ensures c.self.inside.pages c.self.invariant (lookup_entry (same_key c.key-at.result) c.self.inside.pages.entries) refl);
       distinct = c.len-len.ensures.valid.0;
     }
 
@@ -19,4 +19,4 @@ pub returns-clause-ok : goal.returns-clause-ok
 returns-clause-ok c =
     rw (← c.self.view_is)
     (ap (λ x. values_of x.entries) c.in_ok-_old.ensures.entries
-    ∙ page_put c.args.page.ino c.args.page.page c.key.result c.key.ensures c.args.page c.self.inside.pages c.self.invariant (lookup_entry (same_key c.key.result) c.self.inside.pages.entries) refl)
+    ∙ page_put c.args.page.ino c.args.page.page c.key-at.result c.key-at.ensures c.args.page c.self.inside.pages c.self.invariant (lookup_entry (same_key c.key-at.result) c.self.inside.pages.entries) refl)
