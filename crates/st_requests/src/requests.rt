@@ -1,4 +1,4 @@
-ghost use Rattle.std.specs.Prelude.{◌≡◌, ◌<◌, ◌^◌, IfOk, None, OnErr, OnOk, option_map};
+ghost use Rattle.std.specs.Prelude.{◌≡◌, ◌<◌, ◌^◌, IfOk, None, OnErr, OnOk, nat_lt, option_map};
 ghost use Rattle.st_requests.specs.ServerRequests as shown;
 
 use crate::asked::Asked;
@@ -59,6 +59,13 @@ impl Requests {
             next: 1,
             asked: None,
         }
+    }
+
+    /// Whether a number is left for one more request. It does not allocate.
+    pub fn has_room(&self) -> bool
+        ensures { result ≡ nat_lt self.now.requests.next (2 ^ 62) }
+    {
+        self.next < 4_611_686_018_427_387_904
     }
 
     /// Asks in this life and epoch, with the next number. It returns the message to send. If the call runs out of memory,
