@@ -8,8 +8,8 @@ use slab::Slab;
 use std::alloc::{AllocError, Global};
 use std::marker::Model;
 
-/// Values in the order in which they came. They stay where they are in memory while others come and go. Contracts see the
-/// list of the values; a place is that of a value in the list, from 0 on.
+/// Values in the order in which they came: a slab, whose values are not moved when others go, and the order of its keys.
+/// Contracts see the list of the values; a place is that of a value in the list, from 0 on.
 #[derive(Drop)]
 pub struct Ordered<V: Drop> {
     slab: Slab<V>,
@@ -78,6 +78,14 @@ impl<V: Drop> Ordered<V> {
     {
         let key = self.order.remove(place);
         self.slab.try_remove(key)
+    }
+
+    /// Takes out all values. It does not allocate.
+    pub fn clear(&mut self)
+        ensures { self.new ≡ [] }
+    {
+        self.slab.clear();
+        self.order.clear();
     }
 
     /// Whether the value at a place passes the test.
