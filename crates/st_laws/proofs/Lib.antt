@@ -1,4 +1,5 @@
 pub mod Pairs
+pub mod Left
 pub mod Clients
 pub mod Unseen
 pub mod Crashes
