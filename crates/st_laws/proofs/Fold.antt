@@ -132,11 +132,11 @@ module _ (k : Config) (s : ℕ) (node : ServerNode) (ended : ℕ → ℕ → ℕ
       (same w (ev.with_lost n m w) (message_lost k s w n m e) b)
 
 -- the second of two refusals
-second_none : {A : Type 0} (o p : Option A) → option_or o p ≡ None → p ≡ None
+pub second_none : {A : Type 0} (o p : Option A) → option_or o p ≡ None → p ≡ None
 second_none None p e = e
 second_none (Some x) p e = cc
 
-not_stands : (b : Bool) (r : WorldRefusal) → admissible.stands b r ≡ None → b ≡ false
+pub not_stands : (b : Bool) (r : WorldRefusal) → admissible.stands b r ≡ None → b ≡ false
 unfolding admissible.stands
 not_stands true r e = cc
 not_stands false r e = refl
@@ -144,7 +144,7 @@ not_stands false r e = refl
 runs_by : (w : World) (c : ℕ) (site : ClientSite) → site_of w (client c) ≡ Some site → site.node.running ≡ is_running w (nodes.Client (client c))
 runs_by w c site e = sym (ap (λ o. site_runs o) e)
 
-not_false : (b : Bool) → not b ≡ false → b ≡ true
+pub not_false : (b : Bool) → not b ≡ false → b ≡ true
 not_false true e = refl
 not_false false e = cc
 

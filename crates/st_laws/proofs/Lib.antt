@@ -4,3 +4,4 @@ pub mod Clients
 pub mod Unseen
 pub mod Crashes
 pub mod Fold
+pub mod Everywhere
