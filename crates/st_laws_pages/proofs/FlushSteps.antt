@@ -204,23 +204,6 @@ says_less c before (o ∷ os) sc =
     let b = says_less c before os (client_says sc c before o) in
     record { config = b.config ∙ a.config; clocks = b.clocks ∙ a.clocks; servers = b.servers ∙ a.servers; flushed = b.flushed ∙ a.flushed }
 
-flush_servers : (c : ClientId) (s : ClientState) (ss : List ServerId) (w : World) → (ev.flushes c s ss w).servers ≡ w.servers
-unfolding ev.flushes
-flush_servers c s [] w = refl
-flush_servers c s (y ∷ ss) w = flush_servers c s ss (ev.flushed_at w c y s) ∙ in_phase (cl.lease_end_with s y) (cl.phase_with s y (clock_of w (nodes.Client c)))
-  where
-    under : (o : Option Stamp) → (ev.flushed_under w c y o).servers ≡ w.servers
-    under None = refl
-    under (Some e) = refl
-
-    in_phase : (o : Option Stamp) (p : Option Phase) → (ev.flushed_in w c y o p).servers ≡ w.servers
-    in_phase o (Some phases.Flush) = under o
-    in_phase o (Some phases.Valid) = refl
-    in_phase o (Some phases.Renewal) = refl
-    in_phase o (Some phases.Quiesce) = refl
-    in_phase o (Some phases.Expired) = refl
-    in_phase o None = refl
-
 -- Flush steps.
 
 -- a new flush step, of the flush phase
@@ -390,7 +373,7 @@ module _ (past more : List Step) (w : World) (c : ClientId) (old site : ClientSi
   servers_of d x e a i = go (at_site d x e)
     where
       count : length v.servers ≡ length w.servers
-      count = ap length (flush_servers c turn.node.state (world.all_servers u) u ∙ (says_less c site.node.state turn.out sc).servers)
+      count = ap length (fl.servers ∙ (says_less c site.node.state turn.out sc).servers)
 
       up_to : (b : Association) → (1 ≤ b.server.0) × (b.server.0 ≤ length w.servers) → a.server ≡ b.server → (1 ≤ a.server.0) × (a.server.0 ≤ length v.servers)
       up_to b (x, y) q = let z = ap (λ (s : ServerId). s.0) q in (omega (arith, x, z), omega (arith, y, z, count))
