@@ -50,26 +50,12 @@ use Rattle.st_laws_pages.proofs.LifeSteps.{steps_so}
 use Rattle.st_laws_pages.proofs.Turning.{says_one}
 use Rattle.st_laws_pages.proofs.Adding.{After, after_clients}
 use Rattle.st_laws_pages.proofs.Flushing.{Input_told, Flushed_by, step_flushed, step_cared, pair_of}
+use Rattle.st_laws_pages.proofs.Writer.{latest_same}
 
 -- Equal owners give equal latest entries.
-latest_by : (n before : ℕ) (c : ClientId) (f : FileId) (p : PageNo) (es fs : List LogEntry) → map owner_of es ≡ map owner_of fs → ev.latest_from n before c f p es ≡ ev.latest_from n before c f p fs
-unfolding ev.latest_from ev.latest_at
-latest_by n before c f p [] [] e = refl
-latest_by n before c f p [] (y ∷ fs) e = cc
-latest_by n before c f p (x ∷ es) [] e = cc
-latest_by n before c f p (x ∷ es) (y ∷ fs) e =
-    ap (λ o. ev.latest_from (n + 1) (if log.is_of_client c o && (same_file o.file f && same_page o.page p) then n else before) c f p es) (head (owner_of x) (owner_of y) (map owner_of es) (map owner_of fs) e)
-    ∙ latest_by (n + 1) (ev.latest_at c f p n before y) c f p es fs (tail (owner_of x) (owner_of y) (map owner_of es) (map owner_of fs) e)
-  where
-    head : (a b : LogOwner) (xs ys : List LogOwner) → a ∷ xs ≡ b ∷ ys → a ≡ b
-    head a b xs ys z = cc
-
-    tail : (a b : LogOwner) (xs ys : List LogOwner) → a ∷ xs ≡ b ∷ ys → xs ≡ ys
-    tail a b xs ys z = cc
-
-pub latest_same : (c : ClientId) (f : FileId) (p : PageNo) (es fs : List LogEntry) → map owner_of fs ≡ map owner_of es → latest fs c f p ≡ latest es c f p
+pub latest_owners : (c : ClientId) (f : FileId) (p : PageNo) (es fs : List LogEntry) → map owner_of fs ≡ map owner_of es → latest fs c f p ≡ latest es c f p
 unfolding latest
-latest_same c f p es fs e = latest_by 1 0 c f p fs es e
+latest_owners c f p es fs e = latest_same 1 0 c f p es fs e
 
 -- What stands of a client that runs, behind more steps and with other fates.
 pub node_fates : (past more : List Step) (cs : List IssuedCommand) (es fs : List LogEntry) (c : ClientId) (site : ClientSite) → ((n : ℕ) → list_any (reports_failure n) past ≡ true → list_any (reports_failure n) more ≡ true) →

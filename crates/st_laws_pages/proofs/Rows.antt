@@ -24,10 +24,7 @@ use Rattle.st_lemmas.proofs.Lookups.{some_is}
 use Rattle.st_lemmas.proofs.Puts.{find_put_other}
 use Rattle.st_lemmas.proofs.Tables.{and_true, and_both, not_true, has_filter, has_append, has_map, find_kept, find_gone, find_map, found_at}
 use Rattle.st_laws_pages.specs.Locked.{Waits_apart, Is_held}
-
-clash : (b : Bool) → b ≡ true → b ≡ false → ⊥
-clash true x y = cc
-clash false x y = cc
+use Rattle.st_laws_pages.proofs.Clash.{clash}
 
 -- Two keys: a client and a file.
 abbrev is_key : ClientId → ℕ → ClientId → ℕ → Bool
