@@ -53,7 +53,7 @@ apart_more cs new low h = λ pc qc i j n. go pc qc (has_append cs (new ∷ []) p
     go pc qc (inr (inr e)) j n = absurd e
 
 -- one of those that pass
-some_has : {A : Type 0} (q : A → Bool) (xs : List A) → list_any q xs ≡ true → (x : A) × Has x xs × (q x ≡ true)
+pub some_has : {A : Type 0} (q : A → Bool) (xs : List A) → list_any q xs ≡ true → (x : A) × Has x xs × (q x ≡ true)
 some_has q [] h = cc
 some_has {A} q (x ∷ xs) h = go (q x) refl h (some_has q xs)
   where

@@ -5,3 +5,4 @@ pub mod Grants
 pub mod Installing
 pub mod Ways
 pub mod Files
+pub mod Overdue

@@ -1,5 +1,6 @@
 -- What the calls of a lock table answer.
-use Rattle.std.specs.Prelude.{◌≡◌, ◌<◌, ◌^◌, ◌&&◌, ◌==◌, ◌++◌, ◌∷◌, [], ℕ, Bool, not, is_some, find, List, Option, None, Some, Result, Ok, Err}
+use Rattle.std.specs.Prelude.{◌≡◌, ◌<◌, ◌^◌, ◌&&◌, ◌==◌, ◌++◌, ◌∷◌, [], ℕ, Bool, not, is_some, find, filter, map, length, nat_le, List}
+use Rattle.std.specs.Prelude.{Option, None, Some, Result, Ok, Err}
 use Rattle.st_base.specs.declared.ids.ClientId.{ClientId}
 use Rattle.st_base.specs.declared.ids.Life.{Life}
 use Rattle.st_base.specs.declared.ids.Epoch.{Epoch}
@@ -14,7 +15,10 @@ use Rattle.st_rules.specs.declared.locks.InstallRefusal.{InstallRefusal}
 use Rattle.st_rules.specs.declared.locks.InstallRefusal.TheVariants as installing
 use Rattle.st_locks.specs.declared.refusal.LockRefusal.{LockRefusal}
 use Rattle.st_locks.specs.declared.refusal.LockRefusal.TheVariants.{TooManyLocks, Conflict, Memory}
-use Rattle.st_rules.specs.Locks.{Locks, Acquired, Granting, Demanding, is_wait_by, is_row_of}
+use Rattle.st_rules.specs.Keys.{client, rising}
+use Rattle.st_rules.specs.Locks.{Locks, Acquired, Granting, Demanding, client_of_row, row_of, is_row_by, is_row_of, is_wait_by, is_wait_on}
+use Rattle.st_rules.specs.Locks.{grant_file, demand_row, demand_clients, demand_for}
+use Rattle.st_locks.specs.declared.passes.Pass.{Pass}
 
 -- what is always so of the counters of a lock table
 pub record IsSound (epoch : Epoch) (grants : ℕ) : Type 0 where
@@ -68,3 +72,27 @@ Installs old new (Ok v) machine = machine ≡ Ok new
 Installs old new (Err Memory) machine = Unit {0}
 Installs old new (Err TooManyLocks) machine = ⊥
 Installs old new (Err (Conflict ino holder)) machine = (machine ≡ Err (installing.Conflict ino holder)) × (new ≡ old)
+
+-- the row is the client's, and of this life or a higher one
+abbrev pub is_row_from : ClientId → Life → LockRow → Bool
+is_row_from c life r = is_row_by c r && nat_le life.0 r.life.0
+
+-- the clients with a row that passes, in rising order
+abbrev pub clients_of : (LockRow → Bool) → List LockRow → List ClientId
+clients_of p rows = map client (rising (map client_of_row (filter p rows)))
+
+-- the grants of one file, of which there are at most as many as waiters
+abbrev pub file_granted : ℕ → Granting → Granting
+file_granted ino p = grant_file ino (length p.locks.waiters) p
+
+-- the client's row of the file is demanded, where that is due
+abbrev pub row_demanded : Pass → Mode → ClientId → ℕ → Demanding → Demanding
+row_demanded pass to c ino d = demand_row pass.config pass.now pass.tick to (row_of d.locks c ino) d
+
+-- the rows of these clients on a file are demanded
+abbrev pub rows_demanded : Pass → ℕ → Mode → List ClientId → Demanding → Demanding
+rows_demanded pass ino to cs d = demand_clients pass.config pass.now pass.tick ino to cs d
+
+-- the rows in the way of a file's first waiter are demanded
+abbrev pub file_demanded : Pass → List ClientId → ℕ → Demanding → Demanding
+file_demanded pass suspects ino d = demand_for pass.config pass.now pass.tick suspects (find (is_wait_on ino) d.locks.waiters) d

@@ -4,7 +4,7 @@ use Rattle.std.specs.Prelude.{◌||◌}
 use Rattle.std.specs.List.{list_any, position, position_or_len}
 use Rattle.std.proofs.lemmas.List.Quantifiers.{position-Some}
 use Rattle.st_rules.specs.Keys.{put}
-use Rattle.st_sessions.proofs.Places.{place_some, missing}
+use Rattle.st_tables.proofs.FirstPlaces.{place_some, missing}
 
 there : {A : Type 0} (p : A → Bool) (x : A) (xs : List A) → position_or_len p xs < length xs → put p x xs ≡ set xs (position_or_len p xs) x
 unfolding put
