@@ -5,3 +5,4 @@ pub mod Unseen
 pub mod Crashes
 pub mod Fold
 pub mod Everywhere
+pub mod Beginning
