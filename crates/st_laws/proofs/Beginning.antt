@@ -1,25 +1,21 @@
 -- What stands in the world of a head, before the first event.
-use Rattle.std.proofs.Common.{◌≡◌, ◌≢◌, ℕ, zero, suc, ◌+◌, ◌*◌, ◌<◌, ◌≤◌, Bool, true, false, ◌&&◌, List, [], ◌∷◌, ◌++◌, Option, Some, None, Result, Ok, Err, refl, sym, ap, ◌∙◌, subst, inl, inr, arith, if◌then◌else◌}
-use Rattle.std.specs.Prelude.{find, get_or, length, map, nat_lt, nat_le, option_map, pred, slice_get, slice_index, ◌-◌}
+use Rattle.std.proofs.Common.{◌≡◌, ◌≢◌, ℕ, zero, suc, ◌+◌, ◌*◌, ◌<◌, ◌≤◌, Bool, true, false, ◌&&◌, List, [], ◌∷◌, ◌++◌, Option, Some, None, Ok, Err, refl, sym, ap, ◌∙◌, subst, arith, if◌then◌else◌}
+use Rattle.std.specs.Prelude.{get_or, length, map, nat_lt, nat_le, option_map, pred, slice_get, slice_index, ◌-◌}
 use Rattle.std.proofs.lemmas.Bool.{leb-true, ltb-true}
 use Rattle.std.proofs.lemmas.Grind.{div_ceil_times}
 use Rattle.st_base.specs.declared.config.Config.{Config}
-use Rattle.st_base.specs.declared.config.ConfigRefusal.{ConfigRefusal}
 use Rattle.st_base.specs.declared.config.ConfigRefusal.TheVariants as config_refusals
 use Rattle.st_base.specs.declared.ids.NodeId.TheVariants as nodes
-use Rattle.st_base.specs.declared.ids.ServerId.{ServerId}
 use Rattle.st_base.specs.declared.ids.Stamp.{Stamp}
-use Rattle.st_base.specs.Config.{check, check_rate, check_length, phases_rise, rate_is_sound}
+use Rattle.st_base.specs.Config.{check, check_length, phases_rise, rate_is_sound}
 use Rattle.st_rules.specs.declared.world.SentMessage.{SentMessage}
-use Rattle.st_rules.specs.ClientPages.{empty_store}
 use Rattle.st_rules.specs.Client as cl
-use Rattle.st_rules.specs.ClientState.{Association}
 use Rattle.st_rules.specs.Extents.{numbers}
-use Rattle.st_rules.specs.Keys.{client, server_node}
+use Rattle.st_rules.specs.Keys.{client}
 use Rattle.st_rules.specs.Leases.{no_drift, steal_wait}
 use Rattle.st_rules.specs.Safety.{IsHead}
 use Rattle.st_rules.specs.Server.{ServerNode, fresh_server}
-use Rattle.st_rules.specs.World.{World, ClientSite, client_clock, clock_of, fresh_clocks, fresh_site, fresh_world, node_at_start, node_of, numbered, server, server_clock, site_of}
+use Rattle.st_rules.specs.World.{World, ClientSite, client_clock, clock_of, fresh_site, fresh_world, node_at_start, node_of, numbered, server, server_clock, site_of}
 use Rattle.st_rules.proofs.Drift.{pair_first, square_first}
 use Rattle.st_assoc.specs.Assoc as net
 use Rattle.st_assoc.specs.Assoc.{At_first, Begins_at, Config_ok, Reached}
@@ -290,7 +286,7 @@ module _ (kb : Config) (clients servers disks blocks form : ℕ) (head : IsHead 
         }
 
   -- the clocks and how far they drifted
-  clocks_are : length w.clocks ≡ clients + servers
+  pub clocks_are : length w.clocks ≡ clients + servers
   unfolding fresh_world
   clocks_are =
       length_both (map client_clock (numbers 1 clients)) (map server_clock (numbers 1 servers))
@@ -331,7 +327,7 @@ module _ (kb : Config) (clients servers disks blocks form : ℕ) (head : IsHead 
   unfolding fresh_world
   none_sent m h = h
 
-  pub begun : AllStand (terms_of kb) w
+  pub begun : AllStand (terms_of kb) (clients + servers) w
   begun =
       record {
         terms = ap terms_of (sym settings_are);
@@ -339,6 +335,7 @@ module _ (kb : Config) (clients servers disks blocks form : ℕ) (head : IsHead 
         waits = sound.waits;
         lives = fresh_lives kb clients servers disks blocks form;
         clocks = clocks_are ∙ (λ j. sym clients_are j + sym servers_are j);
+        nodes = clocks_are;
         first = record { node = node_at_start kb servers disks blocks 1; is = first };
         senders = λ m h. absurd (none_sent m h);
         servers = λ s node e. subst (λ (n : ServerNode). Server_stands (terms_of kb) w s n) (sym (node_is s node e)) (one s (within s node e) (e ∙ ap (λ n. Some n) (node_is s node e)));

@@ -6,3 +6,6 @@ pub mod Crashes
 pub mod Fold
 pub mod Everywhere
 pub mod Beginning
+pub mod Calmly
+pub mod Promised
+pub mod Runs
