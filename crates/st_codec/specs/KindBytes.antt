@@ -36,7 +36,11 @@ number_of kinds.Submit = 67
 number_of kinds.Done = 68
 
 abbrev pub all_kinds : List Kind
-all_kinds = kinds.Hello ∷ kinds.KeepAlive ∷ kinds.Acquire ∷ kinds.Released ∷ kinds.Map ∷ kinds.Allocate ∷ kinds.Cut ∷ kinds.Name ∷ kinds.Reassert ∷ kinds.DemandSeen ∷ kinds.Welcome ∷ kinds.Ack ∷ kinds.Nack ∷ kinds.Granted ∷ kinds.Queued ∷ kinds.Demand ∷ kinds.Extents ∷ kinds.Named ∷ kinds.Reasserted ∷ kinds.Tick ∷ kinds.App ∷ kinds.Patch ∷ kinds.AppDone ∷ kinds.Submit ∷ kinds.Done ∷ []
+all_kinds =
+    kinds.Hello ∷ kinds.KeepAlive ∷ kinds.Acquire ∷ kinds.Released ∷ kinds.Map ∷ kinds.Allocate ∷ kinds.Cut ∷ kinds.Name ∷
+    kinds.Reassert ∷ kinds.DemandSeen ∷ kinds.Welcome ∷ kinds.Ack ∷ kinds.Nack ∷ kinds.Granted ∷ kinds.Queued ∷ kinds.Demand ∷
+    kinds.Extents ∷ kinds.Named ∷ kinds.Reasserted ∷ kinds.Tick ∷ kinds.App ∷ kinds.Patch ∷ kinds.AppDone ∷ kinds.Submit ∷
+    kinds.Done ∷ []
 
 -- a kind has these two bytes
 abbrev pub is_kind : ℕ → ℕ → Kind → Bool

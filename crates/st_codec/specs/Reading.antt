@@ -177,7 +177,8 @@ unfoldable pub entry_at : Reader Bool
 entry_at bytes = made is_directory (byte_in 1 2) bytes
 
 unfoldable pub name_row_at : ℕ → Reader NameRow
-name_row_at least bytes = made (λ t. record { ino = t.0; directory = t.1.0; name = t.1.1 }) (seq (word32_in least 4294967295) (λ i. seq entry_at (λ k. name_at 1 64))) bytes
+name_row_at least bytes =
+    made (λ t. record { ino = t.0; directory = t.1.0; name = t.1.1 }) (seq (word32_in least 4294967295) (λ i. seq entry_at (λ k. name_at 1 64))) bytes
 
 -- this number of rows
 unfoldable pub rows_at : {R : Type 0} → (ℕ → Reader R) → (R → ℕ) → ℕ → ℕ → Reader (List R)
@@ -291,7 +292,8 @@ patch_bytes_at at bytes = do
   text_at n.0 n.1
 
 unfoldable pub patch_fields_at : Reader Ask
-patch_fields_at bytes = made (λ t. asks.Patch t.0 t.1.0 t.1.1.0 t.1.1.1) (seq (file_at 1) (λ f. seq (page_at 0) (λ p. seq (word16_in 0 4095) patch_bytes_at))) bytes
+patch_fields_at bytes =
+    made (λ t. asks.Patch t.0 t.1.0 t.1.1.0 t.1.1.1) (seq (file_at 1) (λ f. seq (page_at 0) (λ p. seq (word16_in 0 4095) patch_bytes_at))) bytes
 
 -- the ask of version 2
 unfoldable pub patch_numbered : ℕ → ℕ → Reader Ask
@@ -495,7 +497,11 @@ unfoldable pub marks_at : Kind → Reader (ℕ × ℕ)
 marks_at k bytes = seq (needed_at (request_of k)) (λ n. needed_at (stamp_of k)) bytes
 
 unfoldable pub header_at : Kind → Reader Header
-header_at k bytes = made (λ t. record { from = t.0.0; to = t.0.1; life = t.1.0.0; epoch = t.1.0.1; number = t.1.1.0; stamp = t.1.1.1 }) (seq (nodes_at k) (λ n. seq (ages_at k) (λ a. marks_at k))) bytes
+header_at k bytes =
+    made
+    (λ t. record { from = t.0.0; to = t.0.1; life = t.1.0.0; epoch = t.1.0.1; number = t.1.1.0; stamp = t.1.1.1 })
+    (seq (nodes_at k) (λ n. seq (ages_at k) (λ a. marks_at k)))
+    bytes
 
 unfoldable pub message_at : List ℕ → Result Message Fault
 message_at bytes = do

@@ -7,6 +7,7 @@ use Rattle.st_base.specs.declared.disk.Command.{Command}
 use Rattle.st_base.specs.declared.disk.Command.TheVariants as commands
 use Rattle.st_base.specs.declared.disk.Tag.{Tag}
 use Rattle.st_base.specs.declared.ids.FileId.{FileId}
+use Rattle.st_base.specs.declared.ids.PageNo.{PageNo}
 use Rattle.st_base.specs.declared.ids.GrantNo.{GrantNo}
 use Rattle.st_base.specs.declared.mode.Mode.{Mode}
 use Rattle.st_base.specs.declared.names.NameAsk.{NameAsk}
@@ -100,13 +101,21 @@ name_row r = word32 r.ino ++ byte (entry_number r.directory) ++ name r.name
 abbrev pub rows : {R : Type 0} → (R → List ℕ) → List R → List ℕ
 rows row rs = word16 (length rs) ++ flat_map row rs
 
+-- the fields of a renaming: the entry that is, and the entry that will be
+abbrev pub two_entries : ℕ → List ℕ → ℕ → List ℕ → List ℕ
+two_entries dir n dir2 n2 = word32 dir ++ name n ++ word32 dir2 ++ name n2
+
+-- the fields of a patch: its page, the place of its first byte there, and its bytes after their number
+abbrev pub patch : FileId → PageNo → ℕ → List ℕ → List ℕ
+patch f page at bytes = file f ++ word32 page.0 ++ word16 at ++ word16 (length bytes) ++ bytes
+
 -- a byte for the op, and its fields
 unfoldable pub name_op : NameOp → List ℕ
 name_op (ops.Lookup dir n) = 1 ∷ (word32 dir ++ name n)
 name_op (ops.Create dir n) = 2 ∷ (word32 dir ++ name n)
 name_op (ops.Mkdir dir n) = 3 ∷ (word32 dir ++ name n)
 name_op (ops.Remove dir n g) = 4 ∷ (word32 dir ++ name n ++ grant g)
-name_op (ops.Rename dir n dir2 n2) = 5 ∷ (word32 dir ++ name n ++ word32 dir2 ++ name n2)
+name_op (ops.Rename dir n dir2 n2) = 5 ∷ two_entries dir n dir2 n2
 name_op (ops.List dir after) = 6 ∷ (word32 dir ++ name after)
 
 unfoldable pub name_ask : NameAsk → List ℕ
@@ -114,7 +123,7 @@ name_ask (name_asks.Lookup dir n) = 1 ∷ (word32 dir ++ name n)
 name_ask (name_asks.Create dir n) = 2 ∷ (word32 dir ++ name n)
 name_ask (name_asks.Mkdir dir n) = 3 ∷ (word32 dir ++ name n)
 name_ask (name_asks.Remove dir n ino) = 4 ∷ (word32 dir ++ name n ++ word32 ino)
-name_ask (name_asks.Rename dir n dir2 n2) = 5 ∷ (word32 dir ++ name n ++ word32 dir2 ++ name n2)
+name_ask (name_asks.Rename dir n dir2 n2) = 5 ∷ two_entries dir n dir2 n2
 name_ask (name_asks.List dir after) = 6 ∷ (word32 dir ++ name after)
 
 unfoldable pub name_reply : NameReply → List ℕ
@@ -129,7 +138,7 @@ ask (asks.Read f page) = 2 ∷ (file f ++ word32 page.0)
 ask (asks.Sync f) = 3 ∷ file f
 ask (asks.Cut f page) = 4 ∷ (file f ++ word32 page.0)
 ask (asks.Name server n) = 5 ∷ (word16 server.0 ++ name_ask n)
-ask (asks.Patch f page at bytes) = 6 ∷ (file f ++ word32 page.0 ++ word16 at ++ word16 (length bytes) ++ bytes)
+ask (asks.Patch f page at bytes) = 6 ∷ patch f page at bytes
 
 -- a byte for the answer, and its fields
 unfoldable pub answer : AppAnswer → List ℕ

@@ -80,3 +80,19 @@ pub record Reads (stream : List ℕ) (s : Ran) : Type 0 where
 
 abbrev pub start : Ran
 start = record { state = fresh; messages = [] }
+
+-- after these pieces and calls of `next` the stream so far is the frames of the messages given, and what is held
+abbrev pub ReadsAfter : List Move → Type 0
+ReadsAfter moves = AreBytes (stream_of moves) → Reads (stream_of moves) (ran moves start)
+
+-- two readings of one stream to its end are the same
+abbrev pub ReadsOnce : List ℕ → List Message → List Message → List ℕ → List ℕ → Type 0
+ReadsOnce stream ms ns r q = IsStream stream ms r → IsStream stream ns q → IsAtEnd r → IsAtEnd q → (ms ≡ ns) × (r ≡ q)
+
+-- where `next` gives no message, no frame of a message begins what is held
+abbrev pub EndsWhereNoneIs : Frames → Type 0
+EndsWhereNoneIs s = AreBytes s.rest → s.refusal ≡ None → (next s).1 ≡ None → IsAtEnd s.rest
+
+-- a frame's message is given, whatever follows
+abbrev pub GivesNext : Message → List ℕ → Frames → Type 0
+GivesNext m after s = IsFramed m → s.refusal ≡ None → s.rest ≡ message_frame m ++ after → (next s).1 ≡ Some (Ok m)

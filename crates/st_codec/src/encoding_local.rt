@@ -38,7 +38,7 @@ fn put_patch(
     at: u16,
     bytes: &PatchBytes,
 ) -> Result<(), AllocError>
-    ensures { OnOk result (out.new.items ≡ out.old.items ++ (spells.byte 6 ++ spells.file file ++ spells.word32 page.0 ++ spells.word16 at ++ spells.word16 (length bytes.now) ++ bytes.now)) }
+    ensures { OnOk result (out.new.items ≡ out.old.items ++ (spells.byte 6 ++ spells.patch file page at bytes.now)) }
 {
     put_ask_place(out, 6, file, page)?;
     put_word16(out, at)?;

@@ -45,7 +45,7 @@ fn put_rename(
 ) -> Result<(), AllocError>
     requires from { length name.now ≤ 255 }
     requires to { length name2.now ≤ 255 }
-    ensures { OnOk result (out.new.items ≡ out.old.items ++ (spells.byte 5 ++ spells.word32 dir ++ spells.name name.now ++ spells.word32 dir2 ++ spells.name name2.now)) }
+    ensures { OnOk result (out.new.items ≡ out.old.items ++ (spells.byte 5 ++ spells.two_entries dir name.now dir2 name2.now)) }
 {
     put_entry(out, 5, dir, name)?;
     put_word32(out, dir2)?;

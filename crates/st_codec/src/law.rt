@@ -34,11 +34,11 @@ pub fn fits_a_frame()
 /// What a reader of frames returns does not depend on how the stream was cut into pieces.
 pub fn frames_in_any_pieces()
     // After any pieces and calls of `next` the stream so far is the frames of the messages given, and what is held.
-    ensures reads { (moves : List streams.Move) → streams.AreBytes (streams.stream_of moves) → streams.Reads (streams.stream_of moves) (streams.ran moves streams.start) }
+    ensures reads { (moves : List streams.Move) → streams.ReadsAfter moves }
     // No other messages are: where no frame of a message begins the rests, they and the messages are the same.
-    ensures once { (stream : List ℕ) (ms ns : List Message) (r q : List ℕ) → streams.IsStream stream ms r → streams.IsStream stream ns q → streams.IsAtEnd r → streams.IsAtEnd q → (ms ≡ ns) × (r ≡ q) }
+    ensures once { (stream : List ℕ) (ms ns : List Message) (r q : List ℕ) → streams.ReadsOnce stream ms ns r q }
     // Where `next` gives no message, no frame of a message begins what is held.
-    ensures ends { (s : frames.Frames) → streams.AreBytes s.rest → s.refusal ≡ None → (frames.next s).1 ≡ None → streams.IsAtEnd s.rest }
+    ensures ends { (s : frames.Frames) → streams.EndsWhereNoneIs s }
     // A frame's message is given, whatever follows.
-    ensures gives { (m : Message) (after : List ℕ) (s : frames.Frames) → streams.IsFramed m → s.refusal ≡ None → s.rest ≡ streams.message_frame m ++ after → (frames.next s).1 ≡ Some (Ok m) }
+    ensures gives { (m : Message) (after : List ℕ) (s : frames.Frames) → streams.GivesNext m after s }
 {}

@@ -7,7 +7,7 @@ use Rattle.st_base.specs.declared.disk.Command.{Command}
 use Rattle.st_base.specs.declared.disk.Command.TheVariants.{Read, Write}
 use Rattle.st_rules.specs.declared.disks.Block.{Block}
 use Rattle.st_rules.specs.declared.disks.CommandRefusal.{CommandRefusal}
-use Rattle.st_rules.specs.declared.disks.CommandRefusal.TheVariants as rules
+use Rattle.st_rules.specs.declared.disks.CommandRefusal.TheVariants as command_refusals
 use Rattle.st_disk.specs.declared.refusal.DiskRefusal.{DiskRefusal}
 use Rattle.st_disk.specs.declared.refusal.DiskRefusal.TheVariants as refusals
 use Rattle.st_rules.specs.declared.disks.DiskCommand.{DiskCommand}
@@ -31,10 +31,10 @@ pub record SameSize (old new : Disks) : Type 0 where
 
 -- the calls have the rules' refusals, and run out of memory besides
 abbrev pub as_told : CommandRefusal → DiskRefusal
-as_told (rules.NoCommand n) = refusals.NoCommand n
-as_told (rules.Twice n) = refusals.Twice n
-as_told (rules.NotEffected n) = refusals.NotEffected n
-as_told (rules.Reported n) = refusals.Reported n
+as_told (command_refusals.NoCommand n) = refusals.NoCommand n
+as_told (command_refusals.Twice n) = refusals.Twice n
+as_told (command_refusals.NotEffected n) = refusals.NotEffected n
+as_told (command_refusals.Reported n) = refusals.Reported n
 
 -- what the rule gives, as the calls tell it
 abbrev pub told : Result Disks CommandRefusal → Result Disks DiskRefusal

@@ -1,8 +1,8 @@
 -- Greeting and requests: the outstanding one again, the reassertion, releases, what operations ask, keep-alives.
-use Rattle.std.proofs.Common.{◌≡◌, ℕ, ◌≤◌, Bool, true, false, ◌||◌, List, [], ◌∷◌, ◌==◌, Option, Some, None, refl, sym, ap, ◌∙◌, subst, inl, inr, arith, if◌then◌else◌}
+use Rattle.std.proofs.Common.{◌≡◌, ℕ, ◌≤◌, ◌⊎◌, Bool, true, false, ◌||◌, List, [], ◌∷◌, ◌==◌, Option, Some, None, refl, sym, ap, ◌∙◌, subst, inl, inr, arith, if◌then◌else◌}
 use Rattle.std.specs.Prelude.{find, filter_map, map, option_map, nat_lt}
 use Rattle.std.specs.List.{list_any, cons_option}
-use Rattle.std.proofs.lemmas.Bool.{eqb-true, eq-eqb}
+use Rattle.std.proofs.lemmas.Bool.{eqb-true, ne_eqb}
 use Rattle.st_base.specs.declared.ids.GrantNo.{GrantNo}
 use Rattle.st_base.specs.declared.ids.PageNo.{PageNo}
 use Rattle.st_base.specs.declared.ids.Stamp.{Stamp}
@@ -16,6 +16,7 @@ use Rattle.st_rules.specs.declared.client.HeldLock.{HeldLock}
 use Rattle.st_rules.specs.declared.client.Request.{Request}
 use Rattle.st_rules.specs.declared.client.Release.{Release}
 use Rattle.st_rules.specs.declared.client.Operation.{Operation}
+use Rattle.st_rules.specs.ServerInvariants.{are_once}
 use Rattle.st_rules.specs.Keys.{rising, with_key, placed, past}
 use Rattle.st_rules.specs.ClientLocks as locks
 use Rattle.st_rules.specs.ClientLocks.{LockCache, lock_of, is_lock_on, lock_row_at, ino_of_lock, all_locks}
@@ -27,13 +28,14 @@ use Rattle.st_rules.specs.ClientPasses as cp
 use Rattle.st_rules.specs.ClientPasses.{Wanted, Asking}
 use Rattle.st_assoc.specs.Assoc.{Config, Lock, no_lock, Msg, msg, Assoc, In, Alive, Move, Greets, Asks, Repeats, Reasserts, of_request}
 use Rattle.st_assoc.specs.Assoc as net
-use Rattle.st_views.specs.Messages.{is_clients, epoch_shown, Wishes, released_to, shown, lock_in, lock_in_row, is_row_on, Shows}
+use Rattle.st_views.specs.Messages.{is_clients, epoch_shown, Wishes, released_to, shown, lock_in, lock_in_row, is_row_on, Shows, on_same_file}
 use Rattle.st_views.specs.Halves.{held_at, busy_in, client_of}
 use Rattle.st_assoc.specs.Assoc.{Moves, Stays, Goes_on}
 use Rattle.st_laws_client.specs.Shown.{at, Beside, is_request, Waiting, Standing, Outstanding, Quiet, Ready, Result, Goes, Have_modes}
 use Rattle.st_lemmas.proofs.Lookups.{if_true, if_false, some_is, found_ino}
-use Rattle.st_lemmas.specs.Lists.{Has}
-use Rattle.st_lemmas.proofs.Tables.{found_at, none_has}
+use Rattle.st_lemmas.specs.Lists.{Has, Rises}
+use Rattle.st_lemmas.proofs.Keys.{rising_rises}
+use Rattle.st_lemmas.proofs.Once.{once_none, once_both}
 use Rattle.st_views.proofs.Moves.{one, Grows, shows_more}
 use Rattle.st_laws_client.proofs.Goes.{frame_send, said_both, waiting_more, ready_more, alive, goes_same, goes_then, if_goes, ops_goes, rests_goes}
 use Rattle.st_laws_client.proofs.Reductions.{idle_free, with_it}
@@ -161,35 +163,43 @@ row_is c (n ∷ ks) r h = go (lock_of c n) refl h (λ i. row_is c ks r i)
     go (Some l) is (inl e) f = (l, subst (λ m. lock_of c m ≡ Some l) (sym (found_ino (λ (r : HeldLock). r.ino) n l c.rows is) ∙ sym (ap (λ (q : ℕ × GrantNo × Mode). q.0) e)) is, e)
     go (Some l) is (inr i) f = f i
 
+-- its file is one of the keys
+row_key : (c : LockCache) (ks : List ℕ) (r : ℕ × GrantNo × Mode) → Has r (filter_map (lock_row_at c) ks) → Has r.0 ks
+row_key c [] r h = elim h [ ]
+row_key c (n ∷ ks) r h = go (lock_of c n) refl h (λ i. row_key c ks r i)
+  where
+    go : (o : Option HeldLock) → lock_of c n ≡ o → Has r (cons_option (option_map locks.lock_in_list o) (filter_map (lock_row_at c) ks)) →
+        (Has r (filter_map (lock_row_at c) ks) → Has r.0 ks) → (r.0 ≡ n) ⊎ Has r.0 ks
+    go None is h f = inr (f h)
+    go (Some l) is (inl e) f = inl (ap (λ (q : ℕ × GrantNo × Mode). q.0) e ∙ found_ino (λ (r : HeldLock). r.ino) n l c.rows is)
+    go (Some l) is (inr i) f = inr (f i)
+
+-- so no file is reasserted twice
+rows_once : (c : LockCache) (ks : List ℕ) → Rises ks → are_once on_same_file (filter_map (lock_row_at c) ks) ≡ true
+rows_once c [] r = once_none on_same_file
+rows_once c (n ∷ ks) r = go (lock_of c n) refl (rows_once c ks r.rest)
+  where
+    apart : (l : HeldLock) → lock_of c n ≡ Some l → (q : ℕ × GrantNo × Mode) → Has q (filter_map (lock_row_at c) ks) → on_same_file (locks.lock_in_list l) q ≡ false
+    apart l is q h =
+        let k = r.first q.0 (row_key c ks q h) in let i = found_ino (λ (r : HeldLock). r.ino) n l c.rows is in
+        ne_eqb q.0 l.ino (λ e. let z = e in absurd (omega arith))
+
+    go : (o : Option HeldLock) → lock_of c n ≡ o → are_once on_same_file (filter_map (lock_row_at c) ks) ≡ true →
+        are_once on_same_file (cons_option (option_map locks.lock_in_list o) (filter_map (lock_row_at c) ks)) ≡ true
+    go None is i = i
+    go (Some l) is i = once_both on_same_file (locks.lock_in_list l) (filter_map (lock_row_at c) ks) (apart l is) i
+
 -- what is reasserted is wished for as a server wants it
 pub all_wished : (c : LockCache) → Have_modes c.rows → Wishes (bodies.Reassert (all_locks c))
 unfolding all_locks
-all_wished c h r i = record { some = some; alone = first (find (is_row_on r.0) rows) refl }
+all_wished c h =
+    record {
+      some = λ r i. let own = row_is c ks r i in subst (λ (q : ℕ × GrantNo × Mode). 1 ≤ number_of q.2) (sym own.2) (mode_found (is_lock_on r.0) c.rows own.0 h own.1);
+      once = rows_once c ks (rising_rises (map ino_of_lock c.rows));
+    }
   where
     ks : List ℕ
     ks = rising (map ino_of_lock c.rows)
-
-    rows : List (ℕ × GrantNo × Mode)
-    rows = filter_map (lock_row_at c) ks
-
-    own : (l : HeldLock) × (lock_of c r.0 ≡ Some l) × (r ≡ (l.ino, l.g, l.mode))
-    own = row_is c ks r i
-
-    some : 1 ≤ number_of r.2
-    some = subst (λ (q : ℕ × GrantNo × Mode). 1 ≤ number_of q.2) (sym own.2) (mode_found (is_lock_on r.0) c.rows own.0 h own.1)
-
-    no_row : (b : Bool) → b ≡ false → b ≡ true → ⊥
-    no_row true e f = cc
-    no_row false e f = cc
-
-    first : (o : Option (ℕ × GrantNo × Mode)) → find (is_row_on r.0) rows ≡ o → find (is_row_on r.0) rows ≡ Some r
-    first None e = absurd (no_row (is_row_on r.0 r) (none_has (is_row_on r.0) rows e r i) (eq-eqb r.0 r.0 refl))
-    first (Some q) e =
-        let f = found_at (is_row_on r.0) rows q e in
-        let z = row_is c ks q f.1 in
-        let k : q.0 ≡ r.0 = eqb-true _ _ f.0 in
-        let same : z.0 ≡ own.0 = some_is (sym z.1 ∙ ap (λ n. lock_of c n) k ∙ own.1) in
-        e ∙ ap (λ x. Some x) (z.2 ∙ ap (λ (l : HeldLock). (l.ino, l.g, l.mode)) same ∙ sym own.2)
 
 -- a request is a client's, and is shown at its own epoch
 request_clients : (b : Body) → is_request b ≡ true → is_clients b ≡ true

@@ -1,5 +1,5 @@
 -- Whoever has a row, a wait or a timer at a server has a session there: what the rules change of these.
-use Rattle.std.proofs.Common.{◌≡◌, ℕ, zero, suc, ◌⊎◌, Bool, true, false, not, List, [], ◌∷◌, refl, sym, ap, ◌∙◌, subst, inl, inr}
+use Rattle.std.proofs.Common.{◌≡◌, ℕ, zero, suc, ◌⊎◌, Bool, true, false, not, List, [], ◌∷◌, ◌++◌, refl, sym, ap, ◌∙◌, subst, inl, inr}
 use Rattle.std.specs.Prelude.{cond, find, map, length, Option, Some, None, is_some, option_map, nat_lt}
 use Rattle.std.specs.List.{list_any}
 use Rattle.std.proofs.lemmas.Bool.{eqb-true, eq-eqb}
@@ -24,9 +24,9 @@ use Rattle.st_rules.specs.Sessions.{Sessions}
 use Rattle.st_rules.specs.Authority as authority
 use Rattle.st_rules.specs.Authority.{Authority}
 use Rattle.st_lemmas.specs.Lists.{Has}
-use Rattle.st_lemmas.proofs.Tables.{cond_either, found_at, find_map, has_map, has_filter, has_append, none_has}
+use Rattle.st_lemmas.proofs.Tables.{cond_either, found_at, find_map, has_map, has_filter, has_append, none_has, not_true}
 use Rattle.st_lemmas.proofs.Puts.{has_put, has_put_self, has_put_other}
-use Rattle.st_laws_dates.specs.Dates.{Met, Runs, Clients}
+use Rattle.st_laws_dates.specs.Dates.{Met, Runs, Clients, One_timer}
 
 -- a row that passes is found, and the other way round
 pub some_found : {A : Type 0} (p : A → Bool) (xs : List A) (x : A) → Has x xs → p x ≡ true → is_some (find p xs) ≡ true
@@ -48,6 +48,15 @@ found_some {A} p xs h = go (find p xs) refl h
     go : (o : Option A) → find p xs ≡ o → is_some o ≡ true → (x : A) × Has x xs × (p x ≡ true)
     go (Some y) q h = let z = found_at p xs y q in (y, z.1, z.0)
     go None q h = cc
+
+pub has_left : {A : Type 0} (xs ys : List A) (x : A) → Has x xs → Has x (xs ++ ys)
+has_left [] ys x h = elim h [ ]
+has_left (y ∷ zs) ys x (inl e) = inl e
+has_left (y ∷ zs) ys x (inr i) = inr (has_left zs ys x i)
+
+pub has_right : {A : Type 0} (xs ys : List A) (x : A) → Has x ys → Has x (xs ++ ys)
+has_right [] ys x h = h
+has_right (y ∷ zs) ys x h = inr (has_right zs ys x h)
 
 pub client_is : (a b : ClientId) → same_client a b ≡ true → a ≡ b
 client_is a b e = ap (λ n. record { 0 = n }) (eqb-true a.0 b.0 e)
@@ -140,6 +149,7 @@ pub record Suspected (a b : Authority) (c : ClientId) : Type 0 where
   pub own : Runs b c
   pub runs : (d : ClientId) → Runs a d → Runs b d
   pub only : (x : Suspect) → Has x b.suspects → Has x a.suspects ⊎ (x.client ≡ c)
+  pub one : One_timer a.suspects → One_timer b.suspects
 
 pub suspected : (a : Authority) (c : ClientId) (now : Stamp) → Suspected a (authority.suspect a c now) c
 unfolding authority.suspect authority.start_timer
@@ -162,8 +172,25 @@ suspected a c now = go (authority.may_ack a c) refl
           own = some_found (authority.is_suspect c) _ s (has_suspect s a.suspects) (eq-eqb c.0 c.0 refl);
           runs = λ d h. let z = found_some (authority.is_suspect d) a.suspects h in some_found (authority.is_suspect d) _ z.0 (keeps_suspect s z.0 a.suspects z.1) z.2;
           only = λ x h. old_or x (new_suspects s x a.suspects h);
+          one = λ o x y h i q. alike o x y (new_suspects s x a.suspects h) (new_suspects s y a.suspects i) q;
         }
-    go false e = record { own = not_ack _ e; runs = λ d h. h; only = λ x h. inl h }
+      where
+        clash : (b : Bool) → b ≡ false → b ≡ true → ⊥
+        clash true e f = cc
+        clash false e f = cc
+
+        free : is_some (authority.suspect_of a c) ≡ false
+        free = not_true _ e
+
+        none : (x : Suspect) → Has x a.suspects → x.client ≡ c → ⊥
+        none x h q = clash _ free (some_found (authority.is_suspect c) a.suspects x h (eq-eqb x.client.0 c.0 (ap (λ (z : ClientId). z.0) q)))
+
+        alike : One_timer a.suspects → (x y : Suspect) → (x ≡ s) ⊎ Has x a.suspects → (y ≡ s) ⊎ Has y a.suspects → x.client ≡ y.client → x ≡ y
+        alike o x y (inl e) (inl f) q = e ∙ sym f
+        alike o x y (inl e) (inr i) q = absurd (none y i (sym q ∙ ap (λ (z : Suspect). z.client) e))
+        alike o x y (inr h) (inl f) q = absurd (none x h (q ∙ ap (λ (z : Suspect). z.client) f))
+        alike o x y (inr h) (inr i) q = o x y h i q
+    go false e = record { own = not_ack _ e; runs = λ d h. h; only = λ x h. inl h; one = λ o. o }
 
 -- The lock table.
 module _ (M : ClientId → Type 0) where

@@ -29,7 +29,7 @@ use Rattle.st_lemmas.proofs.Tables.{and_true, and_both, some_passes, found_at, h
 use Rattle.st_lemmas.proofs.Lookups.{some_is, or_left, or_right}
 use Rattle.st_lemmas.proofs.Numbers.{get_map}
 use Rattle.st_lemmas.proofs.Steps.{step_happens, throughout}
-use Rattle.st_laws_dates.specs.Dates.{message_in, messages, is_dating, is_from_client, Born, Answer, Dates, Session_dated, Client_dated, Server_known, Timer_quiet, Dated}
+use Rattle.st_laws_dates.specs.Dates.{message_in, messages, is_dating, is_from_client, Born, Answer, Dates, Session_dated, Client_dated, Runs, Server_known, Timer_quiet, Dated}
 use Rattle.st_laws_dates.specs.Law.{Leases_are_dated}
 use Rattle.st_laws_dates.proofs.Steps.{Next, next_dated, happens, from_server, has_numbered, length_map}
 
@@ -155,7 +155,15 @@ fresh_client k servers c = record { id = refl; all = λ a h. let z = has_map cl.
 
 fresh_server : (k : Config) (servers disks blocks : ℕ) (s : ServerId) → Server_known s (node_at_start k servers disks blocks s.0).state
 unfolding server.fresh_server
-fresh_server k servers disks blocks s = record { id = refl; suspects = λ x h. elim h [ ]; locks = record { rows = λ r h. elim h [ ]; waits = λ x h. elim h [ ] } }
+fresh_server k servers disks blocks s = record { id = refl; suspects = λ x h. elim h [ ]; one = λ x y h. elim h [ ]; locks = record { rows = λ r h. elim h [ ]; waits = λ x h. elim h [ ] } }
+
+-- no timer runs there
+fresh_quiet : (k : Config) (servers disks blocks : ℕ) (s : ServerId) (node : ServerNode) → node ≡ node_at_start k servers disks blocks s.0 → (c : ClientId) → Runs node.state.authority c → ⊥
+unfolding server.fresh_server
+fresh_quiet k servers disks blocks s node e c z = none (subst (λ (n : ServerNode). Runs n.state.authority c) e z)
+  where
+    none : false ≡ true → ⊥
+    none e = cc
 
 fresh_dated : (k : Config) (clients servers disks blocks form : ℕ) → IsHead k clients servers disks blocks form → Dated [] (traced (fresh_world k clients servers disks blocks form))
 unfolding fresh_world
@@ -166,6 +174,7 @@ fresh_dated k clients servers disks blocks form head =
       clients = λ c site e. subst (λ (x : ClientSite). Client_dated [] c x.node.state) (sym (fresh_is (fresh_site k servers) clients c.0 site e)) (fresh_client k servers c);
       servers = λ s node e. subst (λ (x : ServerNode). Server_known s x.state) (sym (fresh_is (node_at_start k servers disks blocks) servers s.0 node e)) (fresh_server k servers disks blocks s);
       timers = λ x h. elim h [ ];
+      timed = λ s node e run c z. absurd (fresh_quiet k servers disks blocks s node (fresh_is (node_at_start k servers disks blocks) servers s.0 node e) c z);
       few = let z = length_map (fresh_site k servers) (numbers 1 clients) in let y = numbers_length 1 clients in let q = leb-true clients 16 (and_true (nat_le 1 clients) (nat_le clients 16) head.some_clients).1 in omega (arith, z, y, q);
     }
 

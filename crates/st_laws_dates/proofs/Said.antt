@@ -28,16 +28,8 @@ use Rattle.st_lemmas.specs.Lists.{Has}
 use Rattle.st_lemmas.proofs.Tables.{has_append}
 use Rattle.st_lemmas.proofs.Numbers.{numbered_more}
 use Rattle.st_laws_dates.specs.Dates.{message_in, messages}
+use Rattle.st_laws_dates.proofs.Known.{has_left, has_right}
 use Rattle.st_laws_dates.proofs.Serving.{timer_said, timers_out}
-
-pub has_left : {A : Type 0} (xs ys : List A) (x : A) → Has x xs → Has x (xs ++ ys)
-has_left [] ys x h = elim h [ ]
-has_left (y ∷ zs) ys x (inl e) = inl e
-has_left (y ∷ zs) ys x (inr i) = inr (has_left zs ys x i)
-
-pub has_right : {A : Type 0} (xs ys : List A) (x : A) → Has x ys → Has x (xs ++ ys)
-has_right [] ys x h = h
-has_right (y ∷ zs) ys x h = inr (has_right zs ys x h)
 
 map_more : {A B : Type 0} (f : A → B) (xs : List A) (y : A) → map f (xs ++ y ∷ []) ≡ map f xs ++ f y ∷ []
 map_more f [] y = refl

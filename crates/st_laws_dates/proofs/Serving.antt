@@ -55,8 +55,8 @@ use Rattle.st_rules.specs.Server.{ServerState, Turn, Replied, turn, with_locks, 
 use Rattle.st_lemmas.specs.Lists.{Has}
 use Rattle.st_lemmas.proofs.Tables.{cond_either, and_true, and_both, not_true, has_map, has_map_in, has_filter, has_filter_in, has_append}
 use Rattle.st_lemmas.proofs.Keys.{rising_has}
-use Rattle.st_laws_dates.specs.Dates.{is_dating, Met, Runs, Clients, Server_known}
-use Rattle.st_laws_dates.proofs.Known.{some_found, found_some, client_is, met_end, met_store, met_new, met_with, met_hello, Suspected, suspected, k_forget, k_drop, k_file, k_seen, k_release, k_grant, k_queue, k_install, k_granting, k_demanding, clients_more}
+use Rattle.st_laws_dates.specs.Dates.{is_dating, Met, Runs, Clients, One_timer, Server_known, Timer_of, Timed}
+use Rattle.st_laws_dates.proofs.Known.{has_left, has_right, some_found, found_some, client_is, met_end, met_store, met_new, met_with, met_hello, Suspected, suspected, k_forget, k_drop, k_file, k_seen, k_release, k_grant, k_queue, k_install, k_granting, k_demanding, clients_more}
 
 -- How outputs move the timers of the history: a suspicion starts one, and a theft ends one.
 abbrev pub timer_noted : World → ServerId → Note → List TimerStart → List TimerStart
@@ -108,7 +108,9 @@ module _ (w : World) (s : ServerId) (ts : List TimerStart) (A : Message → Type
   pub record Good (id : ServerId) (a : Authority) (v : Sessions) (l : Locks) (out : List Output) : Type 0 where
     pub id_ : id ≡ s
     pub suspects : (x : Suspect) → Has x a.suspects → Met v x.client
+    pub one : One_timer a.suspects
     pub known : Clients (Met v) l
+    pub timed : (c : ClientId) → Runs a c → Timer_of (timers_out w s out ts) s c
     pub on : (x : TimerStart) → Has x (timers_out w s out ts) → x.server.0 ≡ s.0 → Runs a x.client
     pub quiet : (x : TimerStart) → Has x (timers_out w s out ts) → x.server.0 ≡ s.0 → (m : Message) → Has (outputs.Send m) out → m.header.to ≡ x.client.0 → is_dating m ≡ true → ⊥
     pub outs : (m : Message) → Has (outputs.Send m) out → Out_ok m
@@ -122,7 +124,9 @@ module _ (w : World) (s : ServerId) (ts : List TimerStart) (A : Message → Type
       record {
         id_ = p.id_;
         suspects = p.suspects;
+        one = p.one;
         known = p.known;
+        timed = λ c r. subst (λ us. Timer_of us s c) (sym (timers_more w s t.out (outputs.Send m) ts)) (p.timed c r);
         on = λ x h e. p.on x (old x h) e;
         quiet = λ x h e n i to dates. quiet x (old x h) e n (has_append t.out _ _ i) to dates;
         outs = λ n i. out n (has_append t.out _ _ i);
@@ -153,7 +157,9 @@ module _ (w : World) (s : ServerId) (ts : List TimerStart) (A : Message → Type
       record {
         id_ = p.id_;
         suspects = p.suspects;
+        one = p.one;
         known = p.known;
+        timed = λ c r. subst (λ us. Timer_of us s c) (sym (timers_more w s t.out o ts)) (p.timed c r);
         on = λ x h e. p.on x (old x h) e;
         quiet = λ x h e n i to dates. p.quiet x (old x h) e n (sent n (has_append t.out _ _ i)) to dates;
         outs = λ n i. p.outs n (sent n (has_append t.out _ _ i));
@@ -175,11 +181,11 @@ module _ (w : World) (s : ServerId) (ts : List TimerStart) (A : Message → Type
 
   -- other sessions, in which no client is missing
   g_sessions : (t : Turn) (v : Sessions) → ((c : ClientId) → Met t.state.sessions c → Met v c) → P t → P (with_sessions v t)
-  g_sessions t v f p = record { id_ = p.id_; suspects = λ x h. f x.client (p.suspects x h); known = clients_more (Met t.state.sessions) (Met v) f t.state.locks p.known; on = p.on; quiet = p.quiet; outs = p.outs }
+  g_sessions t v f p = record { id_ = p.id_; suspects = λ x h. f x.client (p.suspects x h); one = p.one; known = clients_more (Met t.state.sessions) (Met v) f t.state.locks p.known; timed = p.timed; on = p.on; quiet = p.quiet; outs = p.outs }
 
   -- other locks, of clients that have sessions
   g_locks : (t : Turn) (l : Locks) → Clients (Met t.state.sessions) l → P t → P (with_locks l t)
-  g_locks t l k p = record { id_ = p.id_; suspects = p.suspects; known = k; on = p.on; quiet = p.quiet; outs = p.outs }
+  g_locks t l k p = record { id_ = p.id_; suspects = p.suspects; one = p.one; known = k; timed = p.timed; on = p.on; quiet = p.quiet; outs = p.outs }
 
   -- a timer starts, before any message was sent
   g_suspect : (t : Turn) (now : Stamp) (c : ClientId) → Silent t.out → Met t.state.sessions c → P t → P (suspect_client t now c)
@@ -188,7 +194,10 @@ module _ (w : World) (s : ServerId) (ts : List TimerStart) (A : Message → Type
       record {
         id_ = p.id_;
         suspects = λ x h. sus x (z.only x h);
+        one = z.one p.one;
         known = k_drop (Met t.state.sessions) t.state.locks c p.known;
+        timed = λ d r. let y = found_some (authority.is_suspect d) (authority.suspect t.state.authority c now).suspects r in
+            subst (λ us. Timer_of us s d) (sym (timers_more w s t.out (outputs.Note (notes.Suspected c now)) ts)) (timed d y.0 y.2 (z.only y.0 y.1));
         on = λ x h e. run x (timers x h) e;
         quiet = λ x h e n i to dates. absurd (silent_note t.out _ q n i);
         outs = λ n i. absurd (silent_note t.out _ q n i);
@@ -200,6 +209,18 @@ module _ (w : World) (s : ServerId) (ts : List TimerStart) (A : Message → Type
       sus : (x : Suspect) → Has x t.state.authority.suspects ⊎ (x.client ≡ c) → Met t.state.sessions x.client
       sus x (inl i) = p.suspects x i
       sus x (inr e) = subst (Met t.state.sessions) (sym e) m
+
+      timed : (d : ClientId) (y : Suspect) → authority.is_suspect d y ≡ true → Has y t.state.authority.suspects ⊎ (y.client ≡ c) →
+          Timer_of (timers_out w s t.out ts ++ timer_start w s c ∷ []) s d
+      timed d y e (inl i) =
+          let x = p.timed d (some_found (authority.is_suspect d) t.state.authority.suspects y i e) in
+          record { timer = x.timer; among = has_left (timers_out w s t.out ts) _ x.timer x.among; is = x.is }
+      timed d y e (inr q) =
+          record {
+            timer = timer_start w s c;
+            among = has_right (timers_out w s t.out ts) _ _ (inl refl);
+            is = and_both _ _ (eq-eqb s.0 s.0 refl) (subst (λ (k : ClientId). (k.0 == d.0) ≡ true) q e);
+          }
 
       timers : (x : TimerStart) → Has x (timers_out w s (t.out ++ outputs.Note (notes.Suspected c now) ∷ []) ts) → Has x (timers_out w s t.out ts) ⊎ Has x (timer_start w s c ∷ [])
       timers x h = has_append (timers_out w s t.out ts) _ x (subst (Has x) (timers_more w s t.out (outputs.Note (notes.Suspected c now)) ts) h)
@@ -213,7 +234,10 @@ module _ (w : World) (s : ServerId) (ts : List TimerStart) (A : Message → Type
   record Stealing (cs : List ClientId) (t : Turn) : Type 0 where
     id_ : t.state.id ≡ s
     suspects : (x : Suspect) → Has x t.state.authority.suspects → Met t.state.sessions x.client
+    one : One_timer t.state.authority.suspects
     known : Clients (Met t.state.sessions) t.state.locks
+    timed : (c : ClientId) → Runs t.state.authority c → Timer_of (timers_out w s t.out ts) s c
+    gone : (c : ClientId) → Has c cs → Runs t.state.authority c → ⊥
     met : (c : ClientId) → Has c cs → Met t.state.sessions c
     on : (x : TimerStart) → Has x (timers_out w s t.out ts) → x.server.0 ≡ s.0 → Runs t.state.authority x.client ⊎ Has x.client cs
     quiet : Silent t.out
@@ -230,12 +254,25 @@ module _ (w : World) (s : ServerId) (ts : List TimerStart) (A : Message → Type
           at (inr (inl q)) = absurd (clash _ (and_both _ _ (eq-eqb y.server.0 s.0 e) (eq-eqb y.client.0 c.0 (ap (λ (d : ClientId). d.0) q))) (not_true _ f))
           at (inr (inr h)) = inr h
 
+      -- the timers of the others stay
+      stays : (d : ClientId) → Runs t.state.authority d → Timer_of (timers_out w s t.out ts) s d → Timer_of (filter (λ t. not (is_timer_of s c t)) (timers_out w s t.out ts)) s d
+      stays d r x = record { timer = x.timer; among = has_filter_in (λ t. not (is_timer_of s c t)) (timers_out w s t.out ts) x.timer x.among (at (is_timer_of s c x.timer) refl); is = x.is }
+        where
+          at : (b : Bool) → is_timer_of s c x.timer ≡ b → not (is_timer_of s c x.timer) ≡ true
+          at true q =
+              let e = (and_true (x.timer.server.0 == s.0) _ q).1 in let f = (and_true (x.timer.server.0 == s.0) _ x.is).1 in
+              absurd (p.gone c (inl refl) (subst (λ (k : ClientId). Runs t.state.authority k) (sym (client_is x.timer.client d f) ∙ client_is x.timer.client c e) r))
+          at false q = ap not q
+
       go : (o : Option Session) → sessions.session_of t.state.sessions c ≡ o → Stealing cs (steal_at t c o)
       go None e = absurd (clash _ (p.met c (inl refl)) (ap is_some e))
       go (Some x) e =
           record {
             id_ = p.id_;
             suspects = λ y h. met_end t.state.sessions c y.client (p.suspects y h);
+            one = p.one;
+            timed = λ d r. subst (λ us. Timer_of us s d) (sym (timers_more w s t.out (outputs.Note (notes.Stolen c x.life)) ts)) (stays d r (p.timed d r));
+            gone = λ d h r. p.gone d (inr h) r;
             known = clients_more (Met t.state.sessions) (Met (sessions.end t.state.sessions c)) (λ d m. met_end t.state.sessions c d m) _ (k_forget (Met t.state.sessions) t.state.locks c p.known);
             met = λ d h. met_end t.state.sessions c d (p.met d (inr h));
             on = λ y h e. run y (has_filter (λ t. not (is_timer_of s c t)) (timers_out w s t.out ts) y (subst (Has y) (timers_more w s t.out (outputs.Note (notes.Stolen c x.life)) ts) h)) e;
@@ -252,9 +289,9 @@ module _ (w : World) (s : ServerId) (ts : List TimerStart) (A : Message → Type
     pub good : P t
     pub quiet : Silent t.out
 
-  g_thefts : (n : ServerState) (now : Stamp) → Server_known s n → ((x : TimerStart) → Has x ts → x.server.0 ≡ s.0 → Runs n.authority x.client) → Begun (thefts (turn n []) now)
+  g_thefts : (n : ServerState) (now : Stamp) → Server_known s n → ((x : TimerStart) → Has x ts → x.server.0 ≡ s.0 → Runs n.authority x.client) → Timed ts s n → Begun (thefts (turn n []) now)
   unfolding thefts authority.over authority.still_running
-  g_thefts n now k r = ends _ (all_stolen _ _ begins)
+  g_thefts n now k r timed = ends _ (all_stolen _ _ begins)
     where
       over : Suspect → Bool
       over x = authority.is_over n.authority.wait now x
@@ -264,12 +301,26 @@ module _ (w : World) (s : ServerId) (ts : List TimerStart) (A : Message → Type
           record {
             id_ = k.id;
             suspects = λ x h. k.suspects x (has_filter _ n.authority.suspects x h).0;
+            one = λ x y h i. k.one x y (has_filter _ n.authority.suspects x h).0 (has_filter _ n.authority.suspects y i).0;
+            timed = λ c q. let z = found_some (authority.is_suspect c) (filter (λ x. not (over x)) n.authority.suspects) q in
+                timed c (some_found (authority.is_suspect c) n.authority.suspects z.0 (has_filter _ n.authority.suspects z.0 z.1).0 z.2);
+            gone = gone;
             known = k.locks;
             met = λ c h. let z = has_map authority.client_of_suspect _ c h in subst (Met n.sessions) (sym z.2) (k.suspects z.0 (has_filter _ n.authority.suspects z.0 z.1).0);
             on = λ x h e. run x (found_some (authority.is_suspect x.client) n.authority.suspects (r x h e));
             quiet = λ m h. elim h [ ];
           }
         where
+          -- a timer that is over does not run on, since its client has no other
+          gone : (c : ClientId) → Has c (map authority.client_of_suspect (filter (authority.is_over n.authority.wait now) n.authority.suspects)) →
+              Runs (record n.authority { suspects = filter (λ x. not (authority.is_over n.authority.wait now x)) n.authority.suspects }) c → ⊥
+          gone c h q =
+              let z = has_map authority.client_of_suspect (filter over n.authority.suspects) c h in
+              let x = has_filter over n.authority.suspects z.0 z.1 in
+              let y = found_some (authority.is_suspect c) (filter (λ x. not (over x)) n.authority.suspects) q in
+              let u = has_filter (λ x. not (over x)) n.authority.suspects y.0 y.1 in
+              clash (over y.0) (subst (λ v. over v ≡ true) (k.one z.0 y.0 x.0 u.0 (sym z.2 ∙ sym (client_is y.0.client c y.2))) x.1) (not_true _ u.1)
+
           run : (x : TimerStart) → (y : Suspect) × Has y n.authority.suspects × (authority.is_suspect x.client y ≡ true) →
               Runs (record n.authority { suspects = filter (λ x. not (authority.is_over n.authority.wait now x)) n.authority.suspects }) x.client ⊎ Has x.client (map authority.client_of_suspect (filter (authority.is_over n.authority.wait now) n.authority.suspects))
           run x (y, i, e) = at (authority.is_over n.authority.wait now y) refl
@@ -282,7 +333,7 @@ module _ (w : World) (s : ServerId) (ts : List TimerStart) (A : Message → Type
       ends : (t : Turn) → Stealing [] t → Begun t
       ends t p =
           record {
-            good = record { id_ = p.id_; suspects = p.suspects; known = p.known; on = λ x h e. run x (p.on x h e); quiet = λ x h e m i to d. p.quiet m i; outs = λ m i. absurd (p.quiet m i) };
+            good = record { id_ = p.id_; suspects = p.suspects; one = p.one; known = p.known; timed = p.timed; on = λ x h e. run x (p.on x h e); quiet = λ x h e m i to d. p.quiet m i; outs = λ m i. absurd (p.quiet m i) };
             quiet = p.quiet;
           }
         where
@@ -632,10 +683,10 @@ Answers_to Tick m = ⊥
 Answers_to (Control q) m = Answers q m
 
 -- a whole step, where the timers of the history run
-pub step_good : (w : World) (s : ServerId) (ts : List TimerStart) (n : ServerState) (now : Stamp) (i : ServerInput) → Server_known s n → ((x : TimerStart) → Has x ts → x.server.0 ≡ s.0 → Runs n.authority x.client) → P w s ts (Answers_to i) (server_step n now i)
+pub step_good : (w : World) (s : ServerId) (ts : List TimerStart) (n : ServerState) (now : Stamp) (i : ServerInput) → Server_known s n → ((x : TimerStart) → Has x ts → x.server.0 ≡ s.0 → Runs n.authority x.client) → Timed ts s n → P w s ts (Answers_to i) (server_step n now i)
 unfolding server_step take_input suspecting_on receive receive_from
-step_good w s ts n now Tick k r = w_demanding w s ts (Answers_to Tick) now _ Tick (w_granting w s ts (Answers_to Tick) now _ (w_suspecting w s ts (Answers_to Tick) now _ (g_thefts w s ts (Answers_to Tick) n now k r)))
-step_good w s ts n now (Control m) k r = w_demanding w s ts (Answers m) now _ (Control m) (w_granting w s ts (Answers m) now _ (go (g_thefts w s ts (Answers m) n now k r)))
+step_good w s ts n now Tick k r z = w_demanding w s ts (Answers_to Tick) now _ Tick (w_granting w s ts (Answers_to Tick) now _ (w_suspecting w s ts (Answers_to Tick) now _ (g_thefts w s ts (Answers_to Tick) n now k r z)))
+step_good w s ts n now (Control m) k r timed = w_demanding w s ts (Answers m) now _ (Control m) (w_granting w s ts (Answers m) now _ (go (g_thefts w s ts (Answers m) n now k r timed)))
   where
     t : Turn
     t = thefts (turn n []) now

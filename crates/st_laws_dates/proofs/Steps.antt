@@ -1,8 +1,8 @@
 -- Every event keeps what stands of messages, nodes and history.
-use Rattle.std.proofs.Common.{◌≡◌, ◌≢◌, ℕ, ◌+◌, ◌≤◌, ◌⊎◌, Bool, true, false, not, List, [], ◌∷◌, ◌++◌, Option, Some, None, Ok, Err, refl, sym, ap, ◌∙◌, subst, inl, inr, arith, if◌then◌else◌}
+use Rattle.std.proofs.Common.{◌==◌, ◌≡◌, ◌≢◌, ℕ, ◌+◌, ◌≤◌, ◌⊎◌, Bool, true, false, not, List, [], ◌∷◌, ◌++◌, Option, Some, None, Ok, Err, refl, sym, ap, ◌∙◌, subst, inl, inr, arith, if◌then◌else◌}
 use Rattle.std.specs.Prelude.{map, length, filter, zero, suc, Result, nat_lt, nat_le, is_some, set, slice_get}
 use Rattle.std.specs.Option.{option_or}
-use Rattle.std.proofs.lemmas.Bool.{eq-eqb, ltb-true, lt-ltb}
+use Rattle.std.proofs.lemmas.Bool.{eqb-true, eq-eqb, ltb-true, lt-ltb}
 use Rattle.st_base.specs.declared.ids.ClientId.{ClientId}
 use Rattle.st_base.specs.declared.ids.ServerId.{ServerId}
 use Rattle.st_base.specs.declared.ids.Life.{Life}
@@ -38,18 +38,19 @@ use Rattle.st_rules.specs.Admissible as adm
 use Rattle.st_rules.specs.Events as ev
 use Rattle.st_rules.specs.Events.{Scene}
 use Rattle.st_rules.specs.History as history
-use Rattle.st_rules.specs.History.{History, Traced, TimerStart, traced_after, history_after, remember, timer_start, recall_all}
+use Rattle.st_rules.specs.History.{History, Traced, TimerStart, traced_after, history_after, remember, timer_start, is_timer_of, recall_all}
 use Rattle.st_rules.specs.Dating as dating
 use Rattle.st_rules.specs.Safety.{Step, step}
 use Rattle.st_lemmas.specs.Lists.{Has}
-use Rattle.st_lemmas.proofs.Tables.{same_or_not, has_append, has_filter, has_map, has_map_in, not_true}
+use Rattle.st_lemmas.proofs.Tables.{same_or_not, and_true, has_append, has_filter, has_filter_in, has_map, has_map_in, not_true}
 use Rattle.st_lemmas.proofs.Lookups.{some_is}
 use Rattle.st_lemmas.proofs.Numbers.{numbered_own, numbered_other, numbered_below, numbered_has, has_get, set_length}
-use Rattle.st_laws_dates.specs.Dates.{message_in, messages, is_dating, is_from_client, is_stamped_by, Born, Answer, Session_dated, Association_dated, Client_dated, Runs, Server_known, Timer_quiet, Dated}
+use Rattle.st_laws_dates.specs.Dates.{message_in, messages, is_dating, is_from_client, is_stamped_by, Born, Answer, Session_dated, Association_dated, Client_dated, Runs, Server_known, Timer_of, Timed, Timer_quiet, Dated}
+use Rattle.st_laws_dates.proofs.Known.{has_left, has_right}
 use Rattle.st_laws_dates.proofs.Serving.{timer_noted, timer_said, timers_out, Answers_to, P, step_good}
 use Rattle.st_laws_dates.proofs.Asking.{Asks_now}
 use Rattle.st_laws_dates.proofs.Hearing.{Held, Comes, step_held}
-use Rattle.st_laws_dates.proofs.Said.{has_left, has_right, Said, server_said, timers_said, client_said, All_calm, client_calm, fates_calm, calm_timers, Alike, flushed}
+use Rattle.st_laws_dates.proofs.Said.{Said, server_said, timers_said, client_said, All_calm, client_calm, fates_calm, calm_timers, Alike, flushed}
 
 -- one place of a list by numbers
 set_cases : {A : Type 0} (xs : List A) (n m : ℕ) (y z x : A) → numbered xs n ≡ Some y → numbered (with_numbered n z xs) m ≡ Some x → ((m ≡ n) × (x ≡ z)) ⊎ ((m ≢ n) × (numbered xs m ≡ Some x))
@@ -103,6 +104,7 @@ pub record Next (t : Traced) (e : Event) (sc : Scene) : Type 0 where
   pub clients : (c : ClientId) (site : ClientSite) → site_of sc.world c ≡ Some site → Client_dated (messages sc.world) c site.node.state
   pub servers : (s : ServerId) (node : ServerNode) → node_of sc.world s ≡ Some node → Server_known s node.state
   pub timers : (x : TimerStart) → Has x (history_after t.world e sc t.history).timers → Timer_quiet sc.world x
+  pub timed : (s : ServerId) (node : ServerNode) → node_of sc.world s ≡ Some node → node.running ≡ true → Timed (history_after t.world e sc t.history).timers s node.state
   pub few : length sc.world.clients ≤ 16
 
 pub next_dated : (past : List Step) (t : Traced) (e : Event) (sc : Scene) → Dated past t → Next t e sc → Dated (past ++ step t e sc ∷ []) (traced_after e t sc)
@@ -113,6 +115,7 @@ next_dated past t e sc d n =
       clients = n.clients;
       servers = n.servers;
       timers = n.timers;
+      timed = n.timed;
       few = n.few;
     }
   where
@@ -133,6 +136,8 @@ pub record Still (t : Traced) (e : Event) (sc : Scene) : Type 0 where
   pub servers : sc.world.servers ≡ t.world.servers
   pub same : messages sc.world ≡ messages t.world
   pub timers : (x : TimerStart) → Has x (history_after t.world e sc t.history).timers → Has x t.history.timers
+  pub kept : (s : ServerId) (node : ServerNode) → node_of t.world s ≡ Some node → (c : ClientId) → Timer_of t.history.timers s c →
+      Timer_of (history_after t.world e sc t.history).timers s c
 
 timer_same : (w v : World) (x : TimerStart) → node_of v x.server ≡ node_of w x.server → messages v ≡ messages w → Timer_quiet w x → Timer_quiet v x
 timer_same w v x n m q = record { node = q.node; is = n ∙ q.is; running = q.running; on = q.on; quiet = λ k y e. q.quiet k y (ap (λ z. numbered z k) (sym m) ∙ e) }
@@ -145,12 +150,20 @@ still past t e sc d s =
       clients = λ c site q. subst (λ ms. Client_dated ms c site.node.state) (sym s.same) (d.clients c site (ap (λ z. numbered z c.0) (sym s.clients) ∙ q));
       servers = λ v node q. d.servers v node (ap (λ z. numbered z v.0) (sym s.servers) ∙ q);
       timers = λ x h. timer_same t.world sc.world x (ap (λ z. numbered z x.server.0) s.servers) s.same (d.timers x (s.timers x h));
+      timed = λ v node q run c z. let at = ap (λ z. numbered z v.0) (sym s.servers) ∙ q in s.kept v node at c (d.timed v node at run c z);
       few = subst (λ z. length z ≤ 16) (sym s.clients) d.few;
     }
 
 -- timers that stay, where an event's observations move none
-stays : (t : Traced) (e : Event) (sc : Scene) → (remember e t.history).timers ≡ t.history.timers → All_calm sc.seen → (x : TimerStart) → Has x (history_after t.world e sc t.history).timers → Has x t.history.timers
-stays t e sc r k x h = subst (Has x) r (subst (Has x) (calm_timers t.world sc.world sc.seen (remember e t.history) k) h)
+same_timers : (t : Traced) (e : Event) (sc : Scene) → (remember e t.history).timers ≡ t.history.timers → All_calm sc.seen → (history_after t.world e sc t.history).timers ≡ t.history.timers
+same_timers t e sc r k = calm_timers t.world sc.world sc.seen (remember e t.history) k ∙ r
+
+stays : (t : Traced) (e : Event) (sc : Scene) → (history_after t.world e sc t.history).timers ≡ t.history.timers → (x : TimerStart) → Has x (history_after t.world e sc t.history).timers → Has x t.history.timers
+stays t e sc q x h = subst (Has x) q h
+
+remains : (t : Traced) (e : Event) (sc : Scene) → (history_after t.world e sc t.history).timers ≡ t.history.timers → (s : ServerId) (c : ClientId) → Timer_of t.history.timers s c →
+    Timer_of (history_after t.world e sc t.history).timers s c
+remains t e sc q s c z = subst (λ us. Timer_of us s c) (sym q) z
 
 no_calm : All_calm []
 no_calm o h = elim h [ ]
@@ -225,10 +238,15 @@ module _ (past : List Step) (t : Traced) (e : Event) (d : Dated past t) (r : (re
             new = λ m h. let z = has_numbered (messages last) m h in pick m z.0 (get z.0 m z.1);
             clients = λ x y q. dated x y (site_at x y q);
             servers = λ s n q. d.servers s n (ap (λ z. numbered z s.0) (sym ss) ∙ ap (λ z. numbered z s.0) (sym (f.servers ∙ said.servers)) ∙ q);
-            timers = λ x h. quiet x (d.timers x (stays t e (Rattle.st_rules.specs.Events.scene last b.seen) r (client_calm c site.node.state u.out a no_calm) x h));
+            timers = λ x h. quiet x (d.timers x (stays t e (Rattle.st_rules.specs.Events.scene last b.seen) timers x h));
+            timed = λ s n q run k z. remains t e (Rattle.st_rules.specs.Events.scene last b.seen) timers s k
+                (d.timed s n (ap (λ z. numbered z s.0) (sym ss) ∙ ap (λ z. numbered z s.0) (sym (f.servers ∙ said.servers)) ∙ q) run k z);
             few = subst (λ z. length z ≤ 16) (sym (f.clients ∙ said.clients)) (let z = set_length v.clients (Rattle.std.specs.Prelude.pred c.0) (ev.at_node node site) in let y = d.few in let q = ap length cs in omega (arith, z, y, q));
           }
         where
+          timers : (history_after t.world e (Rattle.st_rules.specs.Events.scene last b.seen) t.history).timers ≡ t.history.timers
+          timers = same_timers t e (Rattle.st_rules.specs.Events.scene last b.seen) r (client_calm c site.node.state u.out a no_calm)
+
           pick : (m : Message) (k : ℕ) → (numbered (messages t.world) k ≡ Some m) ⊎ Has (outputs.Send m) u.out → Has m (messages t.world) ⊎ New t (Rattle.st_rules.specs.Events.scene last b.seen) m
           pick m k (inl z) = inl (numbered_has (messages t.world) k m z)
           pick m k (inr z) = inr (new_one m z)
@@ -246,7 +264,7 @@ module _ (past : List Step) (t : Traced) (e : Event) (d : Dated past t) (r : (re
 
       go : (b : Bool) → Next t e (ev.client_took v c site (if b then Ok (cl.node_turn site.node u) else Err Crashed))
       go true = taken
-      go false = still past t e (ev.quiet v) d (record { clients = cs; servers = ss; same = before; timers = stays t e (ev.quiet v) r no_calm })
+      go false = still past t e (ev.quiet v) d (record { clients = cs; servers = ss; same = before; timers = stays t e (ev.quiet v) (same_timers t e (ev.quiet v) r no_calm); kept = λ s n q c z. remains t e (ev.quiet v) (same_timers t e (ev.quiet v) r no_calm) s c z })
 
 -- A step of a server.
 module _ (w : World) (s : ServerId) (ts : List TimerStart) where
@@ -270,6 +288,24 @@ module _ (w : World) (s : ServerId) (ts : List TimerStart) where
   timers_from : (os : List Output) (us : List TimerStart) → ((x : TimerStart) → Has x us → From x) → (x : TimerStart) → Has x (timers_out w s os us) → From x
   timers_from [] us f x h = f x h
   timers_from (o ∷ os) us f x h = timers_from os (timer_said w s o us) (timer_of o us f) x h
+
+  -- and the timers at other servers stay
+  other_noted : (n : Note) (us : List TimerStart) (x : TimerStart) → (x.server.0 ≡ s.0 → ⊥) → Has x us → Has x (timer_noted w s n us)
+  other_noted (notes.Suspected c start) us x o h = has_left us _ x h
+  other_noted (notes.Stolen c life) us x o h = has_filter_in (λ t. not (is_timer_of s c t)) us x h (at (is_timer_of s c x) refl)
+    where
+      at : (b : Bool) → is_timer_of s c x ≡ b → not (is_timer_of s c x) ≡ true
+      at true q = absurd (o (eqb-true _ _ (and_true (x.server.0 == s.0) _ q).0))
+      at false q = ap not q
+  other_noted n us x o h = h
+
+  other_said : (o : Output) (us : List TimerStart) (x : TimerStart) → (x.server.0 ≡ s.0 → ⊥) → Has x us → Has x (timer_said w s o us)
+  other_said (outputs.Note n) us x q h = other_noted n us x q h
+  other_said o us x q h = h
+
+  other_timer : (os : List Output) (us : List TimerStart) (x : TimerStart) → (x.server.0 ≡ s.0 → ⊥) → Has x us → Has x (timers_out w s os us)
+  other_timer [] us x q h = h
+  other_timer (o ∷ os) us x q h = other_timer os (timer_said w s o us) x q (other_said o us x q h)
 
 pub length_map : {A B : Type 0} (f : A → B) (xs : List A) → length (map f xs) ≡ length xs
 length_map f [] = refl
@@ -303,8 +339,9 @@ module _ (past : List Step) (t : Traced) (e : Event) (d : Dated past t) (r : (re
       same_node : (x : ServerId) (n : ServerNode) → x.0 ≡ s.0 → node_of t.world x ≡ Some n → n ≡ node
       same_node x n q h = some_is (sym h ∙ ap (numbered t.world.servers) q ∙ at)
 
-      good : P t.world s t.history.timers (Answers_to i) u
-      good = step_good t.world s t.history.timers node.state now i (d.servers s node at) (λ x h q. let z = d.timers x h in subst (λ (n : ServerNode). Runs n.state.authority x.client) (same_node x.server z.node q z.is) z.on)
+      good : node.running ≡ true → P t.world s t.history.timers (Answers_to i) u
+      good running = step_good t.world s t.history.timers node.state now i (d.servers s node at) (λ x h q. let z = d.timers x h in subst (λ (n : ServerNode). Runs n.state.authority x.client) (same_node x.server z.node q z.is) z.on)
+          (d.timed s node at running)
 
       said : Said a b u.out
       said = server_said s u.out a
@@ -319,14 +356,16 @@ module _ (past : List Step) (t : Traced) (e : Event) (d : Dated past t) (r : (re
       answer serving.Tick m k z = elim z [ ]
       answer (serving.Control q) m k z = record { asked = q; among = k; client = z.client; request = z.request; reply = z.reply }
 
-      new_one : (m : Message) → Has (outputs.Send m) u.out → New t b m
-      new_one m h = let z = said.told m h in record { number = z.0; sent = z.1; client = λ f q. absurd (from_server m s (good.outs m h).from f); server = λ f q. answer i m k ((good.outs m h).dates q) }
+      new_one : node.running ≡ true → (m : Message) → Has (outputs.Send m) u.out → New t b m
+      new_one running m h =
+          let z = said.told m h in let o = (good running).outs m h in
+          record { number = z.0; sent = z.1; client = λ f q. absurd (from_server m s o.from f); server = λ f q. answer i m k (o.dates q) }
 
       node_at : (x : ServerId) (n : ServerNode) → node_of b.world x ≡ Some n → ((x.0 ≡ s.0) × (n ≡ next)) ⊎ ((x.0 ≢ s.0) × (node_of t.world x ≡ Some n))
       node_at x n q = set_cases t.world.servers s.0 x.0 node next n at (ap (λ z. numbered z x.0) (sym said.servers) ∙ q)
 
-      known : Server_known s u.state
-      known = record { id = good.id_; suspects = good.suspects; locks = good.known }
+      known : node.running ≡ true → Server_known s u.state
+      known running = let g = good running in record { id = g.id_; suspects = g.suspects; one = g.one; locks = g.known }
 
       taken : node.running ≡ true → Next t e b
       taken running =
@@ -335,16 +374,27 @@ module _ (past : List Step) (t : Traced) (e : Event) (d : Dated past t) (r : (re
             new = λ m h. let z = has_numbered (messages b.world) m h in pick m z.0 (said.get z.0 m z.1);
             clients = λ x y q. dates_more (messages t.world) (messages b.world) said.old x y.node.state (d.clients x y (ap (λ z. numbered z x.0) (sym said.clients) ∙ q));
             servers = λ x n q. it x n (node_at x n q);
+            timed = λ x n q run c z. again x n c run z (node_at x n q);
             timers = λ x h. let y = subst (Has x) timers h in quiet x y (timers_from t.world s t.history.timers u.out t.history.timers (λ z j. inl j) x y) (same_or_not x.server.0 s.0);
             few = subst (λ z. length z ≤ 16) (sym said.clients) d.few;
           }
         where
           pick : (m : Message) (k : ℕ) → (numbered (messages t.world) k ≡ Some m) ⊎ Has (outputs.Send m) u.out → Has m (messages t.world) ⊎ New t b m
           pick m k (inl z) = inl (numbered_has (messages t.world) k m z)
-          pick m k (inr z) = inr (new_one m z)
+          pick m k (inr z) = inr (new_one running m z)
+
+          again : (x : ServerId) (n : ServerNode) (c : ClientId) → n.running ≡ true → Runs n.state.authority c → ((x.0 ≡ s.0) × (n ≡ next)) ⊎ ((x.0 ≢ s.0) × (node_of t.world x ≡ Some n)) →
+              Timer_of (history_after t.world e b t.history).timers x c
+          again x n c run z (inl y) =
+              subst (λ us. Timer_of us x c) (sym timers)
+              (subst (λ v. Timer_of (timers_out t.world s u.out t.history.timers) (record { 0 = v }) c) (sym y.0) ((good running).timed c (subst (λ (m : ServerNode). Runs m.state.authority c) y.1 z)))
+          again x n c run z (inr y) =
+              let x0 = d.timed x n y.1 run c z in
+              subst (λ us. Timer_of us x c) (sym timers)
+              (record { timer = x0.timer; among = other_timer t.world s t.history.timers u.out t.history.timers x0.timer (λ q. y.0 (sym (eqb-true _ _ (and_true (x0.timer.server.0 == x.0) _ x0.is).0) ∙ q)) x0.among; is = x0.is })
 
           it : (x : ServerId) (n : ServerNode) → ((x.0 ≡ s.0) × (n ≡ next)) ⊎ ((x.0 ≢ s.0) × (node_of t.world x ≡ Some n)) → Server_known x n.state
-          it x n (inl z) = subst (λ (y : ServerNode). Server_known x y.state) (sym z.1) (subst (λ y. Server_known (record { 0 = y }) u.state) (sym z.0) known)
+          it x n (inl z) = subst (λ (y : ServerNode). Server_known x y.state) (sym z.1) (subst (λ y. Server_known (record { 0 = y }) u.state) (sym z.0) (known running))
           it x n (inr z) = d.servers x n z.1
 
           quiet : (x : TimerStart) → Has x (timers_out t.world s u.out t.history.timers) → From t.world s t.history.timers x → (x.server.0 ≡ s.0) ⊎ (x.server.0 ≢ s.0) → Timer_quiet b.world x
@@ -353,14 +403,14 @@ module _ (past : List Step) (t : Traced) (e : Event) (d : Dated past t) (r : (re
                 node = next;
                 is = ap (λ z. numbered z x.server.0) said.servers ∙ ap (numbered (with_numbered s.0 next t.world.servers)) q ∙ numbered_own t.world.servers s.0 next node at;
                 running = running;
-                on = good.on x h q;
+                on = (good running).on x h q;
                 quiet = λ k m g from to dates. at_most k m f from to dates (said.get k m g);
               }
             where
               at_most : (k : ℕ) (m : Message) → From t.world s t.history.timers x → m.header.from ≡ server_node x.server → m.header.to ≡ x.client.0 → is_dating m ≡ true → (numbered (messages t.world) k ≡ Some m) ⊎ Has (outputs.Send m) u.out → k ≤ x.sent
               at_most k m (inl j) from to dates (inl z) = (d.timers x j).quiet k m z from to dates
               at_most k m (inr j) from to dates (inl z) = let y = (numbered_below (messages t.world) k m z).1 in let l = length_map message_in t.world.net.messages in let n = j.1 in omega (arith, y, l, n)
-              at_most k m j from to dates (inr z) = absurd (good.quiet x h q m z to dates)
+              at_most k m j from to dates (inr z) = absurd ((good running).quiet x h q m z to dates)
           quiet x h (inr f) (inr q) = absurd (q (ap (λ (y : ServerId). y.0) f.0))
           quiet x h (inl j) (inr q) =
               let y = d.timers x j in
@@ -373,7 +423,7 @@ module _ (past : List Step) (t : Traced) (e : Event) (d : Dated past t) (r : (re
               }
             where
               other : (m : Message) → Has (outputs.Send m) u.out → m.header.from ≡ server_node x.server → ⊥
-              other m z from = q (let y = (good.outs m z).from in omega (arith, y, from))
+              other m z from = q (let y = ((good running).outs m z).from in omega (arith, y, from))
 
               at_most : (k : ℕ) (m : Message) → m.header.from ≡ server_node x.server → m.header.to ≡ x.client.0 → is_dating m ≡ true → (numbered (messages t.world) k ≡ Some m) ⊎ Has (outputs.Send m) u.out → k ≤ x.sent
               at_most k m from to dates (inl z) = (d.timers x j).quiet k m z from to dates
@@ -381,19 +431,26 @@ module _ (past : List Step) (t : Traced) (e : Event) (d : Dated past t) (r : (re
 
       go : (b : Bool) → node.running ≡ b → Next t e (ev.server_took (ev.counted t.world) s (if b then Ok (server.node_turn node u) else Err Crashed))
       go true q = taken q
-      go false q = still past t e (ev.quiet (ev.counted t.world)) d (record { clients = refl; servers = refl; same = refl; timers = stays t e (ev.quiet (ev.counted t.world)) r no_calm })
+      go false q = still past t e (ev.quiet (ev.counted t.world)) d (record {
+        clients = refl;
+        servers = refl;
+        same = refl;
+        timers = stays t e (ev.quiet (ev.counted t.world)) (same_timers t e (ev.quiet (ev.counted t.world)) r no_calm);
+        kept = λ s n q c z. remains t e (ev.quiet (ev.counted t.world)) (same_timers t e (ev.quiet (ev.counted t.world)) r no_calm) s c z;
+      })
 
 -- A client or a server at its place is another one, and no message is sent.
 module _ (past : List Step) (t : Traced) (e : Event) (d : Dated past t) where
   client_placed : (c : ClientId) (old new : ClientSite) (sc : Scene) → site_of t.world c ≡ Some old → sc.world.clients ≡ with_numbered c.0 new t.world.clients → sc.world.servers ≡ t.world.servers → messages sc.world ≡ messages t.world → Client_dated (messages t.world) c new.node.state →
-      ((x : TimerStart) → Has x (history_after t.world e sc t.history).timers → Has x t.history.timers) → Next t e sc
+      (history_after t.world e sc t.history).timers ≡ t.history.timers → Next t e sc
   client_placed c old new sc at cs ss ms k ts =
       record {
         old = λ m h. subst (Has m) (sym ms) h;
         new = λ m h. inl (subst (Has m) ms h);
         clients = λ x y q. subst (λ l. Client_dated l x y.node.state) (sym ms) (it x y (set_cases t.world.clients c.0 x.0 old new y at (ap (λ z. numbered z x.0) (sym cs) ∙ q)));
         servers = λ v node q. d.servers v node (ap (λ z. numbered z v.0) (sym ss) ∙ q);
-        timers = λ x h. timer_same t.world sc.world x (ap (λ z. numbered z x.server.0) ss) ms (d.timers x (ts x h));
+        timers = λ x h. timer_same t.world sc.world x (ap (λ z. numbered z x.server.0) ss) ms (d.timers x (stays t e sc ts x h));
+        timed = λ v node q run k z. remains t e sc ts v k (d.timed v node (ap (λ z. numbered z v.0) (sym ss) ∙ q) run k z);
         few = subst (λ z. length z ≤ 16) (sym cs) (let z = set_length t.world.clients (Rattle.std.specs.Prelude.pred c.0) new in let y = d.few in omega (arith, z, y));
       }
     where
@@ -402,17 +459,27 @@ module _ (past : List Step) (t : Traced) (e : Event) (d : Dated past t) where
       it x y (inr z) = d.clients x y z.1
 
   server_placed : (s : ServerId) (old new : ServerNode) (sc : Scene) → node_of t.world s ≡ Some old → sc.world.servers ≡ with_numbered s.0 new t.world.servers → sc.world.clients ≡ t.world.clients → messages sc.world ≡ messages t.world → Server_known s new.state →
-      ((x : TimerStart) → Has x (history_after t.world e sc t.history).timers → Has x t.history.timers × (x.server.0 ≢ s.0)) → Next t e sc
-  server_placed s old new sc at ss cs ms k ts =
+      ((x : TimerStart) → Has x (history_after t.world e sc t.history).timers → Has x t.history.timers × (x.server.0 ≢ s.0)) →
+      ((x : TimerStart) → Has x t.history.timers → x.server.0 ≢ s.0 → Has x (history_after t.world e sc t.history).timers) →
+      (new.running ≡ true → (c : ClientId) → Runs new.state.authority c → ⊥) → Next t e sc
+  server_placed s old new sc at ss cs ms k ts keeps none =
       record {
         old = λ m h. subst (Has m) (sym ms) h;
         new = λ m h. inl (subst (Has m) ms h);
         clients = λ x y q. subst (λ l. Client_dated l x y.node.state) (sym ms) (d.clients x y (ap (λ z. numbered z x.0) (sym cs) ∙ q));
         servers = λ x n q. it x n (set_cases t.world.servers s.0 x.0 old new n at (ap (λ z. numbered z x.0) (sym ss) ∙ q));
         timers = λ x h. let z = ts x h in timer_same t.world sc.world x (ap (λ z. numbered z x.server.0) ss ∙ numbered_other t.world.servers s.0 x.server.0 new (numbered_below t.world.servers s.0 old at).0 z.1) ms (d.timers x z.0);
+        timed = λ x n q run c z. again x n c run z (set_cases t.world.servers s.0 x.0 old new n at (ap (λ z. numbered z x.0) (sym ss) ∙ q));
         few = subst (λ z. length z ≤ 16) (sym cs) d.few;
       }
     where
+      again : (x : ServerId) (n : ServerNode) (c : ClientId) → n.running ≡ true → Runs n.state.authority c → ((x.0 ≡ s.0) × (n ≡ new)) ⊎ ((x.0 ≢ s.0) × (node_of t.world x ≡ Some n)) →
+          Timer_of (history_after t.world e sc t.history).timers x c
+      again x n c run z (inl y) = absurd (none (ap (λ (m : ServerNode). m.running) (sym y.1) ∙ run) c (subst (λ (m : ServerNode). Runs m.state.authority c) y.1 z))
+      again x n c run z (inr y) =
+          let x0 = d.timed x n y.1 run c z in
+          record { timer = x0.timer; among = keeps x0.timer x0.among (λ q. y.0 (sym (eqb-true _ _ (and_true (x0.timer.server.0 == x.0) _ x0.is).0) ∙ q)); is = x0.is }
+
       it : (x : ServerId) (n : ServerNode) → ((x.0 ≡ s.0) × (n ≡ new)) ⊎ ((x.0 ≢ s.0) × (node_of t.world x ≡ Some n)) → Server_known x n.state
       it x n (inl z) = subst (λ (y : ServerNode). Server_known x y.state) (sym z.1) (subst (λ y. Server_known (record { 0 = y }) new.state) (sym z.0) k)
       it x n (inr z) = d.servers x n z.1
@@ -438,11 +505,16 @@ started_dated ms c x e = record { id = e; all = λ a h. let z = has_map cl.start
 
 crashed_known : (s : ServerId) (n : server.ServerState) → n.id ≡ s → Server_known s (server.crash n)
 unfolding server.crash
-crashed_known s n e = record { id = e; suspects = λ x h. elim h [ ]; locks = record { rows = λ r h. elim h [ ]; waits = λ x h. elim h [ ] } }
+crashed_known s n e = record { id = e; suspects = λ x h. elim h [ ]; one = λ x y h. elim h [ ]; locks = record { rows = λ r h. elim h [ ]; waits = λ x h. elim h [ ] } }
 
 started_known : (s : ServerId) (n : server.ServerState) (now : Stamp) → n.id ≡ s → Server_known s (server.start n now)
 unfolding server.start server.begin_epoch
-started_known s n now e = record { id = e; suspects = λ x h. elim h [ ]; locks = record { rows = λ r h. elim h [ ]; waits = λ x h. elim h [ ] } }
+started_known s n now e = record { id = e; suspects = λ x h. elim h [ ]; one = λ x y h. elim h [ ]; locks = record { rows = λ r h. elim h [ ]; waits = λ x h. elim h [ ] } }
+
+-- a server that starts has no timers
+started_quiet : (n : server.ServerState) (now : Stamp) (c : ClientId) → Runs (server.start n now).authority c → ⊥
+unfolding server.start server.begin_epoch
+started_quiet n now c z = cc
 
 -- a node that starts does not run
 not_running : (w : World) (n : NodeId) → adm.refusal w (events.Start n) ≡ None → world.is_running w n ≡ false
@@ -463,7 +535,13 @@ module _ (past : List Step) (t : Traced) (d : Dated past t) where
   w = ev.counted t.world
 
   nothing : (e : Event) → (remember e t.history).timers ≡ t.history.timers → (v : World) (os : List Observation) → v.clients ≡ t.world.clients → v.servers ≡ t.world.servers → messages v ≡ messages t.world → All_calm os → Next t e (ev.scene v os)
-  nothing e r v os cs ss ms k = still past t e (ev.scene v os) d (record { clients = cs; servers = ss; same = ms; timers = stays t e (ev.scene v os) r k })
+  nothing e r v os cs ss ms k = still past t e (ev.scene v os) d (record {
+    clients = cs;
+    servers = ss;
+    same = ms;
+    timers = stays t e (ev.scene v os) (same_timers t e (ev.scene v os) r k);
+    kept = λ s n q c z. remains t e (ev.scene v os) (same_timers t e (ev.scene v os) r k) s c z;
+  })
 
   at_client : (e : Event) → (remember e t.history).timers ≡ t.history.timers → (c : ClientId) (i : ClientInput) → Comes (messages t.world) c (clock_of w (nodes.Client c)) i → Next t e (ev.at_client w c i (site_of w c))
   unfolding ev.at_client
@@ -542,7 +620,7 @@ module _ (past : List Step) (t : Traced) (d : Dated past t) where
       go None q = nothing e refl w [] refl refl refl no_calm
       go (Some site) q =
           client_placed past t e d c site (ev.stopped_site site) _ q refl refl refl (crashed_dated (messages t.world) c site.node.state (d.clients c site q).id)
-          (stays t e _ refl (fates_calm 1 w.log (ev.log_crashed w c)))
+          (same_timers t e _ refl (fates_calm 1 w.log (ev.log_crashed w c)))
 
   starts_client : (c : ClientId) → Next t (events.Start (nodes.Client c)) (ev.quiet (ev.starts_client w c (site_of w c)))
   unfolding ev.starts_client remember
@@ -553,7 +631,7 @@ module _ (past : List Step) (t : Traced) (d : Dated past t) where
 
       go : (o : Option ClientSite) → site_of w c ≡ o → Next t e (ev.quiet (ev.starts_client w c o))
       go None q = nothing e refl w [] refl refl refl no_calm
-      go (Some site) q = client_placed past t e d c site (ev.started_site site) _ q refl refl refl (started_dated (messages t.world) c site.node.state (d.clients c site q).id) (stays t e _ refl no_calm)
+      go (Some site) q = client_placed past t e d c site (ev.started_site site) _ q refl refl refl (started_dated (messages t.world) c site.node.state (d.clients c site q).id) (same_timers t e _ refl no_calm)
 
   crashes_server : (s : ServerId) → Next t (events.Crash (nodes.Server s)) (ev.quiet (ev.crashes_server w s (node_of w s)))
   unfolding ev.crashes_server remember recall_all
@@ -569,9 +647,26 @@ module _ (past : List Step) (t : Traced) (d : Dated past t) where
           clash true e f = cc
           clash false e f = cc
 
+      keeps : (x : TimerStart) → Has x t.history.timers → x.server.0 ≢ s.0 → Has x (filter (λ y. not (history.is_timer_at s y)) t.history.timers)
+      keeps x h n = has_filter_in (λ y. not (history.is_timer_at s y)) t.history.timers x h (at (history.is_timer_at s x) refl)
+        where
+          at : (b : Bool) → history.is_timer_at s x ≡ b → not (history.is_timer_at s x) ≡ true
+          at true q = absurd (n (eqb-true _ _ q))
+          at false q = ap not q
+
+      others : (v : ServerId) (n : ServerNode) → node_of t.world v ≡ Some n → (c : ClientId) → Timer_of t.history.timers v c → node_of w s ≡ None → Timer_of (filter (λ y. not (history.is_timer_at s y)) t.history.timers) v c
+      others v n y c z q =
+          record { timer = z.timer; among = keeps z.timer z.among (λ e. none (sym q ∙ ap (numbered t.world.servers) (sym (sym (eqb-true _ _ (and_true (z.timer.server.0 == v.0) _ z.is).0) ∙ e)) ∙ y)); is = z.is }
+        where
+          none : None ≡ Some n → ⊥
+          none e = cc
+
       go : (o : Option ServerNode) → node_of w s ≡ o → Next t e (ev.quiet (ev.crashes_server w s o))
-      go None q = still past t e (ev.quiet w) d (record { clients = refl; servers = refl; same = refl; timers = λ x h. (kept x h).0 })
-      go (Some node) q = server_placed past t e d s node (server.crash_node node) _ q refl refl refl (crashed_known s node.state (d.servers s node q).id) kept
+      go None q = still past t e (ev.quiet w) d (record { clients = refl; servers = refl; same = refl; timers = λ x h. (kept x h).0; kept = λ v n y c z. others v n y c z q })
+      go (Some node) q = server_placed past t e d s node (server.crash_node node) _ q refl refl refl (crashed_known s node.state (d.servers s node q).id) kept keeps (λ run. absurd (stopped run))
+        where
+          stopped : false ≡ true → ⊥
+          stopped e = cc
 
   starts_server : (s : ServerId) → adm.refusal t.world (events.Start (nodes.Server s)) ≡ None → Next t (events.Start (nodes.Server s)) (ev.quiet (ev.starts_server w s (node_of w s)))
   unfolding ev.starts_server remember
@@ -584,8 +679,12 @@ module _ (past : List Step) (t : Traced) (d : Dated past t) where
       go None q = nothing e refl w [] refl refl refl no_calm
       go (Some node) q =
           server_placed past t e d s node (server.start_node node (clock_of w (nodes.Server s))) _ q refl refl refl (started_known s node.state (clock_of w (nodes.Server s)) (d.servers s node q).id)
-          (λ x h. let z = stays t e (ev.quiet (ev.starts_server w s (Some node))) refl no_calm x h in (z, λ y. down (d.timers x z) y))
+          (λ x h. let z = stays t e (ev.quiet (ev.starts_server w s (Some node))) same x h in (z, λ y. down (d.timers x z) y))
+          (λ x h n. subst (Has x) (sym same) h) (λ run c. started_quiet node.state (clock_of w (nodes.Server s)) c)
         where
+          same : (history_after t.world e (ev.quiet (ev.starts_server w s (Some node))) t.history).timers ≡ t.history.timers
+          same = same_timers t e (ev.quiet (ev.starts_server w s (Some node))) refl no_calm
+
           off : node.running ≡ false
           off = sym (ap world.node_runs q) ∙ not_running t.world (nodes.Server s) f
 

@@ -19,7 +19,7 @@ use Rattle.st_rules.specs.Sessions.{Sessions}
 use Rattle.st_rules.specs.Locks.{Locks}
 use Rattle.st_rules.specs.Server.{ServerNode, ServerState, is_client_node}
 use Rattle.st_rules.specs.World.{World, ClientSite, clock_of, site_of, node_of, numbered}
-use Rattle.st_rules.specs.History.{Traced, TimerStart}
+use Rattle.st_rules.specs.History.{Traced, TimerStart, is_timer_of}
 use Rattle.st_rules.specs.Dating as dating
 use Rattle.st_rules.specs.Safety.{Step}
 use Rattle.st_lemmas.specs.Lists.{Has}
@@ -103,10 +103,15 @@ pub record Clients (M : ClientId → Type 0) (l : Locks) : Type 0 where
   pub rows : (r : LockRow) → Has r l.rows → M r.client
   pub waits : (x : Waiter) → Has x l.waiters → M x.client
 
--- whoever has a row, a wait or a timer at a server has a session there
+-- a client has one timer
+abbrev pub One_timer : List Suspect → Type 0
+One_timer xs = (x y : Suspect) → Has x xs → Has y xs → x.client ≡ y.client → x ≡ y
+
+-- whoever has a row, a wait or a timer at a server has a session there, and one timer
 pub record Server_known (s : ServerId) (n : ServerState) : Type 0 where
   pub id : n.id ≡ s
   pub suspects : (x : Suspect) → Has x n.authority.suspects → Met n.sessions x.client
+  pub one : One_timer n.authority.suspects
   pub locks : Clients (Met n.sessions) n.locks
 
 -- The history.
@@ -120,12 +125,23 @@ pub record Timer_quiet (w : World) (x : TimerStart) : Type 0 where
   pub quiet : (k : ℕ) (m : Message) → numbered (messages w) k ≡ Some m → m.header.from ≡ server_node x.server → m.header.to ≡ x.client.0
       → is_dating m ≡ true → k ≤ x.sent
 
+-- the history has a timer of the client at the server
+pub record Timer_of (ts : List TimerStart) (s : ServerId) (c : ClientId) : Type 0 where
+  pub timer : TimerStart
+  pub among : Has timer ts
+  pub is : is_timer_of s c timer ≡ true
+
+-- each timer that runs at a server is one of the history
+abbrev pub Timed : List TimerStart → ServerId → ServerState → Type 0
+Timed ts s n = (c : ClientId) → Runs n.authority c → Timer_of ts s c
+
 -- Behind every event: each message of a client was sent at its stamp; each message of a server that may date a lease answers a
--- request; each lease is dated by such a message; timers keep their servers quiet.
+-- request; each lease is dated by such a message; timers keep their servers quiet, and each that runs is one of the history.
 pub record Dated (past : List Step) (t : Traced) : Type 0 where
   pub born : (m : Message) → Has m (messages t.world) → is_from_client m ≡ true → dating.is_request m.body ≡ true → Born past m
   pub answered : (m : Message) → Has m (messages t.world) → is_from_client m ≡ false → is_dating m ≡ true → Answer (messages t.world) m
   pub clients : (c : ClientId) (site : ClientSite) → site_of t.world c ≡ Some site → Client_dated (messages t.world) c site.node.state
   pub servers : (s : ServerId) (node : ServerNode) → node_of t.world s ≡ Some node → Server_known s node.state
   pub timers : (x : TimerStart) → Has x t.history.timers → Timer_quiet t.world x
+  pub timed : (s : ServerId) (node : ServerNode) → node_of t.world s ≡ Some node → node.running ≡ true → Timed t.history.timers s node.state
   pub few : length t.world.clients ≤ 16

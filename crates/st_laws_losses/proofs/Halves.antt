@@ -7,7 +7,9 @@ use Rattle.st_rules.specs.History.{traced}
 use Rattle.st_rules.specs.Safety.{Step, Promise, Throughout, ExpiredLeasesEmptyClients, is_lost_whole, all_lost_whole, steps}
 use Rattle.st_lemmas.specs.Lists.{Has}
 use Rattle.st_lemmas.proofs.Tables.{all_pass, each_passes}
-use Rattle.st_laws_losses.specs.Losses.{is_left_empty, all_left_empty, ExpiredLeasesEmptyAssociations, is_unused, all_unused, ExpiredLeasesUseNothing, Runs_empty_clients}
+use Rattle.st_laws_asks.specs.Law.{In_every_run, is_unused, all_unused, ExpiredLeasesUseNothing}
+use Rattle.st_laws_asks.proofs.Law.{unused_law}
+use Rattle.st_laws_losses.specs.Losses.{is_left_empty, all_left_empty, ExpiredLeasesEmptyAssociations}
 use Rattle.st_laws_losses.proofs.Law.{law}
 
 joined : (a b c : Bool) → (not a || b) ≡ true → (not a || not c) ≡ true → (not a || (b && not c)) ≡ true
@@ -29,7 +31,7 @@ unfolding Throughout
 throughout_both P Q R f [] past p q = tt
 throughout_both P Q R f (x ∷ xs) past p q = (f past x p.0 q.0, throughout_both P Q R f xs (past ++ x ∷ []) p.1 q.1)
 
-pub whole_law : Runs_empty_clients
-whole_law k clients servers d b form es q =
+pub whole_law : In_every_run ExpiredLeasesEmptyClients
+whole_law k clients servers d b form es head =
     throughout_both ExpiredLeasesEmptyAssociations ExpiredLeasesUseNothing ExpiredLeasesEmptyClients step_whole (steps es (traced (fresh_world k clients servers d b form))) []
-    (law k clients servers d b form es) q
+    (law k clients servers d b form es) (unused_law k clients servers d b form es head)

@@ -1,6 +1,6 @@
 -- What a client has left of a server where it takes a step while its lease there is over.
 use Rattle.std.specs.Prelude.{◌≡◌, ℕ, Bool, true, ◌||◌, not, List, []}
-use Rattle.std.specs.List.{list_all, list_any}
+use Rattle.std.specs.List.{list_all}
 use Rattle.st_base.specs.declared.config.Config.{Config}
 use Rattle.st_base.specs.declared.ids.ClientId.{ClientId}
 use Rattle.st_base.specs.declared.ids.ServerId.{ServerId}
@@ -8,7 +8,7 @@ use Rattle.st_messages.specs.declared.event.Event.{Event}
 use Rattle.st_rules.specs.World.{all_clients, all_servers, fresh_world}
 use Rattle.st_rules.specs.Events.{present_life}
 use Rattle.st_rules.specs.History.{association_of, traced}
-use Rattle.st_rules.specs.Safety.{Step, Promise, Throughout, steps_expired, is_emptied, uses_server, ExpiredLeasesEmptyClients, steps}
+use Rattle.st_rules.specs.Safety.{Step, Promise, Throughout, steps_expired, is_emptied, steps}
 
 -- where a client takes a step while its lease at a server is over, its association there is emptied and in the next life
 abbrev pub is_left_empty : Step → ClientId → ServerId → Bool
@@ -27,23 +27,3 @@ abbrev pub Runs_empty_associations : Type 0
 Runs_empty_associations =
     (k : Config) (clients servers disks blocks form : ℕ) (es : List Event) →
     Throughout ExpiredLeasesEmptyAssociations [] (steps es (traced (fresh_world k clients servers disks blocks form)))
-
--- where a client takes a step while its lease at a server is over, nothing of that server is used in the step: nothing is submitted to
--- its disks, and no read or write of its files is answered
-abbrev pub is_unused : List Step → Step → ClientId → ServerId → Bool
-is_unused past x c s = not (steps_expired x c s) || not (list_any (uses_server past x s) x.seen)
-
--- at each server
-abbrev pub all_unused : List Step → Step → ClientId → Bool
-all_unused past x c = list_all (is_unused past x c) (all_servers x.before.world)
-
--- Under an expired lease nothing is used.
-abbrev pub ExpiredLeasesUseNothing : Promise
-ExpiredLeasesUseNothing past x = list_all (all_unused past x) (all_clients x.before.world) ≡ true
-
--- In every run from the world of a head an expired lease empties its client, where under an expired lease nothing is used.
-abbrev pub Runs_empty_clients : Type 0
-Runs_empty_clients =
-    (k : Config) (clients servers disks blocks form : ℕ) (es : List Event) →
-    Throughout ExpiredLeasesUseNothing [] (steps es (traced (fresh_world k clients servers disks blocks form))) →
-    Throughout ExpiredLeasesEmptyClients [] (steps es (traced (fresh_world k clients servers disks blocks form)))

@@ -1,8 +1,8 @@
 -- What stands of an association's dirty pages and outstanding writes, as the log and the commands grow elsewhere.
-use Rattle.std.proofs.Common.{◌≡◌, ℕ, ◌+◌, ◌<◌, ◌⊎◌, Bool, true, false, not, ◌&&◌, ◌||◌, List, [], ◌∷◌, ◌++◌, ◌==◌, Option, Some, None, refl, sym, ap, ◌∙◌, subst, inl, inr, arith, if◌then◌else◌}
+use Rattle.std.proofs.Common.{◌≡◌, ℕ, ◌+◌, ◌≤◌, ◌<◌, ◌⊎◌, Bool, true, false, not, ◌&&◌, ◌||◌, List, [], ◌∷◌, ◌++◌, ◌==◌, Option, Some, None, refl, sym, ap, ◌∙◌, subst, inl, inr, arith, if◌then◌else◌}
 use Rattle.std.specs.Prelude.{length, suc, find, filter}
 use Rattle.std.specs.List.{list_any}
-use Rattle.std.proofs.lemmas.Bool.{eq-eqb}
+use Rattle.std.proofs.lemmas.Bool.{eq-eqb, ne_eqb}
 use Rattle.st_base.specs.declared.ids.ClientId.{ClientId}
 use Rattle.st_base.specs.declared.ids.FileId.{FileId}
 use Rattle.st_base.specs.declared.ids.PageNo.{PageNo}
@@ -13,6 +13,7 @@ use Rattle.st_rules.specs.declared.client.IoKind.TheVariants as io
 use Rattle.st_rules.specs.declared.client.PageCommand.{PageCommand}
 use Rattle.st_rules.specs.declared.log.LogEntry.{LogEntry}
 use Rattle.st_rules.specs.declared.log.LogOwner.{LogOwner}
+use Rattle.st_rules.specs.declared.world.Carried.{Carried}
 use Rattle.st_rules.specs.declared.world.IssuedCommand.{IssuedCommand}
 use Rattle.st_rules.specs.declared.log.Change.{Change}
 use Rattle.st_rules.specs.Keys.{put, same_client, same_file, same_page, same_server}
@@ -29,25 +30,47 @@ use Rattle.st_lemmas.proofs.Numbers.{numbered_more, numbered_has}
 use Rattle.st_lemmas.proofs.Tables.{and_true, and_both, has_filter, has_append, none_passes}
 use Rattle.st_lemmas.proofs.Lookups.{some_is, or_left, or_right}
 use Rattle.st_lemmas.proofs.Contents.{Place_is, self_place, one_place}
+use Rattle.st_laws_pages.specs.Fates.{Pending_all}
 use Rattle.st_laws_pages.proofs.Nexts.{dirty_put}
 use Rattle.st_laws_pages.proofs.Fates.{pending_map}
-use Rattle.st_laws_pages.specs.Flush.{file_at, owner_at_page, Is_its, Write_out, Write_cared, Dirty_here, Cared, Numbers_below}
+use Rattle.st_laws_pages.specs.Flush.{file_at, owner_at_page, Is_its, Sent, Write_cared, Dirty_here, Cared, Numbers_below}
 use Rattle.st_laws_pages.proofs.FateSteps.{pending_more}
 use Rattle.st_laws_pages.proofs.Owing.{last_more}
+use Rattle.st_laws_pages.proofs.Writer.{latest_last}
+use Rattle.st_laws_pages.proofs.Clash.{clash}
 
 -- one more entry that is not the client's to this page leaves its latest one
-latest_other : (n before : ℕ) (c : ClientId) (f : FileId) (p : PageNo) (es : List LogEntry) (e : LogEntry) → ev.is_entry_of c f p e ≡ false → ev.latest_from n before c f p (es ++ e ∷ []) ≡ ev.latest_from n before c f p es
-unfolding ev.latest_from ev.latest_at
-latest_other n before c f p [] e q = ap (λ b. if b then n else before) q
-latest_other n before c f p (x ∷ es) e q = latest_other (n + 1) (ev.latest_at c f p n before x) c f p es e q
-
 pub latest_stays : (c : ClientId) (f : FileId) (p : PageNo) (es : List LogEntry) (e : LogEntry) → ev.is_entry_of c f p e ≡ false → latest (es ++ e ∷ []) c f p ≡ latest es c f p
-unfolding latest
-latest_stays c f p es e q = latest_other 1 0 c f p es e q
+unfolding latest ev.latest_at
+latest_stays c f p es e q = latest_last 1 0 c f p es e ∙ ap (λ b. if b then 1 + length es else ev.latest_from 1 0 c f p es) q
 
 pub last_stays : (o : LogOwner) (cs : List IssuedCommand) (x : IssuedCommand) → ev.carries_for o x x.carries ≡ false → last_write (cs ++ x ∷ []) o ≡ last_write cs o
 unfolding last_write
 last_stays o cs x q = last_more o 1 0 cs x q
+
+-- The same behind more steps, and in a log of which the latest entries are the same and nothing more is pending.
+pub cared_fates : (past more : List Step) (cs : List IssuedCommand) (es fs : List LogEntry) (c : ClientId) (starts next : ℕ) (a : Association) → ((n : ℕ) → list_any (reports_failure n) past ≡ true → list_any (reports_failure n) more ≡ true) →
+    ((f : FileId) (p : PageNo) → latest fs c f p ≡ latest es c f p) → (Pending_all (Dirty_here c a) es → Pending_all (Dirty_here c a) fs) → Cared past cs es c starts next a → Cared more cs fs c starts next a
+cared_fates past more cs es fs c starts next a up same fewer h =
+    record {
+      entries = fewer h.entries;
+      writes = λ pc i v q. let w = h.writes pc i v q in
+          record {
+            world = λ k x j s. let o = w.world k x j s in record { index = o.index; carries = o.carries; last = o.last; latest_is = λ y z u. o.latest_is y z u ∙ sym (same (file_at a pc.ino) pc.page) };
+            low = w.low;
+            link = w.link;
+          };
+      reads = h.reads;
+      below = h.below;
+      once = h.once;
+      versions = h.versions;
+      failed = λ ino p d n i q. fail ino p (h.failed ino p d n i q);
+    }
+  where
+    fail : (ino : ℕ) (p : PageNo) → (pages.is_being_written a.store.commands ino p ≡ true) ⊎ (list_any (reports_failure (last_write cs (owner_at_page c a ino p))) past ≡ true) →
+        (pages.is_being_written a.store.commands ino p ≡ true) ⊎ (list_any (reports_failure (last_write cs (owner_at_page c a ino p))) more ≡ true)
+    fail ino p (inl b) = inl b
+    fail ino p (inr b) = inr (up (last_write cs (owner_at_page c a ino p)) b)
 
 -- An entry elsewhere: of another page, or of another server.
 pub entry_elsewhere : (past : List Step) (cs : List IssuedCommand) (es : List LogEntry) (c : ClientId) (starts next : ℕ) (a : Association) (e : LogEntry) → (log.is_pending e.fate ≡ true → Dirty_here c a e.of) →
@@ -68,25 +91,24 @@ entry_elsewhere past cs es c starts next a e d n h =
       failed = h.failed;
     }
 
--- A command elsewhere: of the next number, which carries no entry of this association's owners.
-pub command_elsewhere : (past : List Step) (cs : List IssuedCommand) (es : List LogEntry) (c : ClientId) (starts next : ℕ) (a : Association) (x : IssuedCommand) → x.number ≡ next → ((ino : ℕ) (p : PageNo) → ev.carries_for (owner_at_page c a ino p) x x.carries ≡ false) →
-    Cared past cs es c starts next a → Cared past (cs ++ x ∷ []) es c starts (next + 1) a
-command_elsewhere past cs es c starts next a x num n h =
+-- A command elsewhere: it is none of those that are outstanding, and carries no entry of this association's owners.
+pub command_beside : (past : List Step) (cs : List IssuedCommand) (es : List LogEntry) (c : ClientId) (starts next more : ℕ) (a : Association) (x : IssuedCommand) → next ≤ more → ((pc : PageCommand) → Has pc a.store.commands → Is_its c starts pc.number x → ⊥) →
+    ((ino : ℕ) (p : PageNo) → ev.carries_for (owner_at_page c a ino p) x x.carries ≡ false) → Cared past cs es c starts next a → Cared past (cs ++ x ∷ []) es c starts more a
+command_beside past cs es c starts next more a x up none n h =
     record {
       entries = h.entries;
       writes = λ pc i v q. let w = h.writes pc i v q in record { world = λ k y j s. write pc i v k y s (numbered_more cs x k y j) w; low = w.low; link = w.link };
       reads = λ pc i q k y j s. read pc i q k y s (numbered_more cs x k y j);
-      below = λ pc i. let z = h.below pc i in omega (arith, z);
+      below = λ pc i. let z = h.below pc i in omega (arith, z, up);
       once = h.once;
       versions = h.versions;
       failed = λ ino p d m i q. fail ino p (h.failed ino p d m i q);
     }
   where
-    -- the new command has another number than what is outstanding
     apart : (pc : PageCommand) → Has pc a.store.commands → (y : IssuedCommand) → y ≡ x → Is_its c starts pc.number y → ⊥
-    apart pc i y e s = let z = h.below pc i in let u = s.number_is in let v = ap (λ (w : IssuedCommand). w.number) e in omega (arith, z, u, v, num)
+    apart pc i y e s = none pc i (subst (Is_its c starts pc.number) e s)
 
-    write : (pc : PageCommand) → Has pc a.store.commands → (v k : ℕ) (y : IssuedCommand) → Is_its c starts pc.number y → (numbered cs k ≡ Some y) ⊎ ((k ≡ suc (length cs)) × (y ≡ x)) → Write_cared cs es c starts a pc v → Write_out (cs ++ x ∷ []) es c a pc v k y
+    write : (pc : PageCommand) → Has pc a.store.commands → (v k : ℕ) (y : IssuedCommand) → Is_its c starts pc.number y → (numbered cs k ≡ Some y) ⊎ ((k ≡ suc (length cs)) × (y ≡ x)) → Write_cared cs es c starts a pc v → Sent (cs ++ x ∷ []) es c a pc v k y
     write pc i v k y s (inl j) w = let o = w.world k y j s in record { index = o.index; carries = o.carries; last = last_stays (owner_at_page c a pc.ino pc.page) cs x (n pc.ino pc.page) ∙ o.last; latest_is = o.latest_is }
     write pc i v k y s (inr j) w = absurd (apart pc i y j.1 s)
 
@@ -98,6 +120,20 @@ command_elsewhere past cs es c starts next a x num n h =
         (pages.is_being_written a.store.commands ino p ≡ true) ⊎ (list_any (reports_failure (last_write (cs ++ x ∷ []) (owner_at_page c a ino p))) past ≡ true)
     fail ino p (inl b) = inl b
     fail ino p (inr b) = inr (ap (λ m. list_any (reports_failure m) past) (last_stays (owner_at_page c a ino p) cs x (n ino p)) ∙ b)
+
+-- It has the client's next number.
+pub command_elsewhere : (past : List Step) (cs : List IssuedCommand) (es : List LogEntry) (c : ClientId) (starts next : ℕ) (a : Association) (x : IssuedCommand) → x.number ≡ next → ((ino : ℕ) (p : PageNo) → ev.carries_for (owner_at_page c a ino p) x x.carries ≡ false) →
+    Cared past cs es c starts next a → Cared past (cs ++ x ∷ []) es c starts (next + 1) a
+command_elsewhere past cs es c starts next a x num n h = command_beside past cs es c starts next (next + 1) a x (omega arith) (λ pc i s. let z = h.below pc i in let u = s.number_is in omega (arith, z, u, num)) n h
+
+-- It is of another client.
+pub command_other : (past : List Step) (cs : List IssuedCommand) (es : List LogEntry) (c : ClientId) (starts next : ℕ) (a : Association) (x : IssuedCommand) → (x.client.0 ≡ c.0 → ⊥) → Cared past cs es c starts next a → Cared past (cs ++ x ∷ []) es c starts next a
+command_other past cs es c starts next a x n h = command_beside past cs es c starts next next a x (omega arith) (λ pc i s. n (ap (λ (d : ClientId). d.0) s.client)) (λ ino p. none ino p x.carries) h
+  where
+    none : (ino : ℕ) (p : PageNo) (o : Option Carried) → ev.carries_for (owner_at_page c a ino p) x o ≡ false
+    none ino p None = refl
+    none ino p (Some y) =
+        ap (λ b. (b && (x.life.0 == a.life.0)) && (same_file y.file (file_at a ino) && same_page y.page p)) (ne_eqb x.client.0 c.0 n)
 
 -- The association's own changes.
 
@@ -152,13 +188,9 @@ pub any_kept : {A : Type 0} (q r : A → Bool) (xs : List A) → ((x : A) → q 
 any_kept q r [] k h = h
 any_kept {A} q r (x ∷ xs) k h = go (q x) refl (r x) refl h (any_kept q r xs k)
   where
-    no : (b : Bool) → b ≡ true → b ≡ false → ⊥
-    no true a b = cc
-    no false a b = cc
-
     go : (b : Bool) → q x ≡ b → (d : Bool) → r x ≡ d → (b || list_any q xs) ≡ true → (list_any q xs ≡ true → list_any q (filter r xs) ≡ true) → list_any q (if d then x ∷ filter r xs else filter r xs) ≡ true
     go true e true f h g = or_left (q x) (list_any q (filter r xs)) e
-    go true e false f h g = absurd (no (r x) (k x e) f)
+    go true e false f h g = absurd (clash (r x) (k x e) f)
     go false e true f h g = or_right (q x) (list_any q (filter r xs)) (g h)
     go false e false f h g = g h
 
@@ -278,7 +310,7 @@ own_owner : (c : ClientId) (l : Life) (f : FileId) (p : PageNo) → log.same_own
 own_owner c l f p = and_both (same_client c c && (l.0 == l.0)) (same_file f f && same_page p p) (and_both (same_client c c) (l.0 == l.0) (eq-eqb c.0 c.0 refl) (eq-eqb l.0 l.0 refl))
     (and_both (same_file f f) (same_page p p) (and_both (same_server f.server f.server) (f.ino == f.ino) (eq-eqb f.server.0 f.server.0 refl) (eq-eqb f.ino f.ino refl)) (eq-eqb p.0 p.0 refl))
 
-any_back : (q : PageCommand → Bool) (xs : List PageCommand) (y : PageCommand) → q y ≡ true → list_any q (xs ++ y ∷ []) ≡ true
+pub any_back : (q : PageCommand → Bool) (xs : List PageCommand) (y : PageCommand) → q y ≡ true → list_any q (xs ++ y ∷ []) ≡ true
 any_back q [] y h = or_left (q y) false h
 any_back q (x ∷ xs) y h = or_right (q x) (list_any q (xs ++ y ∷ [])) (any_back q xs y h)
 
@@ -346,7 +378,7 @@ submitted_cared past cs es c starts next a ino p d x is di dp free num xc xl car
     old_write : (pc : PageCommand) → Has pc a.store.commands → (v : ℕ) → pc.kind ≡ io.Write v → Write_cared cs es c starts a pc v → Write_cared (cs ++ x ∷ []) es c starts b pc v
     old_write pc i v q w = record { world = λ k y j s. at k y s (numbered_more cs x k y j); low = w.low; link = w.link }
       where
-        at : (k : ℕ) (y : IssuedCommand) → Is_its c starts pc.number y → (numbered cs k ≡ Some y) ⊎ ((k ≡ suc (length cs)) × (y ≡ x)) → Write_out (cs ++ x ∷ []) es c b pc v k y
+        at : (k : ℕ) (y : IssuedCommand) → Is_its c starts pc.number y → (numbered cs k ≡ Some y) ⊎ ((k ≡ suc (length cs)) × (y ≡ x)) → Sent (cs ++ x ∷ []) es c b pc v k y
         at k y s (inl j) = let o = w.world k y j s in record { index = o.index; carries = o.carries; last = last_stays (owner_at_page c a pc.ino pc.page) cs x (other pc.ino pc.page (apart pc i v q)) ∙ o.last; latest_is = o.latest_is }
         at k y s (inr j) = absurd (old_number pc i y j.1 s)
 
@@ -364,7 +396,7 @@ submitted_cared past cs es c starts next a ino p d x is di dp free num xc xl car
         here : pages.dirty_of a.store.pages d.ino d.page ≡ Some d
         here = ap (λ j. pages.dirty_of a.store.pages j d.page) di ∙ ap (λ r. pages.dirty_of a.store.pages ino r) dp ∙ is
 
-        at : (k : ℕ) (y : IssuedCommand) → Is_its c starts next y → (numbered cs k ≡ Some y) ⊎ ((k ≡ suc (length cs)) × (y ≡ x)) → Write_out (cs ++ x ∷ []) es c b new v k y
+        at : (k : ℕ) (y : IssuedCommand) → Is_its c starts next y → (numbered cs k ≡ Some y) ⊎ ((k ≡ suc (length cs)) × (y ≡ x)) → Sent (cs ++ x ∷ []) es c b new v k y
         at k y s (inl j) = absurd (new_number k y j s)
         at k y s (inr j) = record { index = latest es c (file_at a d.ino) d.page; carries = ap (λ (w : IssuedCommand). w.carries) j.1 ∙ car; last = own_last ∙ sym j.0; latest_is = λ e i u. refl }
 

@@ -40,7 +40,7 @@ use Rattle.st_laws_pages.specs.World.{Holds_by, PagesHold, Timely}
 use Rattle.st_laws_pages.specs.Owed.{Timely_in, Node_owes, Takes_owes, At_client, At_node, At_delivery, At_end, At_told, At_report, Owed, FatesHold}
 use Rattle.st_laws_pages.specs.Fates.{Gone_all, Gone_hold}
 use Rattle.st_laws_pages.specs.Lives.{owner_of, LivesHold}
-use Rattle.st_laws_pages.specs.Causes.{Crashes_known, Failed_stay, Flush_owes, Drops_owe, Advances_owe, Causes_owed, Crash_site_owes, life_owner}
+use Rattle.st_laws_pages.specs.Causes.{Crashes_known, Failed_stay, Flush_owes, Advances_owe, Causes_owed, Crash_site_owes, life_owner}
 use Rattle.st_laws_pages.proofs.Causes.{same_failed}
 use Rattle.st_laws_pages.proofs.Moves.{later}
 use Rattle.st_laws_pages.proofs.Lasting.{Flushed, flush_parts, present_is}
@@ -168,8 +168,8 @@ advances_owe : (past : List Step) (w : World) (ls : List LeaseLife) → ((l : Le
 advances_owe past w [] f o = record {}
 advances_owe past w (l ∷ ls) f o = record { one = o.one; known = f l (inl refl); rest = advances_owe past w ls (λ x i. f x (inr i)) o.rest }
 
--- What is owed at an event follows from what is owed for the pages, and from what an advance owes.
-pub causes_owed : (past : List Step) (w : World) (e : Event) → Owed w e → Drops_owe past w e → FatesHold w → Crashes_known past w.ended → PagesHold w → ((k : ℕ) (ok : Bool) → e ≡ events.Report k ok → PagesHold (ev.with_disks (ev.disks_after w.disks (disks.done w.disks k ok)) w)) →
+-- What is owed at an event follows from what is owed for the pages, and from the flush at an advance.
+pub causes_owed : (past : List Step) (w : World) (e : Event) → Owed w e → ((steps : List ℕ) → e ≡ events.Advance steps → Flush_owes past w (ev.lives_reached w steps)) → FatesHold w → Crashes_known past w.ended → PagesHold w → ((k : ℕ) (ok : Bool) → e ≡ events.Report k ok → PagesHold (ev.with_disks (ev.disks_after w.disks (disks.done w.disks k ok)) w)) →
     Causes_owed past w e (ev.happens w e).world
 unfolding ev.happens ev.ticks ev.asks_at ev.delivers ev.delivers_to ev.loses_message ev.marks ev.effects ev.crashes ev.crashes_server ev.starts ev.starts_client ev.starts_server ev.lives_reached
 causes_owed past w (events.Tick (nodes.Client c)) o d f k h p = at_client_failed w c inputs.Tick (site_of w c) refl o f.lives f.gone h
@@ -196,7 +196,7 @@ causes_owed past w (events.Lose n) o d f k h p = go (world.message_of w n)
 causes_owed past w (events.Cut from to) o d f k h p = same_failed w.commands w.log
 causes_owed past w (events.Heal from to) o d f k h p = same_failed w.commands w.log
 causes_owed past w (events.Advance steps) o d f k h p =
-    advances_owe past w (filter (ev.is_reached w steps) (present_lives w.clients ++ w.ended)) (λ l i c. crashed_known past w f.lives k l (has_filter (ev.is_reached w steps) (present_lives w.clients ++ w.ended) l i).0 c) d
+    advances_owe past w (filter (ev.is_reached w steps) (present_lives w.clients ++ w.ended)) (λ l i c. crashed_known past w f.lives k l (has_filter (ev.is_reached w steps) (present_lives w.clients ++ w.ended) l i).0 c) (d steps refl)
 causes_owed past w (events.Effect n) o d f k h p = same_failed w.commands w.log
 causes_owed past w (events.Report n ok) o d f k h p = report_failed w n ok o f.lives f.gone (p n ok refl)
 causes_owed past w (events.Crash (nodes.Client c)) o d f k h p = go (site_of w c) refl

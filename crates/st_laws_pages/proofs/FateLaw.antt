@@ -162,7 +162,7 @@ at_server_fates w s input (Some node) h = go (server.node_step node (clock_of w 
     go (Ok t) = server_says_fates s t.out (ev.quiet (ev.with_node s t.node w)) (pending_map (Before_end w) (Before_end (ev.with_node s t.node w)) w.log (λ o b. record { end = b.end; is = b.is; before = b.before }) h)
 
 -- Effects: what becomes hard is pending no more.
-pending_harden : (P : LogOwner → Type 0) (n i : ℕ) (o : LogOwner) (es : List LogEntry) → Pending_all P es → Pending_all P (log.harden_from n i o es)
+pub pending_harden : (P : LogOwner → Type 0) (n i : ℕ) (o : LogOwner) (es : List LogEntry) → Pending_all P es → Pending_all P (log.harden_from n i o es)
 unfolding log.harden_from log.hardened log.harder_entry
 pending_harden P n i o [] h = h
 pending_harden P n i o (e ∷ es) h = go (nat_le n i && log.same_owner e.of o) (pending_harden P (n + 1) i o es h.rest)
@@ -176,7 +176,7 @@ pending_harden P n i o (e ∷ es) h = go (nat_le n i && log.same_owner e.of o) (
     go true r = record { one = λ q. absurd (never e.fate q); rest = r }
     go false r = record { one = h.one; rest = r }
 
-pending_hard : (P : LogOwner → Type 0) (es : List LogEntry) (x : Option Carried) → Pending_all P es → Pending_all P (ev.log_hard es x)
+pub pending_hard : (P : LogOwner → Type 0) (es : List LogEntry) (x : Option Carried) → Pending_all P es → Pending_all P (ev.log_hard es x)
 unfolding log.harden log.harden_at
 pending_hard P es None h = h
 pending_hard P es (Some x) h = go (log.entry_at es x.index)
@@ -186,7 +186,7 @@ pending_hard P es (Some x) h = go (log.entry_at es x.index)
     go (Some e) = pending_harden P 1 x.index e.of es h
 
 -- a drop leaves no more pending than there was
-pending_fewer : (P : LogOwner → Type 0) (n : ℕ) (picked : ℕ → LogOwner → Bool) (cause : FileId → PageNo → Cause) (es : List LogEntry) → Pending_all P es → Pending_all P (log.drop_from n picked cause es)
+pub pending_fewer : (P : LogOwner → Type 0) (n : ℕ) (picked : ℕ → LogOwner → Bool) (cause : FileId → PageNo → Cause) (es : List LogEntry) → Pending_all P es → Pending_all P (log.drop_from n picked cause es)
 unfolding log.drop_from log.dropped log.lost_entry
 pending_fewer P n picked cause [] h = h
 pending_fewer P n picked cause (e ∷ es) h = go (picked n e.of) (pending_fewer P (n + 1) picked cause es h.rest)

@@ -122,7 +122,7 @@ at_server_lives w s input (Some node) h = go (server.node_step node (clock_of w 
 same_owners : (w : World) (es : List LogEntry) → map owner_of es ≡ map owner_of w.log → All_known w.clients w.ended w.commands (map owner_of w.log) → All_known w.clients w.ended w.commands (map owner_of es)
 same_owners w es q k = subst (All_known w.clients w.ended w.commands) (sym q) k
 
-owners_hard : (es : List LogEntry) (x : Option Carried) → map owner_of (ev.log_hard es x) ≡ map owner_of es
+pub owners_hard : (es : List LogEntry) (x : Option Carried) → map owner_of (ev.log_hard es x) ≡ map owner_of es
 unfolding log.harden log.harden_at
 owners_hard es None = refl
 owners_hard es (Some x) = go (log.entry_at es x.index)
@@ -131,7 +131,7 @@ owners_hard es (Some x) = go (log.entry_at es x.index)
     go None = refl
     go (Some e) = owners_harden 1 x.index e.of es
 
-owners_ended : (cs : List IssuedCommand) (ls : List LeaseLife) (es : List LogEntry) → map owner_of (ev.log_ended_all cs ls es) ≡ map owner_of es
+pub owners_ended : (cs : List IssuedCommand) (ls : List LeaseLife) (es : List LogEntry) → map owner_of (ev.log_ended_all cs ls es) ≡ map owner_of es
 unfolding ev.log_ended_all ev.log_ended log.drop_picked
 owners_ended cs [] es = refl
 owners_ended cs (l ∷ ls) es = owners_ended cs ls (ev.log_ended cs l es) ∙ owners_drop 1 (ev.is_of_life_over l) (ev.cause_at_end cs l) es

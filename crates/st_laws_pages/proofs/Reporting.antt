@@ -24,7 +24,7 @@ use Rattle.st_lemmas.specs.Lists.{Has}
 use Rattle.st_lemmas.proofs.Lookups.{some_is}
 use Rattle.st_laws_pages.specs.Folds.{Done_upto}
 use Rattle.st_laws_pages.specs.World.{Effect_done, Commands_hold}
-use Rattle.st_laws_pages.specs.Flush.{file_at, owner_at_page, Is_its, Write_out, Cared}
+use Rattle.st_laws_pages.specs.Flush.{file_at, owner_at_page, Is_its, Sent, Cared}
 use Rattle.st_laws_pages.proofs.Folds.{owner_parts}
 use Rattle.st_laws_pages.proofs.Found.{none_upto}
 use Rattle.st_laws_pages.proofs.Ending.{None_pending, Failure_owed, Success_owed}
@@ -81,7 +81,7 @@ success_owed past cs es c starts next a ds k x d at tag bytes j l w f hs h pc i 
     o : LogOwner
     o = owner_at_page c a pc.ino pc.page
 
-    go : Write_out cs es c a pc v k x → Effect_done es x tag → None_pending o es
+    go : Sent cs es c a pc v k x → Effect_done es x tag → None_pending o es
     go m e =
         let same : owner x.client x.life tag.file tag.page ≡ o = owner_parts (owner x.client x.life tag.file tag.page) o (sym (ap (ev.carries_for o x) e.carries) ∙ last_carries o cs k x m.last j) in
         let index : e.index ≡ latest es c (file_at a pc.ino) pc.page = ap index_of (sym e.carries ∙ m.carries) ∙ m.latest_is page y z in

@@ -29,6 +29,7 @@ use Rattle.st_laws_pages.proofs.Nexts.{Unlost, All_unlost, Next, next_same, next
 use Rattle.st_laws_pages.proofs.Asking.{c_passes}
 use Rattle.st_laws_pages.proofs.Replying.{c_hear}
 use Rattle.st_laws_pages.proofs.Losing.{lose_is, c_only, Finished, finish_is}
+use Rattle.st_laws_pages.proofs.Clash.{clash}
 
 -- the lives that outputs say to be lost
 rows_unlost : (c : ClientId) (s : ClientState) (os : List Output) → All_unlost os → ended_rows c s os ≡ []
@@ -60,7 +61,7 @@ rows_more c s os ps u = rows_both c s os ps ∙ ap (λ z. ended_rows c s os ++ z
     none [] = refl
     none (x ∷ xs) = ap (λ z. x ∷ z) (none xs)
 
-all_rows : (f : Association → List LeaseLife) → List Association → List LeaseLife
+pub all_rows : (f : Association → List LeaseLife) → List Association → List LeaseLife
 all_rows f [] = []
 all_rows f (a ∷ al) = f a ++ all_rows f al
 
@@ -72,16 +73,16 @@ none_rows : (xs : List LeaseLife) → xs ≡ xs ++ []
 none_rows [] = refl
 none_rows (x ∷ xs) = ap (λ z. x ∷ z) (none_rows xs)
 
-assoc_left : (xs ys zs : List Association) → (xs ++ ys) ++ zs ≡ xs ++ (ys ++ zs)
+pub assoc_left : (xs ys zs : List Association) → (xs ++ ys) ++ zs ≡ xs ++ (ys ++ zs)
 assoc_left [] ys zs = refl
 assoc_left (x ∷ xs) ys zs = ap (λ z. x ∷ z) (assoc_left xs ys zs)
 
-none_left : (xs : List Association) → xs ≡ xs ++ []
+pub none_left : (xs : List Association) → xs ≡ xs ++ []
 none_left [] = refl
 none_left (x ∷ xs) = ap (λ z. x ∷ z) (none_left xs)
 
 -- what the rule leaves at one server, with the lives that it says to be lost
-record Left (R : Association → Association → Type 0) (f : Association → List LeaseLife) (rows : List Output → List LeaseLife) (t u : Turn) : Type 0 where
+pub record Left (R : Association → Association → Type 0) (f : Association → List LeaseLife) (rows : List Output → List LeaseLife) (t u : Turn) : Type 0 where
   pub one : R t.here u.here
   pub said : rows u.out ≡ rows t.out ++ f t.here
 
@@ -114,13 +115,13 @@ these P R f rows rule k step (a ∷ al) t c p = go (step (enter t a) c (p a (inl
         }
 
 -- after a rule at each server, the associations are the ones that it left
-record Each_server (R : Association → Association → Type 0) (f : Association → List LeaseLife) (rows : List Output → List LeaseLife) (t u : ClientTurn) : Type 0 where
+pub record Each_server (R : Association → Association → Type 0) (f : Association → List LeaseLife) (rows : List Output → List LeaseLife) (t u : ClientTurn) : Type 0 where
   pub id : t.state.id ≡ u.state.id
   pub config : t.state.config ≡ u.state.config
   pub pairs : Pairwise R t.state.associations u.state.associations
   pub out : rows u.out ≡ rows t.out ++ all_rows f t.state.associations
 
-each : (P : Association → Type 0) (R : Association → Association → Type 0) (f : Association → List LeaseLife) (rows : List Output → List LeaseLife) (rule : Turn → Turn) →
+pub each : (P : Association → Type 0) (R : Association → Association → Type 0) (f : Association → List LeaseLife) (rows : List Output → List LeaseLife) (rule : Turn → Turn) →
     (t : ClientTurn) → ((u : Turn) → u.config ≡ t.state.config → P u.here → Left R f rows u (rule u)) → ((a : Association) → Has a t.state.associations → P a) → Each_server R f rows t (at_each rule t)
 unfolding at_each
 each P R f rows rule t step p = go (these P R f rows rule t.state.config step t.state.associations (with_associations [] t) refl p)
@@ -132,7 +133,7 @@ each P R f rows rule t step p = go (these P R f rows rule t.state.config step t.
     go r = record { id = r.id; config = r.config; pairs = subst (Pairwise R t.state.associations) (sym r.is) r.pairs; out = r.out }
 
 -- Pairs, one after another.
-pairs_then : (P Q R : Association → Association → Type 0) → ((a b c : Association) → P a b → Q b c → R a c) → (al bs cs : List Association) → Pairwise P al bs → Pairwise Q bs cs → Pairwise R al cs
+pub pairs_then : (P Q R : Association → Association → Type 0) → ((a b c : Association) → P a b → Q b c → R a c) → (al bs cs : List Association) → Pairwise P al bs → Pairwise Q bs cs → Pairwise R al cs
 pairs_then P Q R f [] [] [] p q = tt
 pairs_then P Q R f [] [] (c ∷ cs) p q = absurd q
 pairs_then P Q R f [] (b ∷ bs) cs p q = absurd p
@@ -140,7 +141,7 @@ pairs_then P Q R f (a ∷ al) [] cs p q = absurd p
 pairs_then P Q R f (a ∷ al) (b ∷ bs) [] p q = absurd q
 pairs_then P Q R f (a ∷ al) (b ∷ bs) (c ∷ cs) p q = record { one = f a b c p.one q.one; rest = pairs_then P Q R f al bs cs p.rest q.rest }
 
-pairs_same : (R : Association → Association → Type 0) → ((a : Association) → R a a) → (al : List Association) → Pairwise R al al
+pub pairs_same : (R : Association → Association → Type 0) → ((a : Association) → R a a) → (al : List Association) → Pairwise R al al
 pairs_same R f [] = tt
 pairs_same R f (a ∷ al) = record { one = f a; rest = pairs_same R f al }
 
@@ -153,13 +154,13 @@ pairs_has R P Q f (x ∷ xs) (y ∷ ys) r p b (inl e) = subst Q (sym e) (f x y r
 pairs_has R P Q f (x ∷ xs) (y ∷ ys) r p b (inr h) = pairs_has R P Q f xs ys r.rest (λ a i. p a (inr i)) b h
 
 -- A rule that is a list of changes.
-record Goes (k : Config) (now : Stamp) (a b : Association) : Type 0 where
+pub record Goes (k : Config) (now : Stamp) (a b : Association) : Type 0 where
   pub server : a.server ≡ b.server
   pub life : a.life ≡ b.life
   pub session : Session_next k now a.session b.session
   pub fit : Fit a → Fit b
 
-no_rows : Association → List LeaseLife
+pub no_rows : Association → List LeaseLife
 no_rows a = []
 
 next_left : (c : ClientId) (s : ClientState) (k : Config) (now : Stamp) (t u : Turn) → t.config ≡ k → Next now t u → Left (Goes k now) no_rows (ended_rows c s) t u
@@ -177,7 +178,7 @@ goes_then : (k : Config) (now : Stamp) (a b c : Association) → Goes k now a b 
 goes_then k now a b c p q = record { server = p.server ∙ q.server; life = p.life ∙ q.life; session = session_then k now a.session b.session c.session p.session q.session; fit = λ f. q.fit (p.fit f) }
 
 -- What is left of all associations.
-record Left_all (c : ClientId) (s : ClientState) (k : Config) (now : Stamp) (t u : ClientTurn) : Type 0 where
+pub record Left_all (c : ClientId) (s : ClientState) (k : Config) (now : Stamp) (t u : ClientTurn) : Type 0 where
   pub id : t.state.id ≡ u.state.id
   pub config : t.state.config ≡ u.state.config
   pub pairs : Pairwise (Goes k now) t.state.associations u.state.associations
@@ -188,7 +189,7 @@ unfolding all_rows no_rows
 no_all_rows [] = refl
 no_all_rows (a ∷ al) = no_all_rows al
 
-left_each : (c : ClientId) (s : ClientState) (now : Stamp) (rule : Turn → Turn) (t : ClientTurn) → ((u : Turn) → Fit u.here → Next now u (rule u)) → ((a : Association) → Has a t.state.associations → Fit a) → Left_all c s t.state.config now t (at_each rule t)
+pub left_each : (c : ClientId) (s : ClientState) (now : Stamp) (rule : Turn → Turn) (t : ClientTurn) → ((u : Turn) → Fit u.here → Next now u (rule u)) → ((a : Association) → Has a t.state.associations → Fit a) → Left_all c s t.state.config now t (at_each rule t)
 left_each c s now rule t step f = go (each Fit (Goes t.state.config now) no_rows (ended_rows c s) rule t (λ u e p. next_left c s t.state.config now u (rule u) e (step u p)) f)
   where
     go : Each_server (Goes t.state.config now) no_rows (ended_rows c s) t (at_each rule t) → Left_all c s t.state.config now t (at_each rule t)
@@ -228,14 +229,14 @@ ends_fit now number ok t _ (Fails c v e o k) = record { id = refl; config = refl
     go : (ino : ℕ) (p : Rattle.st_base.specs.declared.ids.PageNo.PageNo) (d : DirtyPage) → Fit t.here → pages.dirty_of (pages.fail t.here.store.pages c.ino c.page c.number) ino p ≡ Some d → pages.is_mapped t.here.store.extents ino p ≡ true
     go ino p d f i = let z = Rattle.st_laws_pages.proofs.Nexts.failed_found c.ino c.page c.number ino p t.here.store.pages.dirty d i in f.mapped ino p z.0 z.1
 
-finish_next : (now : Stamp) (number : ℕ) (result : Option (Option (Tag × List ℕ))) (t : Turn) → Next now t (cl.finish number result t)
+pub finish_next : (now : Stamp) (number : ℕ) (result : Option (Option (Tag × List ℕ))) (t : Turn) → Next now t (cl.finish number result t)
 finish_next now number result t = go (finish_is now number result t)
   where
     go : Finished now number (Rattle.st_laws_pages.proofs.Losing.is_done result) t (cl.finish number result t) → Next now t (cl.finish number result t)
     go f = next_then now t f.mid (cl.finish number result t) (ends_fit now number (Rattle.st_laws_pages.proofs.Losing.is_done result) t f.mid f.ends) (changes_next now f.mid (cl.finish number result t) f.then_)
 
 -- The input.
-input_left : (c : ClientId) (s : ClientState) (now : Stamp) (input : ClientInput) (t : ClientTurn) → ((a : Association) → Has a t.state.associations → Fit a) → Left_all c s t.state.config now t (cl.take_input t now input)
+pub input_left : (c : ClientId) (s : ClientState) (now : Stamp) (input : ClientInput) (t : ClientTurn) → ((a : Association) → Has a t.state.associations → Fit a) → Left_all c s t.state.config now t (cl.take_input t now input)
 unfolding cl.take_input cl.app cl.app_known cl.done cr.receive cr.receive_here
 input_left c s now inputs.Tick t f = all_same c s t.state.config now t
 input_left c s now (inputs.App op ask) t f = full (cl.is_full t.state)
@@ -262,15 +263,13 @@ rows_of : ClientId → ClientState → Stamp → Association → List LeaseLife
 rows_of c s now a = row_lost c s now a
 
 -- an association before and after its loss, or as it was
-record Lost_or_not (k : Config) (now : Stamp) (a b : Association) : Type 0 where
+pub record Lost_or_not (k : Config) (now : Stamp) (a b : Association) : Type 0 where
   pub server : a.server ≡ b.server
   pub fit : Fit a → Fit b
   pub lasts : is_ended k now a.session ≡ false → a ≡ b
   pub lost : is_ended k now a.session ≡ true → cl.next_life a.life ≡ b.life
-
-no_clash : (b : Bool) → b ≡ true → b ≡ false → ⊥
-no_clash true e f = cc
-no_clash false e f = cc
+  pub emptied : is_ended k now a.session ≡ true → b.store ≡ pages.empty_store
+  pub going : is_ended k now b.session ≡ false
 
 empty_fit : (a : Association) → Fit (cl.emptied a)
 empty_fit a = record { mapped = λ ino p d e. absurd (none d e); fresh = tt }
@@ -282,7 +281,7 @@ lose_left : (c : ClientId) (s : ClientState) (k : Config) (now : Stamp) (t u : T
 unfolding row_lost ended_rows
 lose_left c s k now t _ e q (Lasts n) =
     record {
-      one = record { server = refl; fit = λ f. f; lasts = λ z. refl; lost = λ z. absurd (no_clash _ z (ap (λ w. is_ended w now t.here.session) (sym e) ∙ n)) };
+      one = record { server = refl; fit = λ f. f; lasts = λ z. refl; lost = λ z. absurd (clash _ z (ap (λ w. is_ended w now t.here.session) (sym e) ∙ n)); emptied = λ z. absurd (clash _ z (ap (λ w. is_ended w now t.here.session) (sym e) ∙ n)); going = ap (λ w. is_ended w now t.here.session) (sym e) ∙ n };
       said = none_rows (ended_rows c s t.out) ∙ ap (λ b. ended_rows c s t.out ++ (if b then Rattle.st_laws_pages.specs.Lives.lost_row c s t.here.server t.here.life ∷ [] else [])) (sym (ap (λ w. is_ended w now t.here.session) (q ∙ sym e) ∙ n));
     }
 lose_left c s k now t _ e q (Is_lost x i n v m) = go (changes_next now (note t (notes.Lost t.here.server t.here.life)) v m)
@@ -293,7 +292,7 @@ lose_left c s k now t _ e q (Is_lost x i n v m) = go (changes_next now (note t (
     go : Next now (note t (notes.Lost t.here.server t.here.life)) v → Left (Lost_or_not k now) (row_lost c s now) (ended_rows c s) t (cl.empty_here v)
     go n2 =
         record {
-          one = record { server = n2.server; fit = λ f. empty_fit v.here; lasts = λ z. absurd (no_clash _ (ap (λ w. is_ended w now t.here.session) (sym e) ∙ n) z); lost = λ z. ap cl.next_life n2.life };
+          one = record { server = n2.server; fit = λ f. empty_fit v.here; lasts = λ z. absurd (clash _ (ap (λ w. is_ended w now t.here.session) (sym e) ∙ n) z); lost = λ z. ap cl.next_life n2.life; emptied = λ z. refl; going = refl };
           said =
               ap (ended_rows c s) n2.out ∙ rows_more c s (t.out ++ outputs.Note (notes.Lost t.here.server t.here.life) ∷ []) n2.more n2.unlost
               ∙ rows_both c s t.out (outputs.Note (notes.Lost t.here.server t.here.life) ∷ [])
@@ -305,13 +304,13 @@ unfolding all_rows rows_lost
 all_rows_lost c s now [] = refl
 all_rows_lost c s now (a ∷ al) = ap (λ z. row_lost c s now a ++ z) (all_rows_lost c s now al)
 
-record Losses_left (c : ClientId) (s : ClientState) (now : Stamp) (t u : ClientTurn) : Type 0 where
+pub record Losses_left (c : ClientId) (s : ClientState) (now : Stamp) (t u : ClientTurn) : Type 0 where
   pub id : t.state.id ≡ u.state.id
   pub config : t.state.config ≡ u.state.config
   pub pairs : Pairwise (Lost_or_not s.config now) t.state.associations u.state.associations
   pub out : ended_rows c s u.out ≡ ended_rows c s t.out ++ rows_lost c s now t.state.associations
 
-losses_left : (c : ClientId) (s : ClientState) (now : Stamp) (t : ClientTurn) → t.state.config ≡ s.config → ((a : Association) → Has a t.state.associations → Fit a) → Losses_left c s now t (cl.losses t now)
+pub losses_left : (c : ClientId) (s : ClientState) (now : Stamp) (t : ClientTurn) → t.state.config ≡ s.config → ((a : Association) → Has a t.state.associations → Fit a) → Losses_left c s now t (cl.losses t now)
 unfolding cl.losses
 losses_left c s now t e f = go (each Fit (Lost_or_not s.config now) (row_lost c s now) (ended_rows c s) (cl.lose now) t (λ u q p. lose_left c s s.config now u (cl.lose now u) (q ∙ e) refl (lose_is now u)) f)
   where

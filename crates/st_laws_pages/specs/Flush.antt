@@ -1,5 +1,5 @@
 -- What stands of a client's dirty pages and of its outstanding writes, against the log and the commands of the world.
-use Rattle.std.specs.Prelude.{◌≡◌, ℕ, ◌<◌, ◌⊎◌, true, List, Some, None}
+use Rattle.std.specs.Prelude.{◌≡◌, ℕ, ◌+◌, ◌≤◌, ◌<◌, ◌⊎◌, true, List, is_some, length, Some, None}
 use Rattle.std.specs.List.{list_any}
 use Rattle.st_base.specs.declared.ids.ClientId.{ClientId}
 use Rattle.st_base.specs.declared.ids.FileId.{FileId}
@@ -9,15 +9,18 @@ use Rattle.st_rules.specs.declared.client.IoKind.TheVariants as io
 use Rattle.st_rules.specs.declared.client.PageCommand.{PageCommand}
 use Rattle.st_rules.specs.declared.log.LogEntry.{LogEntry}
 use Rattle.st_rules.specs.declared.log.LogOwner.{LogOwner}
+use Rattle.st_rules.specs.declared.world.FlushStep.{FlushStep}
 use Rattle.st_rules.specs.declared.world.IssuedCommand.{IssuedCommand}
 use Rattle.st_rules.specs.FlatLog.{owner}
+use Rattle.st_rules.specs.ClientLease as lease
 use Rattle.st_rules.specs.ClientPages as pages
-use Rattle.st_rules.specs.ClientState.{Association}
-use Rattle.st_rules.specs.World.{numbered}
+use Rattle.st_rules.specs.ClientState.{Association, ClientSession}
+use Rattle.st_rules.specs.World.{World, ClientSite, numbered}
 use Rattle.st_rules.specs.Events.{latest, last_write}
 use Rattle.st_rules.specs.Safety.{Step, reports_failure}
 use Rattle.st_lemmas.specs.Lists.{Has}
 use Rattle.st_laws_pages.specs.Fates.{Pending_all}
+use Rattle.st_laws_pages.specs.Lives.{clock_in}
 
 -- a file of the association's server
 abbrev pub file_at : Association → ℕ → FileId
@@ -35,7 +38,7 @@ pub record Is_its (c : ClientId) (starts number : ℕ) (x : IssuedCommand) : Typ
 
 -- What the world has of an outstanding write of a page: it is the last write of its owner, and it carries the latest entry where the
 -- page was not changed since.
-pub record Write_out (cs : List IssuedCommand) (es : List LogEntry) (c : ClientId) (a : Association) (pc : PageCommand) (v k : ℕ) (x : IssuedCommand) : Type 0 where
+pub record Sent (cs : List IssuedCommand) (es : List LogEntry) (c : ClientId) (a : Association) (pc : PageCommand) (v k : ℕ) (x : IssuedCommand) : Type 0 where
   pub index : ℕ
   pub carries : x.carries ≡ Some (record { file = file_at a pc.ino; page = pc.page; index = index })
   pub last : last_write cs (owner_at_page c a pc.ino pc.page) ≡ k
@@ -43,7 +46,7 @@ pub record Write_out (cs : List IssuedCommand) (es : List LogEntry) (c : ClientI
 
 -- an outstanding write
 pub record Write_cared (cs : List IssuedCommand) (es : List LogEntry) (c : ClientId) (starts : ℕ) (a : Association) (pc : PageCommand) (v : ℕ) : Type 0 where
-  pub world : (k : ℕ) (x : IssuedCommand) → numbered cs k ≡ Some x → Is_its c starts pc.number x → Write_out cs es c a pc v k x
+  pub world : (k : ℕ) (x : IssuedCommand) → numbered cs k ≡ Some x → Is_its c starts pc.number x → Sent cs es c a pc v k x
   pub low : v < a.store.pages.next_version
   pub link : (d : DirtyPage) → pages.dirty_of a.store.pages pc.ino pc.page ≡ Some d → (d.version ≡ v) ⊎ (d.failed ≡ None)
 
@@ -72,3 +75,40 @@ Numbers_below cs c starts next = (x : IssuedCommand) → Has x cs → x.client �
 -- the outstanding commands have numbers of their own
 abbrev pub Numbers_apart : List PageCommand → Type 0
 Numbers_apart cs = (pc qc : PageCommand) → Has pc cs → Has qc cs → pc.number ≡ qc.number → pc ≡ qc
+
+-- a page that is dirty has a write outstanding, or a failed command
+abbrev pub Page_covered : Association → ℕ → PageNo → Type 0
+Page_covered a ino p =
+    (d : DirtyPage) → pages.dirty_of a.store.pages ino p ≡ Some d →
+    (pages.is_being_written a.store.commands ino p ≡ true) ⊎ (is_some d.failed ≡ true)
+
+-- all dirty pages have
+abbrev pub Covered : Association → Type 0
+Covered a = (ino : ℕ) (p : PageNo) → Page_covered a ino p
+
+-- What stands of all associations of a client that runs.
+pub record Node_cared (past : List Step) (cs : List IssuedCommand) (es : List LogEntry) (c : ClientId) (site : ClientSite) : Type 0 where
+  pub cared : (a : Association) → Has a site.node.state.associations → Cared past cs es c site.starts site.node.state.next_command a
+  pub apart : (a : Association) → Has a site.node.state.associations → Numbers_apart a.store.commands
+  pub numbers : Numbers_below cs c site.starts site.node.state.next_command
+
+-- no command of a client is of a later instance
+abbrev pub Starts_below : List IssuedCommand → ClientId → ℕ → Type 0
+Starts_below cs c n = (x : IssuedCommand) → Has x cs → x.client ≡ c → x.starts ≤ n
+
+-- What stands of a flush step: it was made in the flush phase; and while the lease has that end, each dirty page of that server has a
+-- write outstanding or a failed command.
+pub record Flush_right (w : World) (x : FlushStep) : Type 0 where
+  pub low : x.end.0 + w.config.flush ≤ (clock_in w.clocks x.client).0 + w.config.lease
+  pub covered : (site : ClientSite) → numbered w.clients x.client.0 ≡ Some site → site.node.running ≡ true → (a : Association) →
+      Has a site.node.state.associations → a.server.0 ≡ x.server.0 → (s : ClientSession) → a.session ≡ Some s →
+      (lease.end_of w.config s.lease).0 ≡ x.end.0 → Covered a
+
+-- What stands of the flush in a world behind steps.
+pub record FlushHold (past : List Step) (w : World) : Type 0 where
+  pub sites : (c : ClientId) (site : ClientSite) → numbered w.clients c.0 ≡ Some site → site.node.running ≡ true →
+      Node_cared past w.commands w.log c site
+  pub starts : (c : ClientId) (site : ClientSite) → numbered w.clients c.0 ≡ Some site → Starts_below w.commands c site.starts
+  pub flushes : (x : FlushStep) → Has x w.flushed → Flush_right w x
+  pub servers : (c : ClientId) (site : ClientSite) → numbered w.clients c.0 ≡ Some site → (a : Association) →
+      Has a site.node.state.associations → (1 ≤ a.server.0) × (a.server.0 ≤ length w.servers)

@@ -39,12 +39,13 @@ use Rattle.st_lemmas.proofs.Tables.{and_true, and_both, has_filter, has_map, non
 use Rattle.st_lemmas.proofs.Keys.{least_some}
 use Rattle.st_laws_server.specs.View.{at, Row_ok, Not_ended, Sound}
 use Rattle.st_laws_server.specs.Pair.{client_in}
-use Rattle.st_laws_server.specs.Stands.{pairs, Stands, Single}
+use Rattle.st_laws_server.specs.Stands.{pairs, Stands}
 use Rattle.st_laws_server.specs.Edits.{In_grace}
 use Rattle.st_laws_server.proofs.Delivery.{sound_of, pair_runs}
 use Rattle.st_laws_server.proofs.Late.{timer_over}
 use Rattle.st_laws_server.proofs.Reasserting.{lower}
-use Rattle.st_laws_server.proofs.Single.{Reassertions}
+use Rattle.st_laws_server.proofs.OneRow.{Once_each, row_found, alone}
+use Rattle.st_laws_server.proofs.Calm.{Reassertions}
 use Rattle.st_laws_server.proofs.Thefts.{within}
 
 -- thefts leave grace as it was
@@ -222,25 +223,25 @@ module _ (k : Config) (s : ℕ) (ended : ℕ → ℕ → ℕ) (w : World) (node 
   not_both false e f = cc
 
   -- and no other client's row conflicts
-  no_other : (t : Turn) (rows : List (ℕ × GrantNo × Mode)) → In_grace N Now t m rows → Single t.state.locks → Against t.state.locks (sender m.header) rows → ⊥
-  no_other t rows g single a =
+  no_other : (t : Turn) (rows : List (ℕ × GrantNo × Mode)) → In_grace N Now t m rows → Once_each t.state.locks → Against t.state.locks (sender m.header) rows → ⊥
+  no_other t rows g once a =
       let z = and_true (a.other.ino == a.row.0) _ a.stands in let y = and_true (not (a.other.client.0 == m.header.from)) _ z.1 in
       let at_ino : a.other.ino ≡ a.row.0 = eqb-true _ _ z.0 in
-      let there : row_of N.locks a.other.client a.row.0 ≡ Some a.other = subst (λ l. row_of l a.other.client a.row.0 ≡ Some a.other) (locks_met t rows g) (subst (λ i. row_of t.state.locks a.other.client i ≡ Some a.other) at_ino (single a.other a.there)) in
+      let there : row_of N.locks a.other.client a.row.0 ≡ Some a.other = subst (λ l. row_of l a.other.client a.row.0 ≡ Some a.other) (locks_met t rows g) (subst (λ i. row_of t.state.locks a.other.client i ≡ Some a.other) at_ino (row_found t.state.locks once a.other a.there)) in
       let is = ap (λ o. (row_or (row_view o)).mode) there in
-      let wish = wishes t rows g a.row a.here in
-      let lock = ap (λ o. (lock_in_row o).mode) wish.alone in
+      let wish = wishes t rows g in
+      let lock = ap (λ o. (lock_in_row o).mode) (alone rows wish.once a.row a.here) in
       let some = st.compat.rows a.other.client a.row.0 a.other there in
       let most = no_conflict k (pairs s ended w node G) ok st.reached m.header.from a.other.client.0 a.row.0 m.header.life m.header.stamp (λ i. lock_in rows i)
-      (λ e. not_both (a.other.client.0 == m.header.from) (eq-eqb a.other.client.0 m.header.from (sym e)) (not_true _ y.0)) runs (on_before t rows g) (in_net t rows g) (let v = wish.some in omega arith) (omega arith) in
+      (λ e. not_both (a.other.client.0 == m.header.from) (eq-eqb a.other.client.0 m.header.from (sym e)) (not_true _ y.0)) runs (on_before t rows g) (in_net t rows g) (let v = wish.some a.row a.here in omega arith) (omega arith) in
       let sum = sum_of a.other.mode a.row.2 y.1 in
       absurd (omega arith)
 
   pub reassertions : Reassertions N Now (Control m)
   reassertions = record {
-    alone = λ t m2 rows e g r h. (wishes t rows (mine t m2 rows e g) r h).alone;
+    differ = λ t m2 rows e g. (wishes t rows (mine t m2 rows e g)).once;
     none = λ t m2 rows e g ino. subst (λ (x : Message). row_of t.state.locks (sender x.header) ino ≡ None) (same m2 e) (no_row_met t rows (mine t m2 rows e g) ino);
-    calm = λ t m2 rows r e g single acc. calmly t rows r (mine t m2 rows e g) single (subst (λ (x : Message). accept t.state.grace Now (sender x.header) (life_in x.header) rows t.state.locks t.state.sessions ≡ Err r) (sym (same m2 e)) acc);
+    calm = λ t m2 rows r e g once acc. calmly t rows r (mine t m2 rows e g) once (subst (λ (x : Message). accept t.state.grace Now (sender x.header) (life_in x.header) rows t.state.locks t.state.sessions ≡ Err r) (sym (same m2 e)) acc);
   }
     where
       same : (m2 : Message) → ◌≡◌ {A = ServerInput} (Control m) (Control m2) → m ≡ m2
@@ -249,19 +250,19 @@ module _ (k : Config) (s : ℕ) (ended : ℕ → ℕ → ℕ) (w : World) (node 
       mine : (t : Turn) (m2 : Message) (rows : List (ℕ × GrantNo × Mode)) → ◌≡◌ {A = ServerInput} (Control m) (Control m2) → In_grace N Now t m2 rows → In_grace N Now t m rows
       mine t m2 rows e g = subst (λ x. In_grace N Now t x rows) (sym (same m2 e)) g
 
-      calmly : (t : Turn) (rows : List (ℕ × GrantNo × Mode)) (r : AcceptRefusal) → In_grace N Now t m rows → Single t.state.locks → accept t.state.grace Now (sender m.header) (life_in m.header) rows t.state.locks t.state.sessions ≡ Err r →
+      calmly : (t : Turn) (rows : List (ℕ × GrantNo × Mode)) (r : AcceptRefusal) → In_grace N Now t m rows → Once_each t.state.locks → accept t.state.grace Now (sender m.header) (life_in m.header) rows t.state.locks t.state.sessions ≡ Err r →
           is_conflict (refused_reassertion r) ≡ false
-      calmly t rows r g single acc = go (why t.state.grace Now t.state.locks t.state.sessions (sender m.header) m.header.life rows r g.on acc)
+      calmly t rows r g once acc = go (why t.state.grace Now t.state.locks t.state.sessions (sender m.header) m.header.life rows r g.on acc)
         where
           go : Why_refused t.state.locks (sender m.header) m.header.life rows r → is_conflict (refused_reassertion r) ≡ false
           go (Calmly z) = z
           go (By_own x h c l) =
               absurd (not_both (is_row_of (sender m.header) x.ino x) (and_both _ _ (eq-eqb _ _ c) (eq-eqb x.ino x.ino refl)) (none_has (is_row_of (sender m.header) x.ino) t.state.locks.rows (no_row_met t rows g x.ino) x h))
-          go (By_other a) = absurd (no_other t rows g single a)
+          go (By_other a) = absurd (no_other t rows g once a)
 
 -- on a tick nothing is reasserted
 pub no_reassertions : (n : ServerState) (now : Stamp) → Reassertions n now Tick
-no_reassertions n now = record { alone = λ t m rows e. absurd (never m e); none = λ t m rows e. absurd (never m e); calm = λ t m rows r e. absurd (never m e) }
+no_reassertions n now = record { differ = λ t m rows e. absurd (never m e); none = λ t m rows e. absurd (never m e); calm = λ t m rows r e. absurd (never m e) }
   where
     never : (m : Message) → ◌≡◌ {A = ServerInput} Tick (Control m) → ⊥
     never m e = cc

@@ -5,7 +5,6 @@ use Rattle.st_base.specs.declared.ids.ClientId.{ClientId}
 use Rattle.st_base.specs.declared.ids.Life.{Life}
 use Rattle.st_base.specs.declared.ids.NodeId.TheVariants as nodes
 use Rattle.st_base.specs.declared.ids.ServerId.{ServerId}
-use Rattle.st_base.specs.declared.ids.Stamp.{Stamp}
 use Rattle.st_base.specs.Mode.{number_of, conflicts}
 use Rattle.st_messages.specs.declared.event.Event.{Event}
 use Rattle.st_messages.specs.declared.event.Event.TheVariants as events
@@ -17,10 +16,10 @@ use Rattle.st_rules.specs.declared.sessions.SessionState.TheVariants.{Live, Ende
 use Rattle.st_rules.specs.declared.world.SentMessage.{SentMessage}
 use Rattle.st_rules.specs.Locks.{Locks, row_of}
 use Rattle.st_rules.specs.declared.authority.Suspect.{Suspect}
+use Rattle.st_rules.specs.ServerInvariants.{are_once, same_row}
 use Rattle.st_rules.specs.Sessions.{session_of}
-use Rattle.st_rules.specs.Grace as grace
 use Rattle.st_rules.specs.Server.{ServerState, ServerNode}
-use Rattle.st_rules.specs.World.{World, ClientSite, clock_of, site_of, ended_of, message_of, receiver_of, server}
+use Rattle.st_rules.specs.World.{World, ClientSite, site_of, ended_of, message_of, receiver_of, server}
 use Rattle.st_rules.specs.Events.{Scene}
 use Rattle.st_rules.specs.History.{Traced}
 use Rattle.st_rules.specs.Safety.{is_late, is_conflict, is_no_conflict}
@@ -80,19 +79,15 @@ pub record After_advance (k : Config) (s : ℕ) (ended : ℕ → ℕ → ℕ) (v
   pub timed : Timed k s v ghosts
   pub nets : (c : ℕ) → (ghosts c).net ≡ (G c).net
 
--- a client has one row on a file
-abbrev pub Single : Locks → Type 0
-Single l = (r : LockRow) → Has r l.rows → row_of l r.client r.ino ≡ Some r
-
 -- a kept reply is no conflict
 abbrev pub Calm_state : SessionState → Type 0
 Calm_state (Live last None) = Unit {0}
 Calm_state (Live last (Some b)) = is_conflict b ≡ false
 Calm_state Ended = Unit {0}
 
--- What no conflict rests on at a server: in grace each client has one row on a file, and no kept reply is a conflict.
-pub record Calm (n : ServerState) (now : Stamp) : Type 0 where
-  pub single : grace.is_on n.grace now ≡ true → Single n.locks
+-- What no conflict rests on at a server: each client has one row on a file, and no kept reply is a conflict.
+pub record Calm (n : ServerState) : Type 0 where
+  pub once : are_once same_row n.locks.rows ≡ true
   pub kept : (s : Session) → Has s n.sessions.rows → Calm_state s.state
 
 -- After a step of a server all stands again, its thefts were late for every lease that a reply dated, and it sent no conflict.
@@ -103,6 +98,6 @@ pub record After_step (k : Config) (s : ℕ) (ended : ℕ → ℕ → ℕ) (w : 
   pub stands : Stands k s ended sc.world node ghosts
   pub late : (t : Traced) → t.world ≡ w → Dates_known w t.history.dates → ((c : ℕ) → Dates_shown k.lease c s t.history.dates (G c).net) →
       list_all (is_late t) sc.seen ≡ true
-  pub calm : Calm before.state (clock_of w (nodes.Server (server s))) → Calm node.state (clock_of sc.world (nodes.Server (server s)))
+  pub calm : Calm before.state → Calm node.state
   pub few : Few w.net.bytes before.state → Few sc.world.net.bytes node.state
-  pub quiet : Calm before.state (clock_of w (nodes.Server (server s))) → list_all is_no_conflict sc.seen ≡ true
+  pub quiet : Calm before.state → list_all is_no_conflict sc.seen ≡ true

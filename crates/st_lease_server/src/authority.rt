@@ -1,6 +1,6 @@
 ghost use Rattle.std.specs.Prelude.{◌≡◌, true, IfOk, IsOk, OnOk, OnErr};
 ghost use Rattle.st_base.specs.Config as settings;
-ghost use Rattle.st_rules.specs.Authority as rules;
+ghost use Rattle.st_rules.specs.Authority as authority;
 ghost use Rattle.st_rules.specs.ServerInvariants.{are_rising};
 
 use crate::timers::{clients_over, drop_over, start_timer, tell_clients, timer_of};
@@ -20,14 +20,14 @@ pub struct Authority {
 
 impl Model for Authority {
     ghost use Rattle.std.specs.Prelude.{◌≡◌, true, map};
-    ghost use Rattle.st_rules.specs.Authority as shared;
+    ghost use Rattle.st_rules.specs.Authority as authority;
     ghost use Rattle.st_rules.specs.ServerInvariants.{are_rising};
 
-    ghost Value = { shared.Authority };
+    ghost Value = { authority.Authority };
 
     ghost view = { λ a. record { wait = a.wait; suspects = a.timers.items } };
 
-    ghost invariant = { λ a. (are_rising a.timers.items ≡ true) × (a.clients.items ≡ map shared.client_of_suspect a.timers.items) };
+    ghost invariant = { λ a. (are_rising a.timers.items ≡ true) × (a.clients.items ≡ map authority.client_of_suspect a.timers.items) };
 }
 
 impl Authority {
@@ -35,7 +35,7 @@ impl Authority {
     #[tactic(auto, unfolding(st_rules::specs::ServerInvariants::are_rising))]
     pub fn new(alloc: Global, config: &Config) -> Authority
         requires checked { IsOk (settings.check config.now) }
-        ensures none { result ≡ rules.no_suspects config.now }
+        ensures none { result ≡ authority.no_suspects config.now }
     {
         Authority {
             wait: steal_wait(config),
@@ -48,7 +48,7 @@ impl Authority {
     /// nothing changes.
     #[tactic(auto, unfolding(st_rules::specs::Authority::suspect))]
     pub fn suspect(&mut self, client: ClientId, now: Stamp) -> Result<(), AllocError>
-        ensures ok { OnOk result (self.new ≡ rules.suspect self.old client now) }
+        ensures ok { OnOk result (self.new ≡ authority.suspect self.old client now) }
         ensures err { OnErr result (self.new ≡ self.old) }
     {
         if self.may_ack(client) {
@@ -60,8 +60,8 @@ impl Authority {
     /// Starts the timer of a client whose timer does not run.
     #[tactic(auto, unfolding(st_rules::specs::Authority::start_timer))]
     fn start(&mut self, client: ClientId, now: Stamp) -> Result<(), AllocError>
-        requires { rules.may_ack self.old client ≡ true }
-        ensures ok { OnOk result (self.new ≡ rules.start_timer self.old client now) }
+        requires { authority.may_ack self.old client ≡ true }
+        ensures ok { OnOk result (self.new ≡ authority.start_timer self.old client now) }
         ensures err { OnErr result (self.new ≡ self.old) }
     {
         self.clients.reserve(1)?;
@@ -72,14 +72,14 @@ impl Authority {
 
     /// Whether the server may acknowledge messages of the client: exactly while no timer of it runs. It does not allocate.
     pub fn may_ack(&self, client: ClientId) -> bool
-        ensures { result ≡ rules.may_ack self.now client }
+        ensures { result ≡ authority.may_ack self.now client }
     {
         timer_of(&self.timers, client).is_none()
     }
 
     /// Since when the client's timer runs, or `None` where it does not run. It does not allocate.
     pub fn started(&self, client: ClientId) -> Option<Stamp>
-        ensures { result ≡ rules.started self.now client }
+        ensures { result ≡ authority.started self.now client }
     {
         let timer = timer_of(&self.timers, client)?;
         Some(timer.start)
@@ -89,8 +89,8 @@ impl Authority {
     /// them in rising order. If the call runs out of memory, nothing changes.
     #[tactic(auto, unfolding(st_rules::specs::Authority::over, st_rules::specs::Authority::still_running))]
     pub fn over(&mut self, now: Stamp) -> Result<Vec<ClientId>, AllocError>
-        ensures told { IfOk result (λ v. v.items ≡ rules.over self.old now) }
-        ensures left { OnOk result (self.new ≡ rules.still_running self.old now) }
+        ensures told { IfOk result (λ v. v.items ≡ authority.over self.old now) }
+        ensures left { OnOk result (self.new ≡ authority.still_running self.old now) }
         ensures err { OnErr result (self.new ≡ self.old) }
     {
         let alloc = *self.timers.allocator();
@@ -102,7 +102,7 @@ impl Authority {
 
     /// The clients whose timer runs, in rising order. It does not allocate.
     pub fn suspects(&self) -> &[ClientId]
-        ensures suspects { result.now ≡ rules.suspects_of self.now }
+        ensures suspects { result.now ≡ authority.suspects_of self.now }
         ensures rising { are_rising self.now.suspects ≡ true }
     {
         &self.clients

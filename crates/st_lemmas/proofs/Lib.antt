@@ -1,6 +1,7 @@
 pub mod Tables
 pub mod Lookups
 pub mod Puts
+pub mod Once
 pub mod Keys
 pub mod Numbers
 pub mod Contents

@@ -5,3 +5,5 @@ pub mod Grants
 pub mod Installing
 pub mod Ways
 pub mod Files
+pub mod Overdue
+pub mod Sound

@@ -1,5 +1,5 @@
 -- Since when a row waits for an answer.
-use Rattle.std.specs.Prelude.{◌≡◌, ℕ, Bool, true, false, ◌&&◌, ◌==◌, List, find, Option, Some, None, ⊤}
+use Rattle.std.specs.Prelude.{◌≡◌, ℕ, ◌+◌, nat_le, Bool, true, false, not, ◌&&◌, ◌||◌, ◌==◌, List, find, Option, Some, None, ⊤}
 use Rattle.std.specs.BTreeSet.{BTreeSet, contains}
 use Rattle.st_tables.specs.Tables.{is_client}
 use Rattle.st_rules.specs.Locks.{is_row_of}
@@ -46,3 +46,34 @@ KeepsSince (Some since) new = new ≡ Some since
 -- the set has each row's moment, file and client, where the row waits for an answer, and nothing else
 abbrev pub AreListed : List LockRow → BTreeSet (Stamp × ℕ × ClientId) → Type 0
 AreListed rows set = (s : Stamp) (i : ℕ) (c : ClientId) → contains wait_order set (s, i, c) ≡ is_since s (since_of (find (is_row_of c i) rows))
+
+-- the set of waiting demands
+abbrev pub Waits : Type 0
+Waits = BTreeSet (Stamp × ℕ × ClientId)
+
+-- the demand on this client and file, which waits since then
+abbrev pub is_wait : Option Stamp → ℕ → ClientId → Stamp → ℕ → ClientId → Bool
+is_wait since ino client s i c = is_since s since && (same_client c client && (i == ino))
+
+-- one demand, if it waits, is in the set no more
+abbrev pub TakesOut : Option Stamp → ℕ → ClientId → Waits → Waits → Type 0
+TakesOut since ino client old new =
+    (s : Stamp) (i : ℕ) (c : ClientId) → contains wait_order new (s, i, c) ≡ contains wait_order old (s, i, c) && not (is_wait since ino client s i c)
+
+-- one demand, if it waits, is in the set too
+abbrev pub PutsIn : Option Stamp → ℕ → ClientId → Waits → Waits → Type 0
+PutsIn since ino client old new =
+    (s : Stamp) (i : ℕ) (c : ClientId) → contains wait_order new (s, i, c) ≡ contains wait_order old (s, i, c) || is_wait since ino client s i c
+
+-- no demand on this client is in the set any more
+abbrev pub Forgets : ClientId → Waits → Waits → Type 0
+Forgets client old new =
+    (s : Stamp) (i : ℕ) (c : ClientId) → contains wait_order new (s, i, c) ≡ contains wait_order old (s, i, c) && not (same_client c client)
+
+-- a demand waits so long and longer
+abbrev pub is_late : ℕ → Stamp → Stamp × ℕ × ClientId → Bool
+is_late wait now k = nat_le (k.0.0 + wait) now.0
+
+-- a demand on the client waits so long and longer
+abbrev pub is_late_of : ℕ → Stamp → ℕ → Stamp × ℕ × ClientId → Bool
+is_late_of wait now c k = is_late wait now k && (k.2.0 == c)

@@ -1,13 +1,13 @@
 // The passes of a server's step: grants to those who wait, demands, and demands that went unanswered.
-ghost use Rattle.std.specs.Prelude.{◌≡◌, ◌≤◌, ◌<◌, ◌+◌, ◌^◌, ◌++◌, ◌∷◌, ◌&&◌, [], IfOk, IfSome, OnOk, OnErr, Some, find, filter, map, not, length, slice_get, None, false, nat_lt, nat_le, ◌==◌, if◌then◌else◌};
+ghost use Rattle.std.specs.Prelude.{◌≡◌, ◌≤◌, ◌<◌, ◌+◌, ◌^◌, ◌++◌, ◌∷◌, ◌&&◌, [], IfOk, IfSome, OnOk, OnErr, Some, find, filter, map, not, length, slice_get, None, false, true, nat_lt, nat_le, ◌==◌, if◌then◌else◌};
 ghost use Rattle.std.specs.List.{IsDistinct, list_any};
 ghost use Rattle.std.specs.Option.{option_copied, option_map, option_to_list};
 ghost use Rattle.st_rules.specs.Keys as keys;
-ghost use Rattle.st_rules.specs.Locks as rules;
+ghost use Rattle.st_rules.specs.Locks as locks;
 ghost use Rattle.st_locks.specs.Since.{IsClient, KeepsSince, since_of_demand};
-ghost use Rattle.st_locks.specs.Calls.{Answers, Gives, Installs, demanding, granting, same_file, told, with_one};
+ghost use Rattle.st_locks.specs.Calls.{demanding, file_demanded, file_granted, granting, is_lock, row_demanded, rows_demanded};
 
-use crate::rows::passed;
+use crate::since::passed;
 use crate::table::{LockTable, push_if};
 use st_base::{ClientId, Config, GrantNo, Life, Mode, Stamp};
 use st_rules::{LockRow, RowDemand, Waiter};
@@ -26,7 +26,7 @@ struct Pass {
 
 #[tactic(auto, unfolding(st_rules::specs::Locks::demanded))]
 fn demanded(row: LockRow, d: RowDemand) -> LockRow
-    ensures demanded { result ≡ rules.demanded d row }
+    ensures demanded { result ≡ locks.demanded d row }
     ensures demand { result.demand ≡ Some d }
     ensures same { (result.client ≡ row.client) × (result.ino ≡ row.ino) }
 {
@@ -41,7 +41,7 @@ fn demanded(row: LockRow, d: RowDemand) -> LockRow
 }
 
 fn waiting_since(now: Stamp, since: Option<Stamp>) -> Option<Stamp>
-    ensures since { result ≡ rules.waiting_since now since }
+    ensures since { result ≡ locks.waiting_since now since }
     ensures kept { KeepsSince since result }
 {
     match since {
@@ -51,7 +51,7 @@ fn waiting_since(now: Stamp, since: Option<Stamp>) -> Option<Stamp>
 }
 
 fn sent_again(now: Stamp, to: Mode, d: RowDemand) -> RowDemand
-    ensures again { result ≡ rules.sent_again now to d }
+    ensures again { result ≡ locks.sent_again now to d }
     ensures kept { KeepsSince d.since result.since }
 {
     RowDemand {
@@ -63,7 +63,7 @@ fn sent_again(now: Stamp, to: Mode, d: RowDemand) -> RowDemand
 
 #[tactic(auto, unfolding(st_rules::specs::Locks::demand_again))]
 fn demand_again(pass: Pass, d: RowDemand) -> Option<RowDemand>
-    ensures again { result ≡ rules.demand_again pass.config pass.now pass.tick d }
+    ensures again { result ≡ locks.demand_again pass.config pass.now pass.tick d }
     ensures kept { IfSome result (λ e. KeepsSince d.since e.since) }
 {
     if pass.tick && passed(d.sent, pass.config.retry, pass.now) {
@@ -75,7 +75,7 @@ fn demand_again(pass: Pass, d: RowDemand) -> Option<RowDemand>
 
 #[tactic(auto, unfolding(st_rules::specs::Locks::demand_lower))]
 fn demand_lower(pass: Pass, to: Mode, d: RowDemand) -> Option<RowDemand>
-    ensures lower { result ≡ rules.demand_lower pass.config pass.now pass.tick to d }
+    ensures lower { result ≡ locks.demand_lower pass.config pass.now pass.tick to d }
     ensures kept { IfSome result (λ e. KeepsSince d.since e.since) }
 {
     if to.number() < d.to.number() {
@@ -88,7 +88,7 @@ fn demand_lower(pass: Pass, to: Mode, d: RowDemand) -> Option<RowDemand>
 /// The demand that is sent now, if one is.
 #[tactic(auto, unfolding(st_rules::specs::Locks::demand_now))]
 fn demand_now(pass: Pass, to: Mode, demand: Option<RowDemand>) -> Option<RowDemand>
-    ensures now { result ≡ rules.demand_now pass.config pass.now pass.tick to demand }
+    ensures now { result ≡ locks.demand_now pass.config pass.now pass.tick to demand }
     ensures kept { IfSome result (λ d. KeepsSince (since_of_demand demand) d.since) }
 {
     match demand {
@@ -102,7 +102,7 @@ fn demand_now(pass: Pass, to: Mode, demand: Option<RowDemand>) -> Option<RowDema
 }
 
 fn wish(mode: Mode) -> Mode
-    ensures { result ≡ rules.wish mode }
+    ensures { result ≡ locks.wish mode }
 {
     match mode {
         Mode::X => Mode::None,
@@ -111,13 +111,13 @@ fn wish(mode: Mode) -> Mode
 }
 
 fn is_among(clients: &[ClientId], client: ClientId) -> bool
-    ensures { result ≡ rules.is_among clients.now client }
+    ensures { result ≡ locks.is_among clients.now client }
 {
     clients.iter().any(|c| c.0 == client.0)
 }
 
 fn drop_among(clients: &mut Vec<ClientId>, suspects: &[ClientId])
-    ensures { clients.new.items ≡ filter (λ c. not (rules.is_among suspects.now c)) clients.old.items }
+    ensures { clients.new.items ≡ filter (λ c. not (locks.is_among suspects.now c)) clients.old.items }
 {
     clients.retain(|c| !is_among(suspects, *c));
 }
@@ -125,8 +125,10 @@ fn drop_among(clients: &mut Vec<ClientId>, suspects: &[ClientId])
 impl LockTable {
     /// The first waiter of the file, where no other client's row conflicts.
     fn next_waiter(&self, ino: u32) -> Option<Waiter>
-        ensures next { result ≡ rules.next_waiter self.now ino }
+        ensures next { result ≡ locks.next_waiter self.now ino }
         ensures client { IfSome result (λ w. IsClient w.client) }
+        ensures lock { IfSome result (λ w. is_lock w.mode ≡ true) }
+        ensures free { IfSome result (λ w. list_any (locks.stands_against w.client w.ino w.mode) self.now.rows ≡ false) }
     {
         let _waits = self.waits.len();
         let w = self.waits.first_on(ino)?;
@@ -141,7 +143,9 @@ impl LockTable {
     fn grant_waiter(&mut self, granted: &mut Vec<Sent>, w: Waiter) -> Result<(), AllocError>
         requires client { IsClient w.client }
         requires room { self.old.grants + 1 < 2 ^ 32 }
-        ensures { OnOk result (granting self.new granted.new.items ≡ rules.grant_waiter (granting self.old granted.old.items) w) }
+        requires lock { is_lock w.mode ≡ true }
+        requires free { list_any (locks.stands_against w.client w.ino w.mode) self.old.rows ≡ false }
+        ensures { OnOk result (granting self.new granted.new.items ≡ locks.grant_waiter (granting self.old granted.old.items) w) }
     {
         let g = self.next_grant();
         self.grant(w.client, w.life, w.ino, w.mode)?;
@@ -152,7 +156,7 @@ impl LockTable {
     #[tactic(auto, unfolding(st_rules::specs::Locks::grant_file))]
     fn grant_file(&mut self, granted: &mut Vec<Sent>, ino: u32) -> Result<(), AllocError>
         requires { self.old.grants + length self.old.waiters < 2 ^ 32 }
-        ensures ok { OnOk result (granting self.new granted.new.items ≡ rules.grant_file ino (length self.old.waiters) (granting self.old granted.old.items)) }
+        ensures ok { OnOk result (granting self.new granted.new.items ≡ file_granted ino (granting self.old granted.old.items)) }
         ensures room { OnOk result (self.new.grants + length self.new.waiters < 2 ^ 32) }
     {
         let most = self.waits.len();
@@ -171,7 +175,7 @@ impl LockTable {
     #[tactic(auto, unfolding(st_rules::specs::Locks::next_grants, st_rules::specs::Locks::grant_files))]
     pub fn next_grants(&mut self) -> Result<Vec<Sent>, AllocError>
         requires { self.old.grants + length self.old.waiters < 2 ^ 32 }
-        ensures { IfOk result (λ v. rules.next_grants self.old ≡ granting self.new v.items) }
+        ensures { IfOk result (λ v. locks.next_grants self.old ≡ granting self.new v.items) }
     {
         let alloc = self.alloc;
         let files = self.waited_files()?;
@@ -189,9 +193,9 @@ impl LockTable {
         row: LockRow,
         d: RowDemand,
     ) -> Result<(), AllocError>
-        requires row { rules.row_of self.old row.client row.ino ≡ Some row }
+        requires row { locks.row_of self.old row.client row.ino ≡ Some row }
         requires kept { KeepsSince (since_of_demand row.demand) d.since }
-        ensures { OnOk result (demanding self.new due.new.items ≡ rules.demand_with (demanding self.old due.old.items) row (Some d)) }
+        ensures { OnOk result (demanding self.new due.new.items ≡ locks.demand_with (demanding self.old due.old.items) row (Some d)) }
     {
         self.rows.demand(row, demanded(row, d))?;
         due.push((row.client, row.life, row.ino, row.g, d.to))?;
@@ -208,7 +212,7 @@ impl LockTable {
         client: ClientId,
         ino: u32,
     ) -> Result<(), AllocError>
-        ensures { OnOk result (demanding self.new due.new.items ≡ rules.demand_row pass.config pass.now pass.tick to (rules.row_of self.old client ino) (demanding self.old due.old.items)) }
+        ensures { OnOk result (demanding self.new due.new.items ≡ row_demanded pass to client ino (demanding self.old due.old.items)) }
     {
         match self.row_at(client, ino) {
             None => Ok(()),
@@ -228,7 +232,7 @@ impl LockTable {
         to: Mode,
         clients: &[ClientId],
     ) -> Result<(), AllocError>
-        ensures { OnOk result (demanding self.new due.new.items ≡ rules.demand_clients pass.config pass.now pass.tick ino to clients.now (demanding self.old due.old.items)) }
+        ensures { OnOk result (demanding self.new due.new.items ≡ rows_demanded pass ino to clients.now (demanding self.old due.old.items)) }
     {
         for client in clients {
             self.demand_row(due, pass, to, *client, ino)?;
@@ -237,7 +241,7 @@ impl LockTable {
     }
 
     fn to_demand(&self, suspects: &[ClientId], w: Waiter) -> Result<Vec<ClientId>, AllocError>
-        ensures { IfOk result (λ v. v.items ≡ rules.to_demand self.now suspects.now w) }
+        ensures { IfOk result (λ v. v.items ≡ locks.to_demand self.now suspects.now w) }
     {
         let alloc = self.alloc;
         let mut clients = self.rows.clients_against(alloc, w.client, w.ino, w.mode)?;
@@ -253,7 +257,7 @@ impl LockTable {
         suspects: &[ClientId],
         ino: u32,
     ) -> Result<(), AllocError>
-        ensures { OnOk result (demanding self.new due.new.items ≡ rules.demand_for pass.config pass.now pass.tick suspects.now (find (rules.is_wait_on ino) self.old.waiters) (demanding self.old due.old.items)) }
+        ensures { OnOk result (demanding self.new due.new.items ≡ file_demanded pass suspects.now ino (demanding self.old due.old.items)) }
     {
         match self.waits.first_on(ino) {
             None => Ok(()),
@@ -273,7 +277,7 @@ impl LockTable {
         suspects: &[ClientId],
         config: Config,
     ) -> Result<Vec<Sent>, AllocError>
-        ensures { IfOk result (λ v. rules.demands_due self.old now tick suspects.now config ≡ demanding self.new v.items) }
+        ensures { IfOk result (λ v. locks.demands_due self.old now tick suspects.now config ≡ demanding self.new v.items) }
     {
         let pass = Pass { config, now, tick };
         let alloc = self.alloc;
@@ -292,7 +296,8 @@ impl LockTable {
         self.grants + (self.waits.len() as u64) < 4294967296
     }
 
-    /// The clients that left a demand unanswered for the time that the settings give, in rising order.
+    /// The clients that left a demand unanswered for the time that the settings give, in rising order. It looks at the rows of
+    /// those demands and at one more, however many there are.
     #[tactic(auto, unfolding(st_rules::specs::Locks::unanswered))]
     pub fn unanswered(
         &self,
@@ -300,17 +305,13 @@ impl LockTable {
         now: Stamp,
         config: Config,
     ) -> Result<Vec<ClientId>, AllocError>
-        ensures { IfOk result (λ v. v.items ≡ rules.unanswered self.now now config) }
+        ensures { IfOk result (λ v. v.items ≡ locks.unanswered self.now now config) }
     {
         let _rows = self.rows.len();
+        let late = self.rows.overdue(now, config);
         let mut found = Vec::new(alloc);
         for i in 0..16u16 {
-            let client = ClientId(i + 1);
-            push_if(
-                &mut found,
-                client,
-                self.rows.is_overdue(client, now, config),
-            )?;
+            push_if(&mut found, ClientId(i + 1), late[i as usize + 1])?;
         }
         Ok(found)
     }

@@ -3,7 +3,7 @@ ghost use Rattle.std.specs.Prelude.{◌≡◌, ◌≤◌, ◌<◌, ◌+◌, ◌^
 ghost use Rattle.std.specs.List.{IsDistinct, list_any};
 ghost use Rattle.std.specs.Option.{option_copied, option_map, option_to_list};
 ghost use Rattle.st_rules.specs.Keys as keys;
-ghost use Rattle.st_rules.specs.Locks as rules;
+ghost use Rattle.st_rules.specs.Locks as locks;
 ghost use Rattle.st_locks.specs.Since.{IsClient, KeepsSince, since_of_demand};
 ghost use Rattle.st_locks.specs.Calls.{Answers, Gives, Installs, demanding, granting, same_file, told, with_one};
 
@@ -13,7 +13,7 @@ use st_rules::{LockRow, RowDemand};
 
 #[tactic(auto, unfolding(st_rules::specs::Locks::unless_met))]
 fn demand_lowered(demand: Option<RowDemand>) -> Option<RowDemand>
-    ensures lowered { result ≡ rules.demand_lowered demand }
+    ensures lowered { result ≡ locks.demand_lowered demand }
     ensures quiet { since_of_demand result ≡ None }
 {
     match demand {
@@ -35,7 +35,7 @@ fn demand_lowered(demand: Option<RowDemand>) -> Option<RowDemand>
 /// A row that is shared.
 #[tactic(auto, unfolding(st_rules::specs::Locks::lowered))]
 fn lowered(row: LockRow) -> LockRow
-    ensures lowered { result ≡ rules.lowered row }
+    ensures lowered { result ≡ locks.lowered row }
     ensures same { (result.client ≡ row.client) × (result.ino ≡ row.ino) }
     ensures quiet { since_of_demand result.demand ≡ None }
 {
@@ -50,7 +50,7 @@ fn lowered(row: LockRow) -> LockRow
 }
 
 fn demand_answered(demand: Option<RowDemand>) -> Option<RowDemand>
-    ensures answered { result ≡ option_map rules.answered_demand demand }
+    ensures answered { result ≡ option_map locks.answered_demand demand }
     ensures quiet { since_of_demand result ≡ None }
 {
     match demand {
@@ -66,7 +66,7 @@ fn demand_answered(demand: Option<RowDemand>) -> Option<RowDemand>
 /// A row whose demand was seen.
 #[tactic(auto, unfolding(st_rules::specs::Locks::answered_row))]
 fn seen(row: LockRow) -> LockRow
-    ensures seen { result ≡ rules.answered_row row }
+    ensures seen { result ≡ locks.answered_row row }
     ensures same { (result.client ≡ row.client) × (result.ino ≡ row.ino) }
     ensures quiet { since_of_demand result.demand ≡ None }
 {
@@ -84,7 +84,7 @@ impl LockTable {
     /// All rows and waits of the client go.
     #[tactic(auto, unfolding(st_rules::specs::Locks::forget))]
     pub fn forget(&mut self, client: ClientId)
-        ensures { self.new ≡ rules.forget self.old client }
+        ensures { self.new ≡ locks.forget self.old client }
     {
         self.rows.forget(client);
         self.waits.forget(client);
@@ -93,7 +93,7 @@ impl LockTable {
     /// All waits of the client go.
     #[tactic(auto, unfolding(st_rules::specs::Locks::drop_waits))]
     pub fn drop_waits(&mut self, client: ClientId)
-        ensures { self.new ≡ rules.drop_waits self.old client }
+        ensures { self.new ≡ locks.drop_waits self.old client }
     {
         self.waits.forget(client);
     }
@@ -101,7 +101,7 @@ impl LockTable {
     /// All waits for the file go.
     #[tactic(auto, unfolding(st_rules::specs::Locks::drop_file_waits))]
     pub fn drop_file_waits(&mut self, ino: u32)
-        ensures { self.new ≡ rules.drop_file_waits self.old ino }
+        ensures { self.new ≡ locks.drop_file_waits self.old ino }
     {
         self.waits.drop_on(ino);
     }
@@ -109,9 +109,9 @@ impl LockTable {
     /// The client's row, lowered or gone.
     #[tactic(auto, unfolding(st_rules::specs::Locks::release_to))]
     fn release_to(&mut self, client: ClientId, ino: u32, row: LockRow, to: Mode)
-        requires found { rules.row_of self.old client ino ≡ Some row }
+        requires found { locks.row_of self.old client ino ≡ Some row }
         requires same { (row.client ≡ client) × (row.ino ≡ ino) }
-        ensures { self.new ≡ rules.release_to self.old client ino to }
+        ensures { self.new ≡ locks.release_to self.old client ino to }
     {
         match to {
             Mode::None => self.rows.remove(client, ino),
@@ -123,7 +123,7 @@ impl LockTable {
     /// The client lowers its lock of the file to this mode; false exactly where it has none of this life and grant number.
     #[tactic(auto, unfolding(st_rules::specs::Locks::released, st_rules::specs::Locks::released_at, st_rules::specs::Locks::release, st_rules::specs::Locks::not_released))]
     pub fn released(&mut self, client: ClientId, life: Life, ino: u32, g: GrantNo, to: Mode) -> bool
-        ensures { rules.released self.old client life ino g to ≡ record { locks = self.new; found = result } }
+        ensures { locks.released self.old client life ino g to ≡ record { locks = self.new; found = result } }
     {
         match self.row_at(client, ino) {
             None => false,
@@ -141,7 +141,7 @@ impl LockTable {
     /// The demand on the client's row of the file and grant number waits for no answer.
     #[tactic(auto, unfolding(st_rules::specs::Locks::demand_seen))]
     pub fn answered(&mut self, client: ClientId, ino: u32, g: GrantNo)
-        ensures { self.new ≡ rules.demand_seen self.old client ino g }
+        ensures { self.new ≡ locks.demand_seen self.old client ino g }
     {
         let _rows = self.rows.len();
         if let Some(row) = self.row_at(client, ino) {

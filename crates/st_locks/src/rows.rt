@@ -1,5 +1,5 @@
 // The lock rows: by client and file, counted by client, and those that wait for an answer by the moment.
-ghost use Rattle.std.specs.Prelude.{◌≡◌, ◌<◌, ◌^◌, ◌&&◌, ◌==◌, ◌+◌, ℕ, [], IfOk, IfSome, OnOk, OnErr, None, Some, find, filter, map, not, length, if◌then◌else◌, true, nat_le};
+ghost use Rattle.std.specs.Prelude.{◌≡◌, ◌<◌, ◌^◌, ◌&&◌, ◌==◌, ℕ, [], IfOk, IfSome, OnOk, OnErr, None, Some, find, filter, map, not, length, if◌then◌else◌, true, false, slice_index_or};
 ghost use Rattle.std.specs.List.{IsDistinct, list_all, list_any};
 ghost use Rattle.std.specs.BTreeSet.{contains};
 ghost use Rattle.st_base.specs.declared.ids.ClientId.{ClientId};
@@ -7,12 +7,13 @@ ghost use Rattle.st_base.specs.declared.ids.Stamp.{Stamp};
 ghost use Rattle.st_rules.specs.declared.locks.LockRow.{LockRow};
 ghost use Rattle.st_base.specs.Mode.{conflicts};
 ghost use Rattle.st_rules.specs.Keys as keys;
-ghost use Rattle.st_rules.specs.Locks as rules;
-ghost use Rattle.st_tables.specs.Tables.{is_of_client, lock_key, same_key};
-ghost use Rattle.st_locks.specs.Since.{IsClient, KeepsSince, is_since, since_of, since_of_demand, wait_order};
+ghost use Rattle.st_rules.specs.Locks as locks;
+ghost use Rattle.st_tables.specs.Tables.{Changes, is_of_client, lock_key, same_key};
+ghost use Rattle.st_locks.specs.Calls.{clients_of, is_row_from};
+ghost use Rattle.st_locks.specs.Since.{AreListed, IsClient, KeepsSince, since_of, since_of_demand};
 
-use crate::since::{Unanswered, forget, put_in, take_out};
-use st_base::{ClientId, Config, Mode, Stamp};
+use crate::since::{Unanswered, forget, overdue, put_in, take_out};
+use st_base::{ClientId, Config, Life, Mode, Stamp};
 use st_rules::{LockRow, RowDemand};
 use st_tables::{ClientTable, Every, Key, Test};
 use std::alloc::{AllocError, Global};
@@ -66,50 +67,6 @@ impl Test<LockRow> for Against {
     }
 }
 
-/// Whether at least this time has passed since a moment.
-pub fn passed(since: Stamp, wait: u64, now: Stamp) -> bool
-    ensures { result ≡ nat_le (since.0 + wait) now.0 }
-{
-    wait <= now.0 && since.0 <= now.0 - wait
-}
-
-fn is_overdue_since(since: Option<Stamp>, now: Stamp, config: Config) -> bool
-    ensures { result ≡ rules.is_overdue_since config now since }
-{
-    match since {
-        None => false,
-        Some(since) => passed(since, config.demand, now),
-    }
-}
-
-fn is_overdue_row(row: &LockRow, now: Stamp, config: Config) -> bool
-    ensures { result ≡ rules.is_overdue config now row.now }
-{
-    match row.demand {
-        None => false,
-        Some(d) => is_overdue_since(d.since, now, config),
-    }
-}
-
-/// A client's rows whose demands wait too long for their answers.
-#[derive(Clone, Copy)]
-struct Overdue {
-    client: ClientId,
-    now: Stamp,
-    config: Config,
-}
-
-impl Test<LockRow> for Overdue {
-    ghost use Rattle.std.specs.Prelude.{◌&&◌, ◌==◌};
-    ghost use Rattle.st_rules.specs.Locks.{is_overdue};
-
-    ghost passes = { λ t r. is_overdue t.config t.now r && (r.client.0 == t.client.0) };
-
-    fn test(&self, row: &LockRow) -> bool {
-        is_overdue_row(row, self.now, self.config) && row.client.0 == self.client.0
-    }
-}
-
 /// A client's rows.
 #[derive(Clone, Copy)]
 struct OfClient {
@@ -123,6 +80,23 @@ impl Test<LockRow> for OfClient {
 
     fn test(&self, row: &LockRow) -> bool {
         row.client.0 == self.client.0
+    }
+}
+
+/// A client's rows of a life or a higher one.
+#[derive(Clone, Copy)]
+struct FromLife {
+    client: ClientId,
+    life: Life,
+}
+
+impl Test<LockRow> for FromLife {
+    ghost use Rattle.st_locks.specs.Calls.{is_row_from};
+
+    ghost passes = { λ t r. is_row_from t.client t.life r };
+
+    fn test(&self, row: &LockRow) -> bool {
+        row.client.0 == self.client.0 && self.life.0 <= row.life.0
     }
 }
 
@@ -168,14 +142,14 @@ impl Rows {
 
     /// How many rows the client has.
     pub fn count(&self, client: ClientId) -> u64
-        ensures { result ≡ length (filter (rules.is_row_by client) self.now) }
+        ensures { result ≡ length (filter (locks.is_row_by client) self.now) }
     {
         self.table.count(client)
     }
 
     /// The client's row of the file.
     pub fn get(&self, client: ClientId, ino: u32) -> Option<LockRow>
-        ensures row { result ≡ find (rules.is_row_of client ino) self.now }
+        ensures row { result ≡ find (locks.is_row_of client ino) self.now }
         ensures same { IfSome result (λ r. (r.client ≡ client) × (r.ino ≡ ino)) }
     {
         self.table.get(key(client, ino)).copied()
@@ -183,7 +157,7 @@ impl Rows {
 
     /// The demands that wait for an answer: since when, of which file, of which client.
     pub fn by_since(&self) -> &BTreeSet<Unanswered>
-        ensures { (s : Stamp) (i : ℕ) (c : ClientId) → contains wait_order result.now (s, i, c) ≡ is_since s (since_of (find (rules.is_row_of c i) self.now)) }
+        ensures { AreListed self.now result.now }
     {
         &self.since
     }
@@ -192,7 +166,7 @@ impl Rows {
     pub fn put(&mut self, row: LockRow) -> Result<(), AllocError>
         requires client { IsClient row.client }
         requires fresh { row.demand ≡ None }
-        ensures ok { OnOk result (self.new ≡ rules.with_row row self.old) }
+        ensures ok { OnOk result (self.new ≡ locks.with_row row self.old) }
         ensures err { OnErr result (self.new ≡ self.old) }
     {
         let old = self.table.get(key(row.client, row.ino)).copied();
@@ -203,7 +177,7 @@ impl Rows {
 
     /// Takes out the client's row of the file.
     pub fn remove(&mut self, client: ClientId, ino: u32)
-        ensures { self.new ≡ rules.without_row client ino self.old }
+        ensures { self.new ≡ locks.without_row client ino self.old }
     {
         let old = self.table.get(key(client, ino)).copied();
         self.table.remove(key(client, ino));
@@ -213,7 +187,7 @@ impl Rows {
     /// Writes a row that waits for no answer over its client's row of the file, where it has one.
     pub fn change(&mut self, row: LockRow)
         requires { since_of_demand row.demand ≡ None }
-        ensures { (f : LockRow → LockRow) (v : LockRow) → find (rules.is_row_of row.client row.ino) self.old ≡ Some v → row ≡ f v → self.new ≡ map (λ r. if rules.is_row_of row.client row.ino r then f r else r) self.old }
+        ensures { Changes lock_key row self.old self.new }
     {
         let old = self.table.get(key(row.client, row.ino)).copied();
         self.table.change(row);
@@ -222,9 +196,10 @@ impl Rows {
 
     /// Writes a row over its client's row of the file, which has waited for an answer since the same moment or does not wait.
     pub fn demand(&mut self, old: LockRow, row: LockRow) -> Result<(), AllocError>
-        requires found { find (rules.is_row_of row.client row.ino) self.old ≡ Some old }
+        requires found { find (locks.is_row_of row.client row.ino) self.old ≡ Some old }
         requires since { KeepsSince (since_of_demand old.demand) (since_of_demand row.demand) }
-        ensures { OnOk result ((f : LockRow → LockRow) → row ≡ f old → self.new ≡ map (λ r. if rules.is_row_of row.client row.ino r then f r else r) self.old) }
+        ensures ok { OnOk result (Changes lock_key row self.old self.new) }
+        ensures err { OnErr result (self.new ≡ self.old) }
     {
         put_in(
             &mut self.since,
@@ -238,7 +213,7 @@ impl Rows {
 
     /// Takes out all rows of a client.
     pub fn forget(&mut self, client: ClientId)
-        ensures { self.new ≡ filter (λ r. not (rules.is_row_by client r)) self.old }
+        ensures { self.new ≡ filter (λ r. not (locks.is_row_by client r)) self.old }
     {
         self.table.forget(client);
         forget(&mut self.since, client);
@@ -246,14 +221,14 @@ impl Rows {
 
     /// Whether another client's row of the file conflicts with the mode.
     pub fn stands_against(&self, client: ClientId, ino: u32, mode: Mode) -> bool
-        ensures { result ≡ list_any (rules.stands_against client ino mode) self.now }
+        ensures { result ≡ list_any (locks.stands_against client ino mode) self.now }
     {
         self.table.any_on(ino, &Against { client, mode })
     }
 
     /// Whether this holder's row of the file, if it has one, conflicts with another client's mode.
     pub fn is_against(&self, client: ClientId, ino: u32, mode: Mode, holder: ClientId) -> bool
-        ensures { result ≡ list_any (λ r. rules.is_row_of holder ino r && (not (keys.same_client r.client client) && conflicts r.mode mode)) self.now }
+        ensures { result ≡ list_any (λ r. locks.is_row_of holder ino r && (not (keys.same_client r.client client) && conflicts r.mode mode)) self.now }
     {
         self.table.has(key(holder, ino), &Against { client, mode })
     }
@@ -266,32 +241,36 @@ impl Rows {
         ino: u32,
         mode: Mode,
     ) -> Result<Vec<ClientId>, AllocError>
-        ensures { IfOk result (λ v. v.items ≡ map keys.client (keys.rising (map rules.client_of_row (filter (rules.stands_against client ino mode) self.now)))) }
+        ensures { IfOk result (λ v. v.items ≡ clients_of (locks.stands_against client ino mode) self.now) }
     {
         self.table.clients_on(alloc, ino, &Against { client, mode })
     }
 
-    /// Whether the client has a row whose demand waits too long for its answer.
-    pub fn is_overdue(&self, client: ClientId, now: Stamp, config: Config) -> bool
-        ensures { result ≡ list_any (λ r. rules.is_overdue config now r && (r.client.0 == client.0)) self.now }
+    /// Marks the clients with a row whose demand waits too long for its answer. It looks at those rows and one more.
+    pub fn overdue(&self, now: Stamp, config: Config) -> [bool; 17]
+        ensures { (c : ℕ) → c < 17 → slice_index_or result c false ≡ list_any (λ r. locks.is_overdue config now r && (r.client.0 == c)) self.now }
     {
-        self.table.any(&Overdue {
-            client,
-            now,
-            config,
-        })
+        let _len = self.table.len();
+        overdue(&self.since, config.demand, now)
+    }
+
+    /// Whether the client has a row of this life or a higher one. It looks at every row.
+    pub fn any_from(&self, client: ClientId, life: Life) -> bool
+        ensures { result ≡ list_any (is_row_from client life) self.now }
+    {
+        self.table.any(&FromLife { client, life })
     }
 
     /// The clients with a row of the file, in rising order.
     pub fn clients_with(&self, alloc: Global, ino: u32) -> Result<Vec<ClientId>, AllocError>
-        ensures { IfOk result (λ v. v.items ≡ map keys.client (keys.rising (map rules.client_of_row (filter (rules.is_row_on ino) self.now)))) }
+        ensures { IfOk result (λ v. v.items ≡ clients_of (locks.is_row_on ino) self.now) }
     {
         self.table.clients_on(alloc, ino, &Every)
     }
 
     /// The files of the client's rows, in rising order.
     pub fn files(&self, alloc: Global, client: ClientId) -> Result<Vec<u32>, AllocError>
-        ensures { IfOk result (λ v. v.items ≡ keys.rising (map rules.ino_of_row (filter (rules.is_row_by client) self.now))) }
+        ensures { IfOk result (λ v. v.items ≡ keys.rising (map locks.ino_of_row (filter (locks.is_row_by client) self.now))) }
     {
         self.table.seconds(alloc, &OfClient { client })
     }

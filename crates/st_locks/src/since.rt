@@ -1,10 +1,7 @@
 // The demands that wait for an answer, by the moment since which they wait.
-ghost use Rattle.std.specs.Prelude.{◌≡◌, ◌&&◌, ◌||◌, ◌==◌, not, OnOk, OnErr, ℕ, Bool, false, Some};
-ghost use Rattle.st_base.specs.declared.ids.ClientId.{ClientId};
-ghost use Rattle.st_base.specs.declared.ids.Stamp.{Stamp};
-ghost use Rattle.std.specs.BTreeSet.{contains};
-ghost use Rattle.st_rules.specs.Keys.{same_client};
-ghost use Rattle.st_locks.specs.Since.{is_since, wait_order};
+ghost use Rattle.std.specs.Prelude.{◌≡◌, ◌<◌, ◌+◌, ◌||◌, ◌==◌, ℕ, OnOk, OnErr, false, nat_le, slice_index_or};
+ghost use Rattle.std.specs.List.{list_any};
+ghost use Rattle.st_locks.specs.Since.{Forgets, PutsIn, TakesOut, is_late_of};
 
 use st_base::{ClientId, Stamp};
 use std::alloc::AllocError;
@@ -15,7 +12,7 @@ pub type Unanswered = (Stamp, u32, ClientId);
 
 /// The demand waits no longer, where it did since this moment.
 pub fn take_out(set: &mut BTreeSet<Unanswered>, since: Option<Stamp>, ino: u32, client: ClientId)
-    ensures { (s : Stamp) (i : ℕ) (c : ClientId) → contains wait_order set.new (s, i, c) ≡ contains wait_order set.old (s, i, c) && not (is_since s since && (same_client c client && (i == ino))) }
+    ensures { TakesOut since ino client set.old set.new }
 {
     if let Some(since) = since {
         set.remove(&(since, ino, client));
@@ -29,7 +26,7 @@ pub fn put_in(
     ino: u32,
     client: ClientId,
 ) -> Result<(), AllocError>
-    ensures ok { OnOk result ((s : Stamp) (i : ℕ) (c : ClientId) → contains wait_order set.new (s, i, c) ≡ contains wait_order set.old (s, i, c) || (is_since s since && (same_client c client && (i == ino)))) }
+    ensures ok { OnOk result (PutsIn since ino client set.old set.new) }
     ensures err { OnErr result (set.new.keys ≡ set.old.keys) }
 {
     match since {
@@ -43,7 +40,37 @@ pub fn put_in(
 
 /// No demand of this client waits.
 pub fn forget(set: &mut BTreeSet<Unanswered>, client: ClientId)
-    ensures { (s : Stamp) (i : ℕ) (c : ClientId) → contains wait_order set.new (s, i, c) ≡ contains wait_order set.old (s, i, c) && not (same_client c client) }
+    ensures { Forgets client set.old set.new }
 {
     set.retain(|wait| wait.2.0 != client.0);
+}
+
+/// Whether at least this time has passed since a moment.
+pub fn passed(since: Stamp, wait: u64, now: Stamp) -> bool
+    ensures { result ≡ nat_le (since.0 + wait) now.0 }
+{
+    wait <= now.0 && since.0 <= now.0 - wait
+}
+
+/// Marks a client under its number.
+fn mark(late: &mut [bool; 17], client: ClientId)
+    ensures { (c : ℕ) → c < 17 → slice_index_or late.new c false ≡ slice_index_or late.old c false || (client.0 == c) }
+{
+    if client.0 < 17 {
+        late[client.0 as usize] = true;
+    }
+}
+
+/// Marks the clients of which a demand waits too long for its answer. It looks at those demands and one more.
+pub fn overdue(set: &BTreeSet<Unanswered>, wait: u64, now: Stamp) -> [bool; 17]
+    ensures { (c : ℕ) → c < 17 → slice_index_or result c false ≡ list_any (is_late_of wait now c) set.now.keys }
+{
+    let mut late = [false; 17];
+    for demand in set.iter() {
+        if !passed(demand.0, wait, now) {
+            return late;
+        }
+        mark(&mut late, demand.2);
+    }
+    late
 }

@@ -1,14 +1,15 @@
 // The lock table: look-ups, and what acquires a lock.
-ghost use Rattle.std.specs.Prelude.{◌≡◌, ◌≤◌, ◌<◌, ◌+◌, ◌^◌, ◌++◌, ◌∷◌, ◌&&◌, ◌||◌, [], ℕ, IfOk, IfSome, OnOk, OnErr, Some, find, filter, map, not, length, slice_get, None, false, nat_lt, nat_le, ◌==◌, if◌then◌else◌};
+ghost use Rattle.std.specs.Prelude.{◌≡◌, ◌≤◌, ◌<◌, ◌+◌, ◌^◌, ◌++◌, ◌∷◌, ◌&&◌, ◌||◌, [], ℕ, IfOk, IfSome, OnOk, OnErr, Some, find, filter, map, not, length, slice_get, None, false, true, nat_lt, nat_le, ◌==◌, if◌then◌else◌};
 ghost use Rattle.std.specs.List.{IsDistinct, list_any};
 ghost use Rattle.std.specs.Option.{option_copied, option_map, option_to_list};
 ghost use Rattle.st_rules.specs.Keys as keys;
-ghost use Rattle.st_rules.specs.Locks as rules;
+ghost use Rattle.st_rules.specs.Locks as locks;
+ghost use Rattle.st_rules.specs.ServerInvariants.{IsLockTable};
 ghost use Rattle.std.specs.BTreeSet.{contains};
 ghost use Rattle.st_base.specs.declared.ids.ClientId.{ClientId};
 ghost use Rattle.st_base.specs.declared.ids.Stamp.{Stamp};
 ghost use Rattle.st_locks.specs.Since.{IsClient, is_since, since_of, wait_order};
-ghost use Rattle.st_locks.specs.Calls.{Answers, Gives, Installs, demanding, granting, same_file, told, with_one};
+ghost use Rattle.st_locks.specs.Calls.{Answers, Gives, Installs, demanding, granting, is_lock, is_row_from, same_file, told, with_one};
 
 use crate::refusal::LockRefusal;
 use crate::rows::{Rows, key};
@@ -33,15 +34,15 @@ pub struct LockTable {
 
 impl Model for LockTable {
     ghost use Rattle.std.specs.Prelude.{◌<◌, ◌^◌, ◌+◌};
-    ghost use Rattle.st_rules.specs.Locks as rules;
+    ghost use Rattle.st_rules.specs.Locks as locks;
 
-    ghost Value = { rules.Locks };
+    ghost Value = { locks.Locks };
 
     ghost use Rattle.st_locks.specs.Calls.{IsSound};
 
     ghost view = { λ t. record { epoch = t.epoch; grants = t.grants; rows = t.rows; waiters = t.waits } };
 
-    ghost invariant = { λ t. IsSound t.epoch t.grants };
+    ghost invariant = { λ t. IsSound t.epoch t.grants t.rows t.waits };
 }
 
 /// The waits of other clients.
@@ -80,7 +81,7 @@ impl<'a> Test<Waiter> for Alone<'a> {
 
 /// The greater of two modes.
 fn greater(a: Mode, b: Mode) -> Mode
-    ensures { result ≡ rules.greater a b }
+    ensures { result ≡ locks.greater a b }
 {
     if a.covers(b) { a } else { b }
 }
@@ -111,7 +112,7 @@ fn push_holder(
     found: &mut Vec<(ClientId, GrantNo, Mode)>,
     row: Option<LockRow>,
 ) -> Result<(), AllocError>
-    ensures { OnOk result (found.new.items ≡ found.old.items ++ option_to_list (option_map rules.holder_in_list row)) }
+    ensures { OnOk result (found.new.items ≡ found.old.items ++ option_to_list (option_map locks.holder_in_list row)) }
 {
     match row {
         None => Ok(()),
@@ -127,7 +128,7 @@ fn push_row(
     ino: u32,
     row: Option<LockRow>,
 ) -> Result<(), AllocError>
-    ensures { OnOk result (found.new.items ≡ found.old.items ++ option_to_list (option_map (rules.row_in_list ino) row)) }
+    ensures { OnOk result (found.new.items ≡ found.old.items ++ option_to_list (option_map (locks.row_in_list ino) row)) }
 {
     match row {
         None => Ok(()),
@@ -142,7 +143,7 @@ impl LockTable {
     /// A table without locks, of this epoch, which is from 1 to 2^32 - 1.
     pub fn new(alloc: Global, _server: ServerId, epoch: Epoch) -> LockTable
         requires { epoch.0 < 2 ^ 32 }
-        ensures { result ≡ rules.no_locks epoch }
+        ensures { result ≡ locks.no_locks epoch }
     {
         LockTable {
             alloc,
@@ -153,15 +154,19 @@ impl LockTable {
         }
     }
 
-    /// The epoch of the table.
+    /// The epoch of the table. A client has one row and one wait a file, the rows of a file are compatible, and no row has a
+    /// grant number that is still to be given.
     pub fn epoch(&self) -> Epoch
-        ensures { result ≡ self.now.epoch }
+        ensures epoch { result ≡ self.now.epoch }
+        ensures valid { IsLockTable self.now }
     {
+        let _rows = self.rows.len();
+        let _waits = self.waits.len();
         self.epoch
     }
 
     pub(crate) fn row_at(&self, client: ClientId, ino: u32) -> Option<LockRow>
-        ensures row { result ≡ rules.row_of self.now client ino }
+        ensures row { result ≡ locks.row_of self.now client ino }
         ensures same { IfSome result (λ r. (r.client ≡ client) × (r.ino ≡ ino)) }
     {
         self.rows.get(client, ino)
@@ -169,7 +174,7 @@ impl LockTable {
 
     /// The grant number and the mode of the client's row of the file.
     pub fn row(&self, client: ClientId, ino: u32) -> Option<(GrantNo, Mode)>
-        ensures { result ≡ told (rules.row_of self.now client ino) }
+        ensures { result ≡ told (locks.row_of self.now client ino) }
     {
         let row = self.row_at(client, ino)?;
         Some((row.g, row.mode))
@@ -177,15 +182,22 @@ impl LockTable {
 
     /// Whether the client has a row.
     pub fn has_rows(&self, client: ClientId) -> bool
-        ensures { result ≡ rules.has_rows self.now client }
+        ensures { result ≡ locks.has_rows self.now client }
     {
         self.rows.count(client) > 0
+    }
+
+    /// Whether the client has a row of this life or a higher one. It looks at every row.
+    pub fn has_rows_from(&self, client: ClientId, life: Life) -> bool
+        ensures { result ≡ list_any (is_row_from client life) self.now.rows }
+    {
+        self.rows.any_from(client, life)
     }
 
     /// The demands that wait for an answer: since when, of which file, of which client; a row is there exactly where its
     /// demand waits.
     pub fn by_since(&self) -> &BTreeSet<Unanswered>
-        ensures { (s : Stamp) (i : ℕ) (c : ClientId) → contains wait_order result.now (s, i, c) ≡ is_since s (since_of (rules.row_of self.now c i)) }
+        ensures { (s : Stamp) (i : ℕ) (c : ClientId) → contains wait_order result.now (s, i, c) ≡ is_since s (since_of (locks.row_of self.now c i)) }
     {
         self.rows.by_since()
     }
@@ -193,7 +205,7 @@ impl LockTable {
     /// The number of the next grant.
     pub(crate) fn next_grant(&self) -> GrantNo
         requires { self.now.grants + 1 < 2 ^ 32 }
-        ensures { result ≡ rules.next_grant self.now }
+        ensures { result ≡ locks.next_grant self.now }
     {
         GrantNo(self.epoch.0 * 4294967296 + self.grants + 1)
     }
@@ -209,7 +221,9 @@ impl LockTable {
     ) -> Result<(), AllocError>
         requires client { IsClient client }
         requires room { self.old.grants + 1 < 2 ^ 32 }
-        ensures ok { OnOk result (self.new ≡ rules.grant self.old client life ino mode) }
+        requires lock { is_lock mode ≡ true }
+        requires free { list_any (locks.stands_against client ino mode) self.old.rows ≡ false }
+        ensures ok { OnOk result (self.new ≡ locks.grant self.old client life ino mode) }
         ensures err { OnErr result (self.new ≡ self.old) }
     {
         let g = self.next_grant();
@@ -236,7 +250,8 @@ impl LockTable {
         mode: Mode,
     ) -> Result<(), AllocError>
         requires client { IsClient client }
-        ensures ok { OnOk result (self.new ≡ rules.queue self.old client life ino mode) }
+        requires lock { is_lock mode ≡ true }
+        ensures ok { OnOk result (self.new ≡ locks.queue self.old client life ino mode) }
         ensures err { OnErr result (self.new ≡ self.old) }
     {
         match self.waits.get(key(client, ino)).copied() {
@@ -272,7 +287,9 @@ impl LockTable {
     ) -> Result<Verdict, LockRefusal>
         requires client { IsClient client }
         requires room { self.old.grants + 1 < 2 ^ 32 }
-        ensures { Gives self.old self.new result (rules.acquire_granted self.old client life ino mode) }
+        requires lock { is_lock mode ≡ true }
+        requires free { list_any (locks.stands_against client ino mode) self.old.rows ≡ false }
+        ensures { Gives self.old self.new result (locks.acquire_granted self.old client life ino mode) }
     {
         let g = self.next_grant();
         self.grant(client, life, ino, mode)?;
@@ -286,7 +303,7 @@ impl LockTable {
         ino: u32,
         mode: Mode,
     ) -> Result<Vec<ClientId>, AllocError>
-        ensures { IfOk result (λ v. v.items ≡ rules.in_the_way self.now client ino mode) }
+        ensures { IfOk result (λ v. v.items ≡ locks.in_the_way self.now client ino mode) }
     {
         let _rows = self.rows.len();
         let _waits = self.waits.len();
@@ -308,8 +325,9 @@ impl LockTable {
         ino: u32,
         mode: Mode,
     ) -> Result<Verdict, LockRefusal>
-        requires { IsClient client }
-        ensures { Gives self.old self.new result (rules.acquire_queued self.old client life ino mode) }
+        requires client { IsClient client }
+        requires lock { is_lock mode ≡ true }
+        ensures { Gives self.old self.new result (locks.acquire_queued self.old client life ino mode) }
     {
         let others = self.in_the_way(client, ino, mode)?;
         self.queue(client, life, ino, mode)?;
@@ -317,7 +335,7 @@ impl LockTable {
     }
 
     fn may_grant(&self, client: ClientId, ino: u32, mode: Mode, grants: bool) -> bool
-        ensures { result ≡ rules.may_grant self.now client ino mode grants }
+        ensures { result ≡ locks.may_grant self.now client ino mode grants }
     {
         grants
             && (!self.waits.any_on(ino, &Besides { client })
@@ -335,7 +353,8 @@ impl LockTable {
     ) -> Result<Verdict, LockRefusal>
         requires client { IsClient client }
         requires room { self.old.grants + 1 < 2 ^ 32 }
-        ensures { Gives self.old self.new result (rules.acquire_more self.old client life ino mode grants) }
+        requires lock { is_lock mode ≡ true }
+        ensures { Gives self.old self.new result (locks.acquire_more self.old client life ino mode grants) }
     {
         if self.may_grant(client, ino, mode, grants) {
             self.acquire_granted(client, life, ino, mode)
@@ -347,7 +366,7 @@ impl LockTable {
     /// The client has rows or waits on fewer than 1,024 files. It is counted only where it has fewer rows and has waits that
     /// could make up the number.
     fn has_few(&self, client: ClientId) -> Result<bool, AllocError>
-        ensures { IfOk result (λ few. few ≡ nat_lt (length (rules.files_of self.now client)) 1024) }
+        ensures { IfOk result (λ few. few ≡ nat_lt (length (locks.files_of self.now client)) 1024) }
     {
         let _rows = self.rows.len();
         let _waits = self.waits.len();
@@ -367,7 +386,7 @@ impl LockTable {
     }
 
     fn has_place(&self, client: ClientId, ino: u32) -> Result<bool, AllocError>
-        ensures { IfOk result (λ has. has ≡ rules.has_place self.now client ino) }
+        ensures { IfOk result (λ has. has ≡ locks.has_place self.now client ino) }
     {
         if self.waits.holds(key(client, ino)) {
             Ok(true)
@@ -387,7 +406,8 @@ impl LockTable {
     ) -> Result<Verdict, LockRefusal>
         requires client { IsClient client }
         requires room { self.old.grants + 1 < 2 ^ 32 }
-        ensures { Answers self.old self.new result (rules.acquire_new self.old client life ino mode grants) }
+        requires lock { is_lock mode ≡ true }
+        ensures { Answers self.old self.new result (locks.acquire_new self.old client life ino mode grants) }
     {
         if self.has_place(client, ino)? {
             self.acquire_more(client, life, ino, mode, grants)
@@ -408,7 +428,8 @@ impl LockTable {
     ) -> Result<Verdict, LockRefusal>
         requires client { IsClient client }
         requires room { self.old.grants + 1 < 2 ^ 32 }
-        ensures { Gives self.old self.new result (rules.acquire_over self.old client life ino mode grants row) }
+        requires lock { is_lock mode ≡ true }
+        ensures { Gives self.old self.new result (locks.acquire_over self.old client life ino mode grants row) }
     {
         if row.mode.covers(mode) {
             Ok(Verdict::Granted(row.g, row.mode))
@@ -433,7 +454,8 @@ impl LockTable {
     ) -> Result<Verdict, LockRefusal>
         requires client { IsClient client }
         requires room { self.old.grants + 1 < 2 ^ 32 }
-        ensures { Answers self.old self.new result (rules.acquire self.old client life ino mode grants) }
+        requires lock { is_lock mode ≡ true }
+        ensures { Answers self.old self.new result (locks.acquire self.old client life ino mode grants) }
     {
         match self.row_at(client, ino) {
             None => self.acquire_new(client, life, ino, mode, grants),
@@ -455,7 +477,7 @@ impl LockTable {
         alloc: Global,
         ino: u32,
     ) -> Result<Vec<(ClientId, GrantNo, Mode)>, AllocError>
-        ensures { IfOk result (λ v. v.items ≡ rules.holders self.now ino) }
+        ensures { IfOk result (λ v. v.items ≡ locks.holders self.now ino) }
     {
         let clients = self.rows.clients_with(alloc, ino)?;
         let mut found = Vec::new(alloc);
@@ -472,7 +494,7 @@ impl LockTable {
         alloc: Global,
         client: ClientId,
     ) -> Result<Vec<(u32, GrantNo, Mode)>, AllocError>
-        ensures { IfOk result (λ v. v.items ≡ rules.rows_of self.now client) }
+        ensures { IfOk result (λ v. v.items ≡ locks.rows_of self.now client) }
     {
         let files = self.rows.files(alloc, client)?;
         let mut found = Vec::new(alloc);
@@ -484,7 +506,7 @@ impl LockTable {
 
     /// The files for which somebody waits, in rising order.
     pub(crate) fn waited_files(&self) -> Result<Vec<u32>, AllocError>
-        ensures { IfOk result (λ v. v.items ≡ rules.waited_files self.now) }
+        ensures { IfOk result (λ v. v.items ≡ locks.waited_files self.now) }
     {
         self.waits.seconds(self.alloc, &Every)
     }

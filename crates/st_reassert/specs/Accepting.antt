@@ -1,20 +1,16 @@
 -- What a reassertion needs, and what accepting it leaves.
-use Rattle.std.specs.Prelude.{◌≡◌, Bool, true, ◌&&◌, not, nat_le, Result, Ok, Err}
+use Rattle.std.specs.Prelude.{◌≡◌, Bool, not, Result, Ok, Err}
 use Rattle.std.specs.List.{list_any}
 use Rattle.st_base.specs.declared.ids.ClientId.{ClientId}
 use Rattle.st_base.specs.declared.ids.Life.{Life}
 use Rattle.st_rules.specs.declared.authority.AcceptRefusal.{AcceptRefusal}
-use Rattle.st_rules.specs.declared.authority.AcceptRefusal.TheVariants as rules
-use Rattle.st_rules.specs.declared.locks.LockRow.{LockRow}
+use Rattle.st_rules.specs.declared.authority.AcceptRefusal.TheVariants as grace
 use Rattle.st_rules.specs.Grace.{Accepted}
-use Rattle.st_rules.specs.Locks.{Locks, is_row_by}
+use Rattle.st_rules.specs.Locks.{Locks}
 use Rattle.st_rules.specs.Sessions.{Sessions}
+pub use Rattle.st_locks.specs.Calls.{is_row_from}
 use Rattle.st_reassert.specs.declared.refusal.ReassertRefusal.{ReassertRefusal}
 use Rattle.st_reassert.specs.declared.refusal.ReassertRefusal.TheVariants as refusals
-
--- the row is the client's, and of this life or a higher one
-abbrev pub is_row_from : ClientId → Life → LockRow → Bool
-is_row_from c life r = is_row_by c r && nat_le life.0 r.life.0
 
 -- the client has no row of this life or a higher one
 abbrev pub is_older : Locks → ClientId → Life → Bool
@@ -22,9 +18,9 @@ is_older l c life = not (list_any (is_row_from c life) l.rows)
 
 -- the rule's refusals, as a call tells them
 abbrev pub as_told : AcceptRefusal → ReassertRefusal
-as_told (rules.GraceOver start now) = refusals.GraceOver start now
-as_told (rules.Conflict ino holder) = refusals.Conflict ino holder
-as_told (rules.NotHolder ino g) = refusals.NotHolder ino g
+as_told (grace.GraceOver start now) = refusals.GraceOver start now
+as_told (grace.Conflict ino holder) = refusals.Conflict ino holder
+as_told (grace.NotHolder ino g) = refusals.NotHolder ino g
 
 -- what the rule gives, as a call tells it
 abbrev pub told : Result Accepted AcceptRefusal → Result Accepted ReassertRefusal

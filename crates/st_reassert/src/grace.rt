@@ -1,9 +1,9 @@
 ghost use Rattle.std.specs.Prelude.{◌≡◌, IsOk, true};
-ghost use Rattle.std.specs.List.{IsDistinct};
+ghost use Rattle.std.specs.List.{IsDistinct, list_all};
 ghost use Rattle.st_base.specs.Config as settings;
-ghost use Rattle.st_locks.specs.Calls.{same_file};
+ghost use Rattle.st_locks.specs.Calls.{is_lock_row, same_file};
 ghost use Rattle.st_locks.specs.Since.{IsClient};
-ghost use Rattle.st_rules.specs.Grace as rules;
+ghost use Rattle.st_rules.specs.Grace as grace;
 ghost use Rattle.st_reassert.specs.Accepting.{Accepts, is_older};
 
 use crate::accepting::accept_rows;
@@ -30,10 +30,10 @@ pub struct Grace {
 
 impl Model for Grace {
     ghost use Rattle.std.specs.Prelude.{Option};
-    ghost use Rattle.st_rules.specs.Grace as shared;
+    ghost use Rattle.st_rules.specs.Grace as grace;
     ghost use Rattle.st_reassert.specs.Periods.{grace_of};
 
-    ghost Value = { Option shared.Grace };
+    ghost Value = { Option grace.Grace };
 
     ghost view = { λ g. grace_of g.period };
 }
@@ -41,7 +41,7 @@ impl Model for Grace {
 impl Grace {
     /// An epoch without grace.
     pub fn none() -> Grace
-        ensures { result ≡ rules.no_grace }
+        ensures { result ≡ grace.no_grace }
     {
         Grace { period: None }
     }
@@ -49,7 +49,7 @@ impl Grace {
     /// Grace begins now, and lasts for the steal wait.
     pub fn begin(now: Stamp, config: &Config) -> Grace
         requires checked { IsOk (settings.check config.now) }
-        ensures exact { result ≡ rules.begin_grace now config.now }
+        ensures exact { result ≡ grace.begin_grace now config.now }
     {
         Grace {
             period: Some(Period {
@@ -61,7 +61,7 @@ impl Grace {
 
     /// Whether grace is on at this moment. It does not allocate.
     pub fn is_on(&self, now: Stamp) -> bool
-        ensures { result ≡ rules.is_on self.now now }
+        ensures { result ≡ grace.is_on self.now now }
     {
         match self.period {
             None => false,
@@ -71,7 +71,7 @@ impl Grace {
 
     /// When the grace of this epoch began, or 0 where it has none. It does not allocate.
     pub fn start(&self) -> Stamp
-        ensures { result ≡ rules.grace_start self.now }
+        ensures { result ≡ grace.grace_start self.now }
     {
         match self.period {
             None => Stamp(0),
@@ -97,9 +97,10 @@ impl Grace {
     ) -> Result<(), ReassertRefusal>
         requires client { IsClient client }
         requires distinct { IsDistinct same_file rows.now }
+        requires modes { list_all is_lock_row rows.now ≡ true }
         requires older { is_older locks.old client life ≡ true }
         ensures { Accepts (record { locks = locks.old; sessions = sessions.old }) (record { locks = locks.new; sessions = sessions.new }) result
-            (rules.accept self.now now client life rows.now locks.old sessions.old) }
+            (grace.accept self.now now client life rows.now locks.old sessions.old) }
     {
         if self.is_on(now) {
             accept_rows(alloc, client, life, rows, locks, sessions)
@@ -111,7 +112,7 @@ impl Grace {
 
 /// Whether a grace is still on.
 fn is_within(period: Period, now: Stamp) -> bool
-    ensures { result ≡ rules.is_within (record { start = period.start; wait = period.wait }) now }
+    ensures { result ≡ grace.is_within (record { start = period.start; wait = period.wait }) now }
 {
     now.0 < period.start.0 || now.0 - period.start.0 < period.wait
 }

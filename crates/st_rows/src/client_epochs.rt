@@ -107,7 +107,8 @@ pub fn a_refused_reassertion_condemns()
         ∷ [] }
 {}
 
-/// Refused as a suspect, the client hopes for no renewal; the same of a life without a session, of a late reassertion, and of a conflict. Two refusals are passed over.
+/// Refused as a suspect, the client hopes for no renewal; the same of a life without a session, of a late reassertion, and
+/// of a conflict. Two refusals are passed over.
 #[tactic(auto, unfolding(crate::specs::ClientScript::client_script_open))]
 pub fn a_suspect_is_condemned()
     ensures { said (

@@ -171,7 +171,8 @@ pub fn a_patch_over_a_dirty_page()
         ∷ [] }
 {}
 
-/// What a read finds counts where the block's tag is the page's and its birth the known one; else the page is zeros. Results of another kind and of unknown commands are passed over.
+/// What a read finds counts where the block's tag is the page's and its birth the known one; else the page is zeros.
+/// Results of another kind and of unknown commands are passed over.
 #[tactic(auto, unfolding(crate::specs::ClientScript::client_script_open))]
 pub fn a_block_of_another_birth_is_zeros()
     ensures { said (

@@ -18,7 +18,8 @@ pub fn blocks_are_given_in_order()
 /// A release unmaps the file's pages from its first one on, and frees their blocks.
 #[tactic(auto, unfolding(crate::specs::Tables::tables_open))]
 pub fn blocks_are_freed()
-    ensures released { extents.release_from (second_server (mapped 2 0 (at 2 0) 1 ∷ mapped 2 1 (at 2 1) 2 ∷ mapped 3 1 (at 4 0) 3 ∷ mapped 2 2 (at 4 1) 4 ∷ []) 4) (second_file 2) (page 1)
+    ensures released { extents.release_from (second_server (mapped 2 0 (at 2 0) 1 ∷ mapped 2 1 (at 2 1) 2 ∷ mapped 3 1 (at 4 0) 3
+        ∷ mapped 2 2 (at 4 1) 4 ∷ []) 4) (second_file 2) (page 1)
         ≡ second_server (mapped 2 0 (at 2 0) 1 ∷ mapped 3 1 (at 4 0) 3 ∷ []) 4 }
     ensures found { extents.map_page (second_server (mapped 3 1 (at 4 0) 3 ∷ []) 4) (second_file 3) (page 1) ≡ Some (at 4 0, 3) }
     ensures missing { extents.map_page (second_server (mapped 3 1 (at 4 0) 3 ∷ []) 4) (second_file 3) (page 2) ≡ None }

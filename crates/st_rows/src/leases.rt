@@ -39,9 +39,14 @@ pub fn rates_are_bounded()
 /// passed by at once.
 #[tactic(auto, unfolding(st_rules::specs::Rules::rules_open))]
 pub fn drift_adds_up_over_intervals()
-    ensures first { leases.drift_step (leases.no_drift 3) (106 ∷ 100 ∷ 100 ∷ []) 101 100 5 ≡ Ok ((0 ∷ 500 ∷ 500 ∷ []) ∷ ((0 ∷ 0 ∷ 0 ∷ []) ∷ ((0 ∷ 0 ∷ 0 ∷ []) ∷ []))) }
-    ensures second { leases.drift_step ((0 ∷ 500 ∷ 500 ∷ []) ∷ ((0 ∷ 0 ∷ 0 ∷ []) ∷ ((0 ∷ 0 ∷ 0 ∷ []) ∷ []))) (101 ∷ 100 ∷ 100 ∷ []) 101 100 5 ≡ Ok ((0 ∷ 500 ∷ 500 ∷ []) ∷ ((0 ∷ 0 ∷ 0 ∷ []) ∷ ((0 ∷ 0 ∷ 0 ∷ []) ∷ []))) }
-    ensures third { leases.drift_step ((0 ∷ 500 ∷ 500 ∷ []) ∷ ((0 ∷ 0 ∷ 0 ∷ []) ∷ ((0 ∷ 0 ∷ 0 ∷ []) ∷ []))) (102 ∷ 100 ∷ 100 ∷ []) 101 100 5 ≡ Err (record { m = 0; n = 1; excess = 600 }) }
-    ensures still { leases.drift_step (leases.drift_after (leases.no_drift 3) (0 ∷ 0 ∷ 5 ∷ []) 101 100) (0 ∷ 0 ∷ 1 ∷ []) 101 100 5 ≡ Err (record { m = 2; n = 0; excess = 600 }) }
-    ensures limit { leases.drift_step (leases.no_drift 3) (0 ∷ 0 ∷ 5 ∷ []) 101 100 5 ≡ Ok ((0 ∷ 0 ∷ 0 ∷ []) ∷ ((0 ∷ 0 ∷ 0 ∷ []) ∷ ((500 ∷ 500 ∷ 0 ∷ []) ∷ []))) }
+    ensures first { leases.drift_step (leases.no_drift 3) (106 ∷ 100 ∷ 100 ∷ []) 101 100 5
+        ≡ Ok ((0 ∷ 500 ∷ 500 ∷ []) ∷ ((0 ∷ 0 ∷ 0 ∷ []) ∷ ((0 ∷ 0 ∷ 0 ∷ []) ∷ []))) }
+    ensures second { leases.drift_step ((0 ∷ 500 ∷ 500 ∷ []) ∷ ((0 ∷ 0 ∷ 0 ∷ []) ∷ ((0 ∷ 0 ∷ 0 ∷ []) ∷ []))) (101 ∷ 100 ∷ 100 ∷ []) 101 100 5
+        ≡ Ok ((0 ∷ 500 ∷ 500 ∷ []) ∷ ((0 ∷ 0 ∷ 0 ∷ []) ∷ ((0 ∷ 0 ∷ 0 ∷ []) ∷ []))) }
+    ensures third { leases.drift_step ((0 ∷ 500 ∷ 500 ∷ []) ∷ ((0 ∷ 0 ∷ 0 ∷ []) ∷ ((0 ∷ 0 ∷ 0 ∷ []) ∷ []))) (102 ∷ 100 ∷ 100 ∷ []) 101 100 5
+        ≡ Err (record { m = 0; n = 1; excess = 600 }) }
+    ensures still { leases.drift_step (leases.drift_after (leases.no_drift 3) (0 ∷ 0 ∷ 5 ∷ []) 101 100) (0 ∷ 0 ∷ 1 ∷ []) 101 100 5
+        ≡ Err (record { m = 2; n = 0; excess = 600 }) }
+    ensures limit { leases.drift_step (leases.no_drift 3) (0 ∷ 0 ∷ 5 ∷ []) 101 100 5
+        ≡ Ok ((0 ∷ 0 ∷ 0 ∷ []) ∷ ((0 ∷ 0 ∷ 0 ∷ []) ∷ ((500 ∷ 500 ∷ 0 ∷ []) ∷ []))) }
 {}

@@ -16,10 +16,20 @@ pub fn locks_are_granted_or_queued()
     ensures granted { locks.acquire (table 0 [] []) (c 2) (life 1) 2 modes.S true
         ≡ Ok (record { locks = table 1 (lock 2 2 4294967297 modes.S None ∷ []) []; verdict = Granted (g 4294967297) modes.S }) }
     ensures queued { locks.acquire (table 1 (lock 2 3 4294967297 modes.X None ∷ []) (wait 2 1 modes.X ∷ [])) (c 2) (life 1) 2 modes.S true
-        ≡ Ok (record { locks = table 1 (lock 2 3 4294967297 modes.X None ∷ []) (wait 2 1 modes.X ∷ wait 2 2 modes.S ∷ []); verdict = Queued (c 1 ∷ c 3 ∷ []) }) }
-    ensures waits_longer { locks.acquire (table 1 (lock 2 3 4294967297 modes.X None ∷ []) (wait 2 2 modes.X ∷ wait 2 1 modes.X ∷ [])) (c 2) (life 1) 2 modes.S true
-        ≡ Ok (record { locks = table 1 (lock 2 3 4294967297 modes.X None ∷ []) (wait 2 2 modes.X ∷ wait 2 1 modes.X ∷ []); verdict = Queued (c 1 ∷ c 3 ∷ []) }) }
-    ensures told_once { locks.in_the_way (table 1 (lock 2 3 4294967297 modes.S None ∷ []) (wait 2 3 modes.X ∷ wait 3 4 modes.X ∷ [])) (c 2) 2 modes.X ≡ c 3 ∷ [] }
+        ≡ Ok (record {
+          locks = table 1 (lock 2 3 4294967297 modes.X None ∷ []) (wait 2 1 modes.X ∷ wait 2 2 modes.S ∷ []);
+          verdict = Queued (c 1 ∷ c 3
+              ∷ []);
+        }) }
+    ensures waits_longer { locks.acquire (table 1 (lock 2 3 4294967297 modes.X None ∷ []) (wait 2 2 modes.X ∷ wait 2 1 modes.X
+        ∷ [])) (c 2) (life 1) 2 modes.S true
+        ≡ Ok (record {
+          locks = table 1 (lock 2 3 4294967297 modes.X None ∷ []) (wait 2 2 modes.X ∷ wait 2 1 modes.X ∷ []);
+          verdict = Queued (c 1 ∷ c 3
+              ∷ []);
+        }) }
+    ensures told_once { locks.in_the_way (table 1 (lock 2 3 4294967297 modes.S None ∷ []) (wait 2 3 modes.X ∷ wait 3 4 modes.X ∷ [])) (c 2) 2 modes.X
+        ≡ c 3 ∷ [] }
     ensures in_grace { locks.acquire (table 0 [] []) (c 2) (life 1) 2 modes.S false
         ≡ Ok (record { locks = table 0 [] (wait 2 2 modes.S ∷ []); verdict = Queued [] }) }
     ensures held { locks.acquire (table 1 (lock 2 2 4294967297 modes.X None ∷ []) []) (c 2) (life 1) 2 modes.S false
@@ -54,7 +64,8 @@ pub fn releases_name_their_grant()
         ≡ record { locks = table 2 [] []; found = true } }
     ensures met { locks.released (table 1 (lock 2 1 4294967297 modes.X (Some (demand modes.S 5 (Some 5))) ∷ []) []) (c 1) (life 1) 2 (g 4294967297) modes.S
         ≡ record { locks = table 1 (lock 2 1 4294967297 modes.S None ∷ []) []; found = true } }
-    ensures not_met { locks.released (table 1 (lock 2 1 4294967297 modes.X (Some (demand modes.None 5 (Some 5))) ∷ []) []) (c 1) (life 1) 2 (g 4294967297) modes.S
+    ensures not_met { locks.released (table 1 (lock 2 1 4294967297 modes.X (Some (demand modes.None 5 (Some 5)))
+        ∷ []) []) (c 1) (life 1) 2 (g 4294967297) modes.S
         ≡ record { locks = table 1 (lock 2 1 4294967297 modes.S (Some (demand modes.None 5 None)) ∷ []) []; found = true } }
 {}
 
@@ -72,7 +83,8 @@ pub fn locks_are_forgotten()
 /// Rows are installed all or none.
 #[tactic(auto, unfolding(crate::specs::Tables::tables_open))]
 pub fn rows_are_installed_all_or_none()
-    ensures conflict { locks.install (table 0 (lock 3 3 9 modes.S None ∷ lock 3 1 8 modes.S None ∷ []) []) (c 2) (life 4) ((2, g 5, modes.X) ∷ (3, g 6, modes.X) ∷ [])
+    ensures conflict { locks.install (table 0 (lock 3 3 9 modes.S None ∷ lock 3 1 8 modes.S None ∷ []) []) (c 2) (life 4) ((2, g 5, modes.X)
+        ∷ (3, g 6, modes.X) ∷ [])
         ≡ Err (Conflict 3 (c 1)) }
     ensures installed { locks.rows_of (locks.with_rows (table 0 [] []) (c 2) (life 4) ((2, g 5, modes.X) ∷ (3, g 6, modes.S) ∷ [])) (c 2)
         ≡ (2, g 5, modes.X) ∷ (3, g 6, modes.S) ∷ [] }
@@ -85,7 +97,8 @@ pub fn rows_are_installed_all_or_none()
 pub fn demands_grow_old()
     ensures young { locks.unanswered (table 1 (lock 2 1 4294967297 modes.X (Some (demand modes.S 5 (Some 5))) ∷ []) []) (stamp 104) settings ≡ [] }
     ensures old { locks.unanswered (table 1 (lock 2 1 4294967297 modes.X (Some (demand modes.S 5 (Some 5))) ∷ []) []) (stamp 105) settings ≡ c 1 ∷ [] }
-    ensures seen { locks.unanswered (locks.demand_seen (table 1 (lock 2 1 4294967297 modes.X (Some (demand modes.S 5 (Some 5))) ∷ []) []) (c 1) 2 (g 4294967297)) (stamp 105) settings
+    ensures seen { locks.unanswered (locks.demand_seen (table 1 (lock 2 1 4294967297 modes.X (Some (demand modes.S 5 (Some 5)))
+        ∷ []) []) (c 1) 2 (g 4294967297)) (stamp 105) settings
         ≡ [] }
 {}
 
@@ -106,9 +119,11 @@ pub fn seen_demands_name_their_grant()
 /// wish for more than was demanded changes nothing; and a lower one lowers it.
 #[tactic(auto, unfolding(crate::specs::Tables::tables_open))]
 pub fn demands_follow_the_first_waiter()
-    ensures all { locks.demands_due (table 3 (lock 2 4 7 modes.S None ∷ lock 2 3 8 modes.S None ∷ lock 2 2 9 modes.S None ∷ []) (wait 2 1 modes.X ∷ [])) (stamp 6) false (c 3 ∷ []) settings
+    ensures all { locks.demands_due (table 3 (lock 2 4 7 modes.S None ∷ lock 2 3 8 modes.S None ∷ lock 2 2 9 modes.S None ∷ []) (wait 2 1 modes.X
+        ∷ [])) (stamp 6) false (c 3 ∷ []) settings
         ≡ record {
-          locks = table 3 (lock 2 4 7 modes.S (Some (demand modes.None 6 (Some 6))) ∷ lock 2 3 8 modes.S None ∷ lock 2 2 9 modes.S (Some (demand modes.None 6 (Some 6))) ∷ []) (wait 2 1 modes.X ∷ []);
+          locks = table 3 (lock 2 4 7 modes.S (Some (demand modes.None 6 (Some 6))) ∷ lock 2 3 8 modes.S None
+              ∷ lock 2 2 9 modes.S (Some (demand modes.None 6 (Some 6))) ∷ []) (wait 2 1 modes.X ∷ []);
           due = (c 2, life 1, 2, g 9, modes.None) ∷ (c 4, life 1, 2, g 7, modes.None) ∷ [];
         } }
     ensures kept { locks.demands_due (table 1 (lock 2 4 7 modes.X (Some (demand modes.None 0 None)) ∷ []) (wait 2 1 modes.S ∷ [])) (stamp 50) true [] settings
@@ -118,7 +133,8 @@ pub fn demands_follow_the_first_waiter()
         } }
     ensures quiet { locks.demands_due (table 1 (lock 2 4 7 modes.X (Some (demand modes.None 0 None)) ∷ []) (wait 2 1 modes.S ∷ [])) (stamp 50) false [] settings
         ≡ record { locks = table 1 (lock 2 4 7 modes.X (Some (demand modes.None 0 None)) ∷ []) (wait 2 1 modes.S ∷ []); due = [] } }
-    ensures lowered { locks.demands_due (table 1 (lock 2 4 7 modes.X (Some (demand modes.S 0 (Some 0))) ∷ []) (wait 2 1 modes.X ∷ [])) (stamp 5) false [] settings
+    ensures lowered { locks.demands_due (table 1 (lock 2 4 7 modes.X (Some (demand modes.S 0 (Some 0))) ∷ []) (wait 2 1 modes.X
+        ∷ [])) (stamp 5) false [] settings
         ≡ record {
           locks = table 1 (lock 2 4 7 modes.X (Some (demand modes.None 5 (Some 0))) ∷ []) (wait 2 1 modes.X ∷ []);
           due = (c 4, life 1, 2, g 7, modes.None) ∷ [];

@@ -161,7 +161,8 @@ pub fn a_lock_is_shared()
         ∷ [] }
 {}
 
-/// An unanswered demand: the timer starts after 100 ticks, and the lock is stolen after 1,010 more and not before. The suspect is refused meanwhile, and its session is ended then.
+/// An unanswered demand: the timer starts after 100 ticks, and the lock is stolen after 1,010 more and not before. The
+/// suspect is refused meanwhile, and its session is ended then.
 #[tactic(auto, unfolding(crate::specs::Script::script_open))]
 pub fn a_theft_comes_at_the_timers_end()
     ensures { said (
@@ -440,7 +441,8 @@ pub fn a_cut_unmaps_the_pages_from_there_on()
         ∷ [] }
 {}
 
-/// The entry is there; a directory; a rename into itself; a removed directory must be empty and wants grant number 0; a file wants its lock; a list above a name.
+/// The entry is there; a directory; a rename into itself; a removed directory must be empty and wants grant number 0; a
+/// file wants its lock; a list above a name.
 #[tactic(auto, unfolding(crate::specs::Script::script_open))]
 pub fn names_are_served()
     ensures { said (
@@ -480,7 +482,9 @@ pub fn names_are_served()
         ∷ to 1 1 1 13 0 (bodies.Named (replies.Ino 12))
         ∷ to 1 1 1 14 0 (bodies.Nack why.NotHolder 3 0)
         ∷ to 1 1 1 15 0 (bodies.Named (replies.Listed (entry 9 false (codes "f9") ∷ [])))
-        ∷ to 1 1 1 16 0 (bodies.Named (replies.Listed (entry 12 false (codes "F") ∷ entry 10 true (codes "d") ∷ entry 2 false (codes "f2") ∷ entry 3 false (codes "f3") ∷ entry 4 false (codes "f4") ∷ entry 5 false (codes "f5") ∷ entry 6 false (codes "f6") ∷ entry 7 false (codes "f7") ∷ entry 8 false (codes "f8") ∷ entry 9 false (codes "f9") ∷ [])))
+        ∷ to 1 1 1 16 0 (bodies.Named (replies.Listed (entry 12 false (codes "F") ∷ entry 10 true (codes "d") ∷ entry 2 false (codes "f2")
+        ∷ entry 3 false (codes "f3") ∷ entry 4 false (codes "f4") ∷ entry 5 false (codes "f5") ∷ entry 6 false (codes "f6")
+        ∷ entry 7 false (codes "f7") ∷ entry 8 false (codes "f8") ∷ entry 9 false (codes "f9") ∷ [])))
         ∷ to 1 1 1 17 0 (bodies.Named (replies.Refused 1))
         ∷ to 1 1 1 18 0 (bodies.Named (replies.Refused 3))
         ∷ [] }

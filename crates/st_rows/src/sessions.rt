@@ -10,12 +10,17 @@ ghost use Rattle.st_rows.specs.Words.{c, epoch, life};
 #[tactic(auto, unfolding(crate::specs::Tables::tables_open))]
 pub fn greetings_have_cases()
     ensures first { hello (sessions []) (c 1) (life 3) false ≡ record { sessions = sessions (living 1 3 0 None ∷ []); hello = hellos.Welcome } }
-    ensures lower { hello (sessions (living 1 3 2 None ∷ [])) (c 1) (life 2) true ≡ record { sessions = sessions (living 1 3 2 None ∷ []); hello = hellos.Old } }
-    ensures same { hello (sessions (living 1 3 2 None ∷ [])) (c 1) (life 3) true ≡ record { sessions = sessions (living 1 3 2 None ∷ []); hello = hellos.Welcome } }
-    ensures waits { hello (sessions (living 1 3 2 None ∷ [])) (c 1) (life 4) true ≡ record { sessions = sessions (living 1 3 2 None ∷ []); hello = hellos.Wait } }
-    ensures replaces { hello (sessions (living 1 3 2 None ∷ [])) (c 1) (life 4) false ≡ record { sessions = sessions (living 1 4 0 None ∷ []); hello = hellos.Replaced } }
+    ensures lower { hello (sessions (living 1 3 2 None ∷ [])) (c 1) (life 2) true
+        ≡ record { sessions = sessions (living 1 3 2 None ∷ []); hello = hellos.Old } }
+    ensures same { hello (sessions (living 1 3 2 None ∷ [])) (c 1) (life 3) true
+        ≡ record { sessions = sessions (living 1 3 2 None ∷ []); hello = hellos.Welcome } }
+    ensures waits { hello (sessions (living 1 3 2 None ∷ [])) (c 1) (life 4) true
+        ≡ record { sessions = sessions (living 1 3 2 None ∷ []); hello = hellos.Wait } }
+    ensures replaces { hello (sessions (living 1 3 2 None ∷ [])) (c 1) (life 4) false
+        ≡ record { sessions = sessions (living 1 4 0 None ∷ []); hello = hellos.Replaced } }
     ensures ended_same { hello (sessions (past 1 3 ∷ [])) (c 1) (life 3) false ≡ record { sessions = sessions (past 1 3 ∷ []); hello = hellos.Old } }
-    ensures ended_higher { hello (sessions (past 1 3 ∷ [])) (c 1) (life 4) false ≡ record { sessions = sessions (living 1 4 0 None ∷ []); hello = hellos.Welcome } }
+    ensures ended_higher { hello (sessions (past 1 3 ∷ [])) (c 1) (life 4) false
+        ≡ record { sessions = sessions (living 1 4 0 None ∷ []); hello = hellos.Welcome } }
 {}
 
 /// Each case of a request.
@@ -36,6 +41,7 @@ pub fn requests_have_cases()
 #[tactic(auto, unfolding(crate::specs::Tables::tables_open))]
 pub fn sessions_change()
     ensures kept { store (sessions (living 1 3 2 None ∷ living 2 3 2 None ∷ [])) (c 2) 3 Ack ≡ sessions (living 1 3 2 None ∷ living 2 3 3 (Some Ack) ∷ []) }
-    ensures reasserted { reasserted (sessions (past 1 3 ∷ living 2 3 2 None ∷ [])) (c 1) (life 4) ≡ sessions (living 1 4 1 (Some Reasserted) ∷ living 2 3 2 None ∷ []) }
+    ensures reasserted { reasserted (sessions (past 1 3 ∷ living 2 3 2 None ∷ [])) (c 1) (life 4)
+        ≡ sessions (living 1 4 1 (Some Reasserted) ∷ living 2 3 2 None ∷ []) }
     ensures ended { end (sessions (living 1 3 2 None ∷ [])) (c 1) ≡ sessions (past 1 3 ∷ []) }
 {}

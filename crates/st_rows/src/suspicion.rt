@@ -9,11 +9,13 @@ ghost use Rattle.st_rows.specs.Words.{c, life, stamp};
 /// Suspects stand in rising order and keep their start; a timer is over at exactly its start and the wait.
 #[tactic(auto, unfolding(crate::specs::Tables::tables_open))]
 pub fn timers_run_for_the_wait()
-    ensures placed { authority.suspect (authority (suspect_since 1 3 ∷ suspect_since 4 1 ∷ [])) (c 2) (stamp 9) ≡ authority (suspect_since 1 3 ∷ suspect_since 2 9 ∷ suspect_since 4 1 ∷ []) }
+    ensures placed { authority.suspect (authority (suspect_since 1 3 ∷ suspect_since 4 1 ∷ [])) (c 2) (stamp 9)
+        ≡ authority (suspect_since 1 3 ∷ suspect_since 2 9 ∷ suspect_since 4 1 ∷ []) }
     ensures keeps { authority.suspect (authority (suspect_since 1 3 ∷ [])) (c 1) (stamp 9) ≡ authority (suspect_since 1 3 ∷ []) }
     ensures running { authority.over (authority (suspect_since 1 3 ∷ suspect_since 4 1 ∷ [])) (stamp 1010) ≡ [] }
     ensures over { authority.over (authority (suspect_since 1 3 ∷ suspect_since 2 1 ∷ suspect_since 4 1 ∷ [])) (stamp 1011) ≡ c 2 ∷ c 4 ∷ [] }
-    ensures rest { authority.still_running (authority (suspect_since 1 3 ∷ suspect_since 2 1 ∷ suspect_since 4 1 ∷ [])) (stamp 1011) ≡ authority (suspect_since 1 3 ∷ []) }
+    ensures rest { authority.still_running (authority (suspect_since 1 3 ∷ suspect_since 2 1 ∷ suspect_since 4 1 ∷ [])) (stamp 1011)
+        ≡ authority (suspect_since 1 3 ∷ []) }
 {}
 
 /// Grace is on below its start and the wait, and never where it did not begin.

@@ -16,8 +16,10 @@ pub fn a_full_network_takes_no_step()
     ensures less { refusal (filled_to 536870911) (events.Tick (client_node 1)) ≡ None }
     ensures asked { refusal (filled_to 536870912) (ask 2 (asks.Read (on 1 2) (page 0))) ≡ Some (refusals.NetFull 536870912) }
     ensures no_node { refusal (filled_to 536870912) (events.Tick (client_node 3)) ≡ Some (refusals.NoNode (client_node 3)) }
-    ensures stopped { refusal (with_bytes 536870912 (after (events.Crash (client_node 1) ∷ []))) (events.Tick (client_node 1)) ≡ Some (refusals.NotRunning (client_node 1)) }
-    ensures delivered { refusal (with_bytes 536870912 (after (ask 1 (asks.Read (on 1 2) (page 0)) ∷ []))) (events.Deliver 1) ≡ Some (refusals.NetFull 536870912) }
+    ensures stopped { refusal (with_bytes 536870912 (after (events.Crash (client_node 1) ∷ []))) (events.Tick (client_node 1))
+        ≡ Some (refusals.NotRunning (client_node 1)) }
+    ensures delivered { refusal (with_bytes 536870912 (after (ask 1 (asks.Read (on 1 2) (page 0)) ∷ []))) (events.Deliver 1)
+        ≡ Some (refusals.NetFull 536870912) }
     ensures lost { refusal (with_bytes 536870912 (after (ask 1 (asks.Read (on 1 2) (page 0)) ∷ []))) (events.Lose 1) ≡ None }
     ensures failed { refusal (with_command (filled_to 536870912)) (events.Report 1 false) ≡ Some (refusals.NetFull 536870912) }
     ensures advanced { refusal (filled_to 536870912) (events.Advance (1 ∷ 1 ∷ 1 ∷ [])) ≡ None }
@@ -28,8 +30,10 @@ pub fn a_full_network_takes_no_step()
 /// node before its second; a report for its command before the network. Nodes that are not there, and one that doesn't run.
 #[tactic(auto, unfolding(crate::specs::WorldWords::world_words_open))]
 pub fn checks_have_an_order()
-    ensures lost { refusal (after (ask 1 (asks.Read (on 1 2) (page 0)) ∷ (events.Crash (server_node 1)) ∷ (events.Cut (client_node 1) (server_node 1)) ∷ (events.Lose 1) ∷ [])) (events.Deliver 1) ≡ Some (refusals.LostMessage 1) }
-    ensures cut { refusal (after (ask 1 (asks.Read (on 1 2) (page 0)) ∷ (events.Crash (server_node 1)) ∷ (events.Cut (client_node 1) (server_node 1)) ∷ [])) (events.Deliver 1) ≡ Some (refusals.LinkCut (client_node 1) (server_node 1)) }
+    ensures lost { refusal (after (ask 1 (asks.Read (on 1 2) (page 0)) ∷ (events.Crash (server_node 1)) ∷ (events.Cut (client_node 1) (server_node 1))
+        ∷ (events.Lose 1) ∷ [])) (events.Deliver 1) ≡ Some (refusals.LostMessage 1) }
+    ensures cut { refusal (after (ask 1 (asks.Read (on 1 2) (page 0)) ∷ (events.Crash (server_node 1)) ∷ (events.Cut (client_node 1) (server_node 1))
+        ∷ [])) (events.Deliver 1) ≡ Some (refusals.LinkCut (client_node 1) (server_node 1)) }
     ensures other_way { refusal (after (ask 1 (asks.Read (on 1 2) (page 0)) ∷ (events.Cut (server_node 1) (client_node 1)) ∷ [])) (events.Deliver 1) ≡ None }
     ensures from { refusal (world_of 2 1 1 8) (events.Cut (client_node 9) (server_node 8)) ≡ Some (refusals.NoNode (client_node 9)) }
     ensures to { refusal (world_of 2 1 1 8) (events.Heal (client_node 2) (server_node 2)) ≡ Some (refusals.NoNode (server_node 2)) }

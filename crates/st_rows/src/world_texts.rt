@@ -23,18 +23,24 @@ pub fn requests()
     ensures hello { text.observation (sent 12 1 32769 2 3 4 567 bodies.Hello) ≡ codes " send 12 c1 s1 hello 2 3 4 567" }
     ensures keep_alive { text.observation (sent 12 1 32769 2 3 4 567 bodies.KeepAlive) ≡ codes " send 12 c1 s1 keepalive 2 3 4 567" }
     ensures acquire { text.observation (sent 12 1 32769 2 3 4 567 (bodies.Acquire 2 modes.S)) ≡ codes " send 12 c1 s1 acquire 2 3 4 567 2 1" }
-    ensures released { text.observation (sent 12 1 32769 2 3 4 567 (bodies.Released 2 (g 4294967303) modes.None)) ≡ codes " send 12 c1 s1 released 2 3 4 567 2 4294967303 0" }
+    ensures released { text.observation (sent 12 1 32769 2 3 4 567 (bodies.Released 2 (g 4294967303) modes.None))
+        ≡ codes " send 12 c1 s1 released 2 3 4 567 2 4294967303 0" }
     ensures map { text.observation (sent 12 1 32769 2 3 4 567 (bodies.Map 2 (g 4294967303) (page 9))) ≡ codes " send 12 c1 s1 map 2 3 4 567 2 4294967303 9" }
-    ensures allocate { text.observation (sent 12 1 32769 2 3 4 567 (bodies.Allocate 2 (g 4294967303) (page 9) 64)) ≡ codes " send 12 c1 s1 allocate 2 3 4 567 2 4294967303 9 64" }
+    ensures allocate { text.observation (sent 12 1 32769 2 3 4 567 (bodies.Allocate 2 (g 4294967303) (page 9) 64))
+        ≡ codes " send 12 c1 s1 allocate 2 3 4 567 2 4294967303 9 64" }
     ensures cut { text.observation (sent 12 1 32769 2 3 4 567 (bodies.Cut 2 (g 4294967303) (page 9))) ≡ codes " send 12 c1 s1 cut 2 3 4 567 2 4294967303 9" }
-    ensures reassert { text.observation (sent 12 1 32769 2 3 4 567 (bodies.Reassert ((2, g 4294967303, modes.S) ∷ (31, g 4294967304, modes.X) ∷ []))) ≡ codes " send 12 c1 s1 reassert 2 3 4 567 2 2 4294967303 1 31 4294967304 2" }
+    ensures reassert { text.observation (sent 12 1 32769 2 3 4 567 (bodies.Reassert ((2, g 4294967303, modes.S) ∷ (31, g 4294967304, modes.X) ∷ [])))
+        ≡ codes " send 12 c1 s1 reassert 2 3 4 567 2 2 4294967303 1 31 4294967304 2" }
     ensures no_locks { text.observation (sent 12 1 32769 2 3 4 567 (bodies.Reassert [])) ≡ codes " send 12 c1 s1 reassert 2 3 4 567 0" }
-    ensures demand_seen { text.observation (sent 12 1 32769 2 3 4 567 (bodies.DemandSeen 2 (g 4294967303))) ≡ codes " send 12 c1 s1 demandseen 2 3 4 567 2 4294967303" }
+    ensures demand_seen { text.observation (sent 12 1 32769 2 3 4 567 (bodies.DemandSeen 2 (g 4294967303)))
+        ≡ codes " send 12 c1 s1 demandseen 2 3 4 567 2 4294967303" }
     ensures lookup { text.observation (sent 12 1 32769 2 3 4 567 (bodies.Name (ops.Lookup 1 (codes "f2")))) ≡ codes " send 12 c1 s1 name 2 3 4 567 1 1 f2" }
     ensures create { text.observation (sent 12 1 32769 2 3 4 567 (bodies.Name (ops.Create 1 (codes "f2")))) ≡ codes " send 12 c1 s1 name 2 3 4 567 2 1 f2" }
     ensures mkdir { text.observation (sent 12 1 32769 2 3 4 567 (bodies.Name (ops.Mkdir 1 (codes "f2")))) ≡ codes " send 12 c1 s1 name 2 3 4 567 3 1 f2" }
-    ensures remove { text.observation (sent 12 1 32769 2 3 4 567 (bodies.Name (ops.Remove 1 (codes "f2") (g 4294967303)))) ≡ codes " send 12 c1 s1 name 2 3 4 567 4 1 f2 4294967303" }
-    ensures rename { text.observation (sent 12 1 32769 2 3 4 567 (bodies.Name (ops.Rename 1 (codes "f2") 10 (codes "g")))) ≡ codes " send 12 c1 s1 name 2 3 4 567 5 1 f2 10 g" }
+    ensures remove { text.observation (sent 12 1 32769 2 3 4 567 (bodies.Name (ops.Remove 1 (codes "f2") (g 4294967303))))
+        ≡ codes " send 12 c1 s1 name 2 3 4 567 4 1 f2 4294967303" }
+    ensures rename { text.observation (sent 12 1 32769 2 3 4 567 (bodies.Name (ops.Rename 1 (codes "f2") 10 (codes "g"))))
+        ≡ codes " send 12 c1 s1 name 2 3 4 567 5 1 f2 10 g" }
     ensures list_all { text.observation (sent 12 1 32769 2 3 4 567 (bodies.Name (ops.List 1 (codes "")))) ≡ codes " send 12 c1 s1 name 2 3 4 567 6 1 -" }
     ensures list_above { text.observation (sent 12 1 32769 2 3 4 567 (bodies.Name (ops.List 1 (codes "f2")))) ≡ codes " send 12 c1 s1 name 2 3 4 567 6 1 f2" }
 {}
@@ -54,14 +60,19 @@ pub fn replies()
     ensures nack_8 { text.observation (sent 1 32770 16 2 3 4 567 (bodies.Nack why.NoFile 5 6)) ≡ codes " send 1 s2 c16 nack 2 3 4 567 8 5 6" }
     ensures nack_9 { text.observation (sent 1 32770 16 2 3 4 567 (bodies.Nack why.NoSpace 5 6)) ≡ codes " send 1 s2 c16 nack 2 3 4 567 9 5 6" }
     ensures nack_10 { text.observation (sent 1 32770 16 2 3 4 567 (bodies.Nack why.TooManyLocks 5 6)) ≡ codes " send 1 s2 c16 nack 2 3 4 567 10 5 6" }
-    ensures granted { text.observation (sent 1 32770 16 2 3 4 567 (bodies.Granted 2 (g 4294967303) modes.X)) ≡ codes " send 1 s2 c16 granted 2 3 4 567 2 4294967303 2" }
+    ensures granted { text.observation (sent 1 32770 16 2 3 4 567 (bodies.Granted 2 (g 4294967303) modes.X))
+        ≡ codes " send 1 s2 c16 granted 2 3 4 567 2 4294967303 2" }
     ensures queued { text.observation (sent 1 32770 16 2 3 4 567 (bodies.Queued 2 modes.S)) ≡ codes " send 1 s2 c16 queued 2 3 4 567 2 1" }
-    ensures demand { text.observation (sent 1 32770 16 2 3 4 567 (bodies.Demand 2 (g 4294967303) modes.None)) ≡ codes " send 1 s2 c16 demand 2 3 4 567 2 4294967303 0" }
-    ensures demand_shared { text.observation (sent 1 32770 16 2 3 4 567 (bodies.Demand 2 (g 4294967303) modes.S)) ≡ codes " send 1 s2 c16 demand 2 3 4 567 2 4294967303 1" }
-    ensures extents { text.observation (sent 1 32770 16 2 3 4 567 (bodies.Extents 2 (extent 9 1 4095 3 ∷ extent 10 8 0 4 ∷ []))) ≡ codes " send 1 s2 c16 extents 2 3 4 567 2 2 9 1 4095 3 10 8 0 4" }
+    ensures demand { text.observation (sent 1 32770 16 2 3 4 567 (bodies.Demand 2 (g 4294967303) modes.None))
+        ≡ codes " send 1 s2 c16 demand 2 3 4 567 2 4294967303 0" }
+    ensures demand_shared { text.observation (sent 1 32770 16 2 3 4 567 (bodies.Demand 2 (g 4294967303) modes.S))
+        ≡ codes " send 1 s2 c16 demand 2 3 4 567 2 4294967303 1" }
+    ensures extents { text.observation (sent 1 32770 16 2 3 4 567 (bodies.Extents 2 (extent 9 1 4095 3 ∷ extent 10 8 0 4 ∷ [])))
+        ≡ codes " send 1 s2 c16 extents 2 3 4 567 2 2 9 1 4095 3 10 8 0 4" }
     ensures unmapped { text.observation (sent 1 32770 16 2 3 4 567 (bodies.Extents 2 [])) ≡ codes " send 1 s2 c16 extents 2 3 4 567 2 0" }
     ensures ino { text.observation (sent 1 32770 16 2 3 4 567 (bodies.Named (replies.Ino 12))) ≡ codes " send 1 s2 c16 named 2 3 4 567 0 12" }
-    ensures listed { text.observation (sent 1 32770 16 2 3 4 567 (bodies.Named (replies.Listed (entry 11 false (codes "a") ∷ entry 2 true (codes "b.c") ∷ [])))) ≡ codes " send 1 s2 c16 named 2 3 4 567 1 2 11:1:a 2:2:b.c" }
+    ensures listed { text.observation (sent 1 32770 16 2 3 4 567 (bodies.Named (replies.Listed (entry 11 false (codes "a")
+        ∷ entry 2 true (codes "b.c") ∷ [])))) ≡ codes " send 1 s2 c16 named 2 3 4 567 1 2 11:1:a 2:2:b.c" }
     ensures refused { text.observation (sent 1 32770 16 2 3 4 567 (bodies.Named (replies.Refused 8))) ≡ codes " send 1 s2 c16 named 2 3 4 567 2 8" }
     ensures reasserted { text.observation (sent 1 32770 16 2 3 4 567 bodies.Reasserted) ≡ codes " send 1 s2 c16 reasserted 2 3 4 567" }
 {}
@@ -74,7 +85,8 @@ pub fn answers_to_applications()
     ensures hard { text.observation (answered 2 19 answers.Hard) ≡ codes " answer c2 19 hard" }
     ensures cut { text.observation (answered 2 19 answers.Cut) ≡ codes " answer c2 19 cut" }
     ensures named { text.observation (answered 2 19 (answers.Named 12)) ≡ codes " answer c2 19 named 12" }
-    ensures listed { text.observation (answered 2 19 (answers.Listed (entry 11 false (codes "a") ∷ entry 2 true (codes "b.c") ∷ []))) ≡ codes " answer c2 19 listed 2 11:1:a 2:2:b.c" }
+    ensures listed { text.observation (answered 2 19 (answers.Listed (entry 11 false (codes "a") ∷ entry 2 true (codes "b.c") ∷ [])))
+        ≡ codes " answer c2 19 listed 2 11:1:a 2:2:b.c" }
     ensures none_listed { text.observation (answered 2 19 (answers.Listed [])) ≡ codes " answer c2 19 listed 0" }
     ensures refused { text.observation (answered 2 19 (answers.Refused 6)) ≡ codes " answer c2 19 refused 6" }
     ensures quiesced { text.observation (answered 2 19 answers.Quiesced) ≡ codes " answer c2 19 quiesced" }
@@ -138,7 +150,8 @@ pub fn a_refused_run()
         ∷ (events.Deliver 1)
         ∷ (events.Deliver 2)
         ∷ []) (world_of 2 1 1 8))
-        ≡ codes "tank report 1\n" ++ (codes "1 send 1 c1 s1 hello 1 0 0 0\n" ++ (codes "6 send 2 s1 c1 welcome 1 1 0 0\n" ++ (codes "8 send 3 s1 c1 welcome 1 1 0 0\n" ++ (codes "line 10 LinkCut s1 c1\n")))) }
+        ≡ codes "tank report 1\n" ++ (codes "1 send 1 c1 s1 hello 1 0 0 0\n" ++ (codes "6 send 2 s1 c1 welcome 1 1 0 0\n"
+        ++ (codes "8 send 3 s1 c1 welcome 1 1 0 0\n" ++ (codes "line 10 LinkCut s1 c1\n")))) }
 {}
 
 /// A report that ends with the counts.
@@ -151,5 +164,7 @@ pub fn a_whole_run()
         ∷ (events.Deliver 3)
         ∷ (events.Deliver 4)
         ∷ []) (world_of 2 1 1 8))
-        ≡ codes "tank report 1\n" ++ (codes "1 send 1 c1 s1 hello 1 0 0 0\n" ++ (codes "2 send 2 s1 c1 welcome 1 1 0 0\n" ++ (codes "3 lease c1 s1 1000\n" ++ (codes "3 send 3 c1 s1 name 1 1 1 0 2 1 f2\n" ++ (codes "4 send 4 s1 c1 named 1 1 1 0 2 2\n" ++ (codes "5 answer c1 1 refused 2\n" ++ (codes "end events 5 sent 4 commands 0 writes 0 reads 0 hard 0 gone 0 stolen 0\n"))))))) }
+        ≡ codes "tank report 1\n" ++ (codes "1 send 1 c1 s1 hello 1 0 0 0\n" ++ (codes "2 send 2 s1 c1 welcome 1 1 0 0\n"
+        ++ (codes "3 lease c1 s1 1000\n" ++ (codes "3 send 3 c1 s1 name 1 1 1 0 2 1 f2\n" ++ (codes "4 send 4 s1 c1 named 1 1 1 0 2 2\n"
+        ++ (codes "5 answer c1 1 refused 2\n" ++ (codes "end events 5 sent 4 commands 0 writes 0 reads 0 hard 0 gone 0 stolen 0\n"))))))) }
 {}

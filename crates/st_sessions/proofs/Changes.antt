@@ -5,7 +5,7 @@ use Rattle.std.specs.List.{list_any, position, position_or_len}
 use Rattle.std.proofs.lemmas.Bool.{eqb-true, and_parts, not-true}
 use Rattle.st_rules.specs.ServerInvariants.{are_once}
 use Rattle.st_sessions.proofs.Once.{has_key, same_key}
-use Rattle.st_sessions.proofs.Places.{place_some, missing}
+use Rattle.st_tables.proofs.FirstPlaces.{place_some, missing}
 
 -- the row is changed where it has this key
 abbrev pub changed : {A : Type 0} → (A → ℕ) → ℕ → (A → A) → A → A

@@ -1,5 +1,3 @@
-mod Places
-mod Puts
 mod Once
 mod Changes
 mod Changed

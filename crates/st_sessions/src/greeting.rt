@@ -2,7 +2,7 @@
 ghost use Rattle.std.specs.Prelude.{◌≡◌, true, false};
 ghost use Rattle.std.specs.Option.{option_copied};
 ghost use Rattle.st_base.specs.declared.ids.ClientId.{ClientId};
-ghost use Rattle.st_rules.specs.Sessions as rules;
+ghost use Rattle.st_rules.specs.Sessions as sessions;
 ghost use Rattle.st_rules.specs.Sessions.{Sessions};
 ghost use Rattle.st_sessions.specs.Calls.{judged};
 
@@ -36,7 +36,7 @@ const fn begins(hello: Hello) -> Judgement
 
 /// Whether a session serves requests.
 pub fn is_live(session: &Session) -> bool
-    ensures { result ≡ rules.is_live session.now }
+    ensures { result ≡ sessions.is_live session.now }
 {
     match session.state {
         SessionState::Live { .. } => true,
@@ -47,7 +47,7 @@ pub fn is_live(session: &Session) -> bool
 /// A greeting against a living session. `rows` tells whether the client has locks.
 #[tactic(auto, unfolding(st_rules::specs::Sessions::sessions_open))]
 fn judge_live(session: &Session, life: Life, rows: bool) -> Judgement
-    ensures { (t : Sessions) (c : ClientId) → rules.hello_live t c life rows session.now ≡ judged result t c life }
+    ensures { (t : Sessions) (c : ClientId) → sessions.hello_live t c life rows session.now ≡ judged result t c life }
 {
     if life.0 < session.life.0 {
         return stays(Hello::Old);
@@ -64,7 +64,7 @@ fn judge_live(session: &Session, life: Life, rows: bool) -> Judgement
 /// A greeting against an ended session.
 #[tactic(auto, unfolding(st_rules::specs::Sessions::sessions_open))]
 fn judge_ended(session: &Session, life: Life) -> Judgement
-    ensures { (t : Sessions) (c : ClientId) → rules.hello_ended t c life session.now ≡ judged result t c life }
+    ensures { (t : Sessions) (c : ClientId) → sessions.hello_ended t c life session.now ≡ judged result t c life }
 {
     if life.0 <= session.life.0 {
         stays(Hello::Old)
@@ -76,7 +76,7 @@ fn judge_ended(session: &Session, life: Life) -> Judgement
 /// A greeting against a session.
 #[tactic(auto, unfolding(st_rules::specs::Sessions::hello_by))]
 fn judge_by(session: &Session, life: Life, rows: bool) -> Judgement
-    ensures { (t : Sessions) (c : ClientId) → rules.hello_by t c life rows session.now ≡ judged result t c life }
+    ensures { (t : Sessions) (c : ClientId) → sessions.hello_by t c life rows session.now ≡ judged result t c life }
 {
     if is_live(session) {
         judge_live(session, life, rows)
@@ -88,7 +88,7 @@ fn judge_by(session: &Session, life: Life, rows: bool) -> Judgement
 /// A greeting of a client with this session, or without one.
 #[tactic(auto, unfolding(st_rules::specs::Sessions::hello_at))]
 pub fn judge(session: Option<&Session>, life: Life, rows: bool) -> Judgement
-    ensures { (t : Sessions) (c : ClientId) → rules.hello_at t c life rows (option_copied session.entry) ≡ judged result t c life }
+    ensures { (t : Sessions) (c : ClientId) → sessions.hello_at t c life rows (option_copied session.entry) ≡ judged result t c life }
 {
     match session {
         Some(session) => judge_by(session, life, rows),

@@ -2,7 +2,7 @@
 ghost use Rattle.std.specs.Prelude.{◌≡◌};
 ghost use Rattle.std.specs.Option.{option_copied};
 ghost use Rattle.st_rules.specs.declared.sessions.SessionState.{SessionState};
-ghost use Rattle.st_rules.specs.Sessions as rules;
+ghost use Rattle.st_rules.specs.Sessions as sessions;
 ghost use Rattle.st_rules.specs.Server.{serves_life};
 
 use crate::greeting::is_live;
@@ -13,7 +13,7 @@ use st_rules::{Session, SessionState, Taken};
 /// The last number once more.
 #[tactic(auto, unfolding(st_rules::specs::Sessions::again))]
 fn again(reply: &Option<Body>) -> Taken<&Body>
-    ensures { rules.taken_copied result ≡ rules.again reply.now }
+    ensures { sessions.taken_copied result ≡ sessions.again reply.now }
 {
     match reply {
         None => Taken::Stale,
@@ -24,7 +24,7 @@ fn again(reply: &Option<Body>) -> Taken<&Body>
 /// A number against the last one that a living session served.
 #[tactic(auto, unfolding(st_rules::specs::Sessions::take_number, st_rules::specs::Sessions::take_from, st_rules::specs::Sessions::take_next))]
 fn take_number(last: u64, reply: &Option<Body>, number: u64) -> Taken<&Body>
-    ensures { rules.taken_copied result ≡ rules.take_number last reply.now number }
+    ensures { sessions.taken_copied result ≡ sessions.take_number last reply.now number }
 {
     if number < last {
         return Taken::Stale;
@@ -40,7 +40,7 @@ fn take_number(last: u64, reply: &Option<Body>, number: u64) -> Taken<&Body>
 
 #[tactic(auto, unfolding(st_rules::specs::Sessions::take_state))]
 fn take_state(state: &SessionState, number: u64) -> Taken<&Body>
-    ensures { rules.taken_copied result ≡ rules.take_state state.now number }
+    ensures { sessions.taken_copied result ≡ sessions.take_state state.now number }
 {
     match state {
         SessionState::Live { last, reply } => take_number(*last, reply, number),
@@ -51,7 +51,7 @@ fn take_state(state: &SessionState, number: u64) -> Taken<&Body>
 /// A request of this life and number against the client's session.
 #[tactic(auto, unfolding(st_rules::specs::Sessions::take_life, st_rules::specs::Sessions::take_past))]
 pub fn take_life(session: &Session, life: Life, number: u64) -> Taken<&Body>
-    ensures { rules.taken_copied result ≡ rules.take_life session.now life number }
+    ensures { sessions.taken_copied result ≡ sessions.take_life session.now life number }
 {
     if session.life.0 < life.0 {
         return Taken::NoSession;
@@ -71,14 +71,14 @@ pub fn serves_life(session: &Session, life: Life) -> bool
 
 /// Whether a session lives in this life, or is of a higher one.
 pub fn knows_life(session: &Session, life: Life) -> bool
-    ensures { result ≡ rules.knows_life life session.now }
+    ensures { result ≡ sessions.knows_life life session.now }
 {
     life.0 < session.life.0 || serves_life(session, life)
 }
 
 /// The state of a session after this number was served with this reply. `live` tells whether it served requests before.
 pub fn kept_state(live: bool, number: u64, reply: Body) -> SessionState
-    ensures { (s : SessionState) → rules.is_live_state s ≡ live → result ≡ rules.kept_state number reply s }
+    ensures { (s : SessionState) → sessions.is_live_state s ≡ live → result ≡ sessions.kept_state number reply s }
 {
     if live {
         SessionState::Live {

@@ -1,5 +1,5 @@
 ghost use Rattle.std.specs.Prelude.{◌≡◌, true, IfOk, OnOk, OnErr};
-ghost use Rattle.st_rules.specs.Sessions as rules;
+ghost use Rattle.st_rules.specs.Sessions as sessions;
 ghost use Rattle.st_rules.specs.Server.{serves_at};
 ghost use Rattle.st_rules.specs.ServerInvariants.{are_once, same_session};
 
@@ -22,10 +22,10 @@ pub struct Sessions {
 
 impl Model for Sessions {
     ghost use Rattle.std.specs.Prelude.{◌≡◌, true};
-    ghost use Rattle.st_rules.specs.Sessions as shared;
+    ghost use Rattle.st_rules.specs.Sessions as sessions;
     ghost use Rattle.st_rules.specs.ServerInvariants.{are_once, same_session};
 
-    ghost Value = { shared.Sessions };
+    ghost Value = { sessions.Sessions };
 
     ghost view = { λ t. record { epoch = t.epoch; rows = t.rows.items } };
 
@@ -36,7 +36,7 @@ impl Sessions {
     /// The sessions of an epoch in which nobody greeted yet. It does not allocate.
     #[tactic(auto, unfolding(st_rules::specs::ServerInvariants::are_once))]
     pub fn new(alloc: Global, epoch: Epoch) -> Sessions
-        ensures { result ≡ rules.no_sessions epoch }
+        ensures { result ≡ sessions.no_sessions epoch }
     {
         Sessions {
             epoch,
@@ -46,7 +46,7 @@ impl Sessions {
 
     /// Puts a session in place of its client's, or last.
     fn put(&mut self, session: Session) -> Result<(), AllocError>
-        ensures ok { OnOk result (self.new ≡ rules.with_session session self.old) }
+        ensures ok { OnOk result (self.new ≡ sessions.with_session session self.old) }
         ensures err { OnErr result (self.new ≡ self.old) }
     {
         put_session(&mut self.rows, session)
@@ -54,7 +54,7 @@ impl Sessions {
 
     /// Begins a new session of the client.
     fn begin(&mut self, client: ClientId, life: Life) -> Result<(), AllocError>
-        ensures ok { OnOk result (self.new ≡ rules.with_new_session client life self.old) }
+        ensures ok { OnOk result (self.new ≡ sessions.with_new_session client life self.old) }
         ensures err { OnErr result (self.new ≡ self.old) }
     {
         self.put(Session {
@@ -73,7 +73,7 @@ impl Sessions {
     /// nothing. If the call runs out of memory, nothing changes either.
     #[tactic(auto, unfolding(st_rules::specs::Sessions::hello, st_rules::specs::Sessions::begin_session))]
     pub fn hello(&mut self, client: ClientId, life: Life, rows: bool) -> Result<Hello, AllocError>
-        ensures ok { IfOk result (λ h. rules.greeted h self.new ≡ rules.hello self.old client life rows) }
+        ensures ok { IfOk result (λ h. sessions.greeted h self.new ≡ sessions.hello self.old client life rows) }
         ensures err { OnErr result (self.new ≡ self.old) }
     {
         let judgement = judge(find_session(&self.rows, client), life, rows);
@@ -88,7 +88,7 @@ impl Sessions {
     /// living session; `Again` lends the reply that was kept for the last one. It does not allocate.
     #[tactic(auto, unfolding(st_rules::specs::Sessions::take))]
     pub fn take(&self, client: ClientId, life: Life, epoch: Epoch, number: u64) -> Taken<&Body>
-        ensures { rules.taken_copied result ≡ rules.take self.now client life epoch number }
+        ensures { sessions.taken_copied result ≡ sessions.take self.now client life epoch number }
     {
         if epoch.0 == self.epoch.0 {
             self.take_at(client, life, number)
@@ -100,7 +100,7 @@ impl Sessions {
     /// What becomes of a request of this epoch.
     #[tactic(auto, unfolding(st_rules::specs::Sessions::take_at))]
     fn take_at(&self, client: ClientId, life: Life, number: u64) -> Taken<&Body>
-        ensures { rules.taken_copied result ≡ rules.take_at (rules.session_of self.now client) life number }
+        ensures { sessions.taken_copied result ≡ sessions.take_at (sessions.session_of self.now client) life number }
     {
         match find_session(&self.rows, client) {
             None => Taken::NoSession,
@@ -112,7 +112,7 @@ impl Sessions {
     /// a living session nothing changes. If the call runs out of memory, nothing changes either.
     #[tactic(auto, unfolding(st_rules::specs::Sessions::store))]
     pub fn store(&mut self, client: ClientId, number: u64, reply: &Body) -> Result<(), AllocError>
-        ensures ok { OnOk result (self.new ≡ rules.store self.old client number reply.now) }
+        ensures ok { OnOk result (self.new ≡ sessions.store self.old client number reply.now) }
         ensures err { OnErr result (self.new ≡ self.old) }
     {
         let Some(index) = index_of(&self.rows, client) else {
@@ -128,7 +128,7 @@ impl Sessions {
     /// call runs out of memory, nothing changes.
     #[tactic(auto, unfolding(st_rules::specs::Sessions::reasserted))]
     pub fn reasserted(&mut self, client: ClientId, life: Life) -> Result<(), AllocError>
-        ensures ok { OnOk result (self.new ≡ rules.reasserted self.old client life) }
+        ensures ok { OnOk result (self.new ≡ sessions.reasserted self.old client life) }
         ensures err { OnErr result (self.new ≡ self.old) }
     {
         self.put(Session {
@@ -144,7 +144,7 @@ impl Sessions {
     /// Ends the client's session, if it has one; its life stays known. It does not allocate.
     #[tactic(auto, unfolding(st_rules::specs::Sessions::end))]
     pub fn end(&mut self, client: ClientId)
-        ensures { self.new ≡ rules.end self.old client }
+        ensures { self.new ≡ sessions.end self.old client }
     {
         let Some(index) = index_of(&self.rows, client) else {
             return;
@@ -154,7 +154,7 @@ impl Sessions {
 
     /// The life of the client's session, living or ended, or `None` if it had none in this epoch. It does not allocate.
     pub fn life(&self, client: ClientId) -> Option<Life>
-        ensures life { result ≡ rules.life_of self.now client }
+        ensures life { result ≡ sessions.life_of self.now client }
         ensures once { are_once same_session self.now.rows ≡ true }
     {
         let session = find_session(&self.rows, client)?;
@@ -163,7 +163,7 @@ impl Sessions {
 
     /// Whether the client has a living session of this life, or a session of a higher one. It does not allocate.
     pub fn knows(&self, client: ClientId, life: Life) -> bool
-        ensures { result ≡ rules.knows self.now client life }
+        ensures { result ≡ sessions.knows self.now client life }
     {
         match find_session(&self.rows, client) {
             None => false,
@@ -173,7 +173,7 @@ impl Sessions {
 
     /// Whether the client has a living session of this life. It does not allocate.
     pub fn serves(&self, client: ClientId, life: Life) -> bool
-        ensures { result ≡ serves_at life (rules.session_of self.now client) }
+        ensures { result ≡ serves_at life (sessions.session_of self.now client) }
     {
         match find_session(&self.rows, client) {
             None => false,

@@ -4,7 +4,7 @@ ghost use Rattle.std.specs.List.{position};
 ghost use Rattle.std.specs.Option.{option_copied};
 ghost use Rattle.st_rules.specs.declared.sessions.Session.{Session};
 ghost use Rattle.st_rules.specs.Keys as keys;
-ghost use Rattle.st_rules.specs.Sessions as rules;
+ghost use Rattle.st_rules.specs.Sessions as sessions;
 
 use st_base::ClientId;
 use st_rules::{Session, SessionState};
@@ -12,28 +12,28 @@ use std::alloc::AllocError;
 
 /// Whether a session is the client's.
 fn is_of(session: &Session, client: ClientId) -> bool
-    ensures { result ≡ rules.is_session_of client session.now }
+    ensures { result ≡ sessions.is_session_of client session.now }
 {
     session.client.0 == client.0
 }
 
 /// The client's session, if it has one.
 pub fn find_session(rows: &[Session], client: ClientId) -> Option<&Session>
-    ensures { option_copied result ≡ find (λ s. rules.is_session_of client s) rows.now }
+    ensures { option_copied result ≡ find (λ s. sessions.is_session_of client s) rows.now }
 {
     rows.iter().find(|session| is_of(session, client))
 }
 
 /// Where the client's session stands, if it has one.
 pub fn index_of(rows: &[Session], client: ClientId) -> Option<usize>
-    ensures { result ≡ position (rules.is_session_of client) rows.now }
+    ensures { result ≡ position (sessions.is_session_of client) rows.now }
 {
     rows.iter().position(|session| is_of(session, client))
 }
 
 /// Puts a session in place of its client's, or last.
 pub fn put_session(rows: &mut Vec<Session>, session: Session) -> Result<(), AllocError>
-    ensures ok { OnOk result (rows.new.items ≡ keys.put (rules.is_session_of session.client) session rows.old.items) }
+    ensures ok { OnOk result (rows.new.items ≡ keys.put (sessions.is_session_of session.client) session rows.old.items) }
     ensures err { OnErr result (rows.new.items ≡ rows.old.items) }
 {
     match index_of(rows.as_slice(), session.client) {

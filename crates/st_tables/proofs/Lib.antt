@@ -6,3 +6,6 @@ pub mod Seconds
 pub mod Counts
 pub mod ClientRows
 pub mod RisingKeys
+pub mod InOrder
+pub mod FirstPlaces
+pub mod Puts

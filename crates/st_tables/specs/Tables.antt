@@ -1,8 +1,10 @@
 -- Rows under places that rise, found by their keys.
-use Rattle.std.specs.Prelude.{◌≡◌, ◌<◌, ◌^◌, ◌&&◌, ◌==◌, nat_eq, nat_le, nat_lt, if◌then◌else◌, ℕ, zero, suc, Bool, List, [], ◌++◌, true, length, filter, slice_index_or, Option, Some, None}
+use Rattle.std.specs.Prelude.{◌≡◌, ◌<◌, ◌^◌, ◌&&◌, ◌==◌, nat_eq, nat_le, nat_lt, if◌then◌else◌, ℕ, zero, suc, Bool, true, List, [], ◌++◌, length, slice_index_or}
+use Rattle.std.specs.Prelude.{filter, find, map, Option, Some, None}
 use Rattle.std.specs.Option.{option_map, option_to_list}
 use Rattle.std.specs.List.{list_all}
 use Rattle.std.specs.Map.{lookup}
+use Rattle.st_rules.specs.Keys.{rising}
 use Rattle.st_rules.specs.declared.locks.LockRow.{LockRow}
 use Rattle.st_rules.specs.declared.locks.Waiter.{Waiter}
 use Rattle.st_tables.specs.declared.keys.Key.{Key}
@@ -84,3 +86,12 @@ first_of key v = (key v).first
 pub record IsCounted {V : Type 0} (key : V → Key) (rows : List V) (counts : List ℕ) : Type 0 where
   pub clients : list_all (is_of_client key) rows ≡ true
   pub counted : (c : ℕ) → c < 17 → slice_index_or counts c 0 ≡ length (filter (is_first key c) rows)
+
+-- writing a row over the one with its key is every change of that one which gives the row
+abbrev pub Changes : {V : Type 0} → (V → Key) → V → List V → List V → Type 0
+Changes {V} key row old new =
+    (f : V → V) (v : V) → find (has_key key (key row)) old ≡ Some v → row ≡ f v → new ≡ map (λ r. if has_key key (key row) r then f r else r) old
+
+-- the first numbers of the keys of the rows with this second number that pass, each once, in rising order
+abbrev pub firsts_on : {V : Type 0} → (V → Key) → ℕ → (V → Bool) → List V → List ℕ
+firsts_on key n p rows = rising (map (first_of key) (filter (is_among key n p) rows))

@@ -4,7 +4,7 @@ ghost use Rattle.std.specs.List.{IsDistinct, list_all, list_any};
 ghost use Rattle.std.specs.Option.{option_copied};
 ghost use Rattle.st_rules.specs.Keys as keys;
 ghost use Rattle.st_rules.specs.Keys.{put, rising};
-ghost use Rattle.st_tables.specs.Tables.{first_of, has_key, is_among, is_first, is_of_client, same_key, second_of};
+ghost use Rattle.st_tables.specs.Tables.{Changes, firsts_on, has_key, is_among, is_first, is_of_client, same_key, second_of};
 
 use crate::keys::{Key, Row, Test};
 use crate::table::Table;
@@ -176,7 +176,7 @@ impl<V: Row> ClientTable<V> {
     /// Writes a row over the one with its key, where there is one.
     pub fn change(&mut self, row: V)
         ensures written { self.new ≡ map (λ r. if has_key V.key_of (V.key_of row) r then row else r) self.old }
-        ensures changed { (f : V → V) (v : V) → find (has_key V.key_of (V.key_of row)) self.old ≡ Some v → row ≡ f v → self.new ≡ map (λ r. if has_key V.key_of (V.key_of row) r then f r else r) self.old }
+        ensures changed { Changes V.key_of row self.old self.new }
     {
         self.table.change(row);
     }
@@ -250,7 +250,7 @@ impl<V: Row> ClientTable<V> {
         second: u32,
         test: &T,
     ) -> Result<Vec<ClientId>, AllocError>
-        ensures { IfOk result (λ cs. cs.items ≡ map keys.client (rising (map (first_of V.key_of) (filter (is_among V.key_of second (T.passes test.now)) self.now)))) }
+        ensures { IfOk result (λ cs. cs.items ≡ map keys.client (firsts_on V.key_of second (T.passes test.now) self.now)) }
     {
         let mut found = Vec::new(alloc);
         for i in 0..16u16 {

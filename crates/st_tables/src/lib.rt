@@ -4,10 +4,12 @@
 
 mod clients;
 mod keys;
+mod ordered;
 mod rising;
 mod table;
 
 pub use clients::ClientTable;
 pub use keys::{Every, Key, Row, Test};
+pub use ordered::Ordered;
 pub use rising::put_key;
 pub use table::Table;

@@ -4,7 +4,7 @@ ghost use Rattle.std.specs.List.{IsDistinct, list_any};
 ghost use Rattle.std.specs.Option.{option_copied};
 ghost use Rattle.st_rules.specs.Keys.{put, rising, with_key};
 ghost use Rattle.st_tables.specs.declared.keys.Key.{Key};
-ghost use Rattle.st_tables.specs.Tables.{has_key, is_on, kept, place_of, row_at, same_key, second_of, sooner};
+ghost use Rattle.st_tables.specs.Tables.{Changes, has_key, is_on, kept, place_of, row_at, same_key, second_of, sooner};
 
 use crate::keys::{Key, Row, Test};
 use crate::rising::put_key;
@@ -171,7 +171,7 @@ impl<V: Row> Table<V> {
     /// Writes a row over the one with its key, where there is one.
     pub fn change(&mut self, row: V)
         ensures written { self.new ≡ map (λ r. if has_key V.key_of (V.key_of row) r then row else r) self.old }
-        ensures changed { (f : V → V) (v : V) → find (has_key V.key_of (V.key_of row)) self.old ≡ Some v → row ≡ f v → self.new ≡ map (λ r. if has_key V.key_of (V.key_of row) r then f r else r) self.old }
+        ensures changed { Changes V.key_of row self.old self.new }
     {
         let key = row.key();
         if let Some(place) = self.places.get(&key).copied() {

@@ -1,6 +1,6 @@
 use Rattle.std.proofs.Common.{sym, ◌∙◌}
 use Rattle.st_rules.specs.Sessions.{is_session_of}
-use Rattle.st_sessions.proofs.Puts.{put_at, put_behind}
+use Rattle.st_tables.proofs.Puts.{put_at, put_behind}
 use Rattle.st_sessions.proofs.table.put_session.Goals as goal
 
 pub returns-in_ok-push-in-None-clause-ok : goal.returns-in_ok-push-in-None-clause-ok

@@ -7,4 +7,4 @@ use Rattle.st_tables.proofs.RisingKeys.{numbers}
 use Rattle.st_locks.proofs.table.LockTable.unanswered.Given as goal
 
 abbrev pub invariant-loop-i : goal.invariant-loop-i
-invariant-loop-i l = l.found.items ≡ map client (filter (λ x. list_any (λ r. is_overdue l.config l.now r && (r.client.0 == x)) l.self-inside.rows) (numbers 1 l.i))
+invariant-loop-i l = l.found.items ≡ map client (filter (λ x. list_any (λ r. is_overdue l.fn.config l.fn.now r && (r.client.0 == x)) l.self.rows) (numbers 1 l.i))

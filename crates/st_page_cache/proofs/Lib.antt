@@ -1,0 +1,12 @@
+pub mod Keyed
+pub mod Steps
+pub mod CleanRows
+pub mod DirtyRows
+pub mod Lexical
+pub mod Nearest
+pub mod Sorting
+pub mod Places
+pub mod Dropping
+pub mod Changes
+pub mod Used
+pub mod KnownRows

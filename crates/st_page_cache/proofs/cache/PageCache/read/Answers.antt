@@ -1,0 +1,13 @@
+use Rattle.std.proofs.Common.{◌∙◌, ap, refl}
+use Rattle.st_rules.specs.ClientPages.{cached}
+use Rattle.st_page_cache.specs.Caches.{ServerPages}
+use Rattle.st_page_cache.proofs.Used.{cached_used}
+use Rattle.st_page_cache.proofs.cache.PageCache.read.Goals as goal
+
+pub returns-in-Some : goal.returns-in-Some
+returns-in-Some c =
+    ((refl, (λ _. tt), c.use_page.ensures), record { used = tt; value = c.in-Some.ensures ∙ ap (λ (s : ServerPages). cached s.pages c.args.ino c.args.page) c.use_page.ensures ∙ cached_used c.args.self.now.pages c.args.ino c.args.page })
+
+pub returns-in-None : goal.returns-in-None
+returns-in-None c =
+    ((refl, (λ _. tt), c.use_page.ensures), record { used = tt; value = c.in-None.ensures ∙ ap (λ (s : ServerPages). cached s.pages c.args.ino c.args.page) c.use_page.ensures ∙ cached_used c.args.self.now.pages c.args.ino c.args.page })

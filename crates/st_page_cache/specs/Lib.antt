@@ -1,0 +1,4 @@
+pub mod Caches
+pub mod Keyed
+pub mod Placing
+pub mod Reading

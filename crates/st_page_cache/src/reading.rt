@@ -1,0 +1,27 @@
+// Reading a page, which lends its bytes.
+ghost use Rattle.std.specs.Prelude.{◌≡◌};
+ghost use Rattle.std.specs.Borrow.{sem};
+ghost use Rattle.st_rules.specs.ClientPages as pages;
+ghost use Rattle.st_page_cache.specs.Caches.{bytes_shown};
+ghost use Rattle.st_page_cache.specs.Reading.{EndsUsed};
+
+use crate::cache::PageCache;
+use crate::shown::Page;
+use st_base::PageNo;
+use st_lease_client::UsePermit;
+
+impl PageCache {
+    /// Reads a page: `Miss` exactly where it is neither dirty nor clean. A clean page becomes the newest one. It does not
+    /// allocate.
+    pub fn read(&mut self, permit: &UsePermit, ino: u32, page: PageNo) -> Page<'_>
+        requires { permit.now.server ≡ self.old.server }
+        ensures* used { sem 𝓛 (EndsUsed self.entry ino page) }
+        ensures value { bytes_shown result ≡ pages.cached self.old.pages ino page }
+    {
+        self.use_page(permit, ino, page);
+        match self.peek(ino, page) {
+            Some(bytes) => Page::Hit(bytes),
+            None => Page::Miss,
+        }
+    }
+}

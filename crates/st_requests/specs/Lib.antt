@@ -1,0 +1,2 @@
+pub mod ServerRequests
+pub mod Outstanding

@@ -1,0 +1,82 @@
+// Values of a slab in the order in which they came.
+ghost use Rattle.std.specs.Prelude.{◌≡◌, ◌<◌, ◌^◌, ◌++◌, ◌∷◌, [], IsTrue, OnOk, OnErr, Some, filter, length, remove, slice_get};
+ghost use Rattle.std.specs.List.{position};
+ghost use Rattle.std.specs.Option.{option_copied};
+
+use crate::keys::Test;
+use slab::Slab;
+use std::alloc::{AllocError, Global};
+use std::marker::Model;
+
+/// Values in the order in which they came. They stay where they are in memory while others come and go. Contracts see the
+/// list of the values; a place is that of a value in the list, from 0 on.
+#[derive(Drop)]
+pub struct Ordered<V: Drop> {
+    slab: Slab<V>,
+    order: Vec<usize>,
+}
+
+impl<V: Drop> Model for Ordered<V> {
+    ghost use Rattle.std.specs.Prelude.{List};
+
+    ghost Value = { List V };
+
+    ghost use Rattle.st_tables.specs.Orders.{in_order, IsOrder};
+
+    ghost view = { λ o. in_order o.slab o.order.items };
+
+    ghost invariant = { λ o. IsOrder o.slab o.order.items };
+}
+
+impl<V: Drop> Ordered<V> {
+    /// No values. It does not allocate.
+    pub fn new(alloc: Global) -> Ordered<V>
+        ensures { result ≡ [] }
+    {
+        Ordered {
+            slab: Slab::new(alloc),
+            order: Vec::new(alloc),
+        }
+    }
+
+    /// How many values there are.
+    pub fn len(&self) -> usize
+        ensures len { result ≡ length self.now }
+        ensures small { result < 2 ^ 63 }
+    {
+        self.order.len()
+    }
+
+    /// The value at a place.
+    pub fn get(&self, place: usize) -> Option<&V>
+        ensures found { option_copied result ≡ slice_get self.now place }
+    {
+        if place < self.order.len() {
+            self.slab.get(self.order[place])
+        } else {
+            None
+        }
+    }
+
+    /// One more value goes last. If the call runs out of memory, nothing changes.
+    pub fn push(&mut self, value: V) -> Result<(), AllocError>
+        ensures ok { OnOk result (self.new ≡ self.old ++ value ∷ []) }
+        ensures err { OnErr result (self.new ≡ self.old) }
+    {
+        self.slab.reserve(1)?;
+        self.order.reserve(1)?;
+        let key = self.slab.insert_reserved(value);
+        self.order.push(key).unwrap();
+        Ok(())
+    }
+
+    /// Takes out the value at a place. It does not allocate.
+    pub fn take(&mut self, place: usize) -> Option<V>
+        requires { place < length self.old }
+        ensures taken { result ≡ slice_get self.old place }
+        ensures left { self.new ≡ remove self.old place }
+    {
+        let key = self.order.remove(place);
+        self.slab.try_remove(key)
+    }
+}
