@@ -1,13 +1,11 @@
-//! The outstanding disk commands of a client for one server's files, and what it knows of the places of pages.
+//! The outstanding disk commands of a client for one server's files.
 //! `docs/PROTOCOL.md`, "Leases, locks, pages and commands", has the rules.
 #![tactic(auto)]
 
-mod extents;
 mod flusher;
 mod picks;
 
-pub use extents::KnownExtents;
 pub use flusher::Flusher;
 pub use st_base::{PageNo, ServerId};
 pub use st_lease_client::{CommandLoss, CommandsGone, DrainPermit, Receipt, SubmitPermit};
-pub use st_rules::{Ended, IoKind, KnownExtent, Mapping, PageCommand};
+pub use st_rules::{Ended, IoKind, PageCommand};

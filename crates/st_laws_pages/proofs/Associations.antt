@@ -14,10 +14,7 @@ use Rattle.st_lemmas.specs.Lists.{Has}
 use Rattle.st_lemmas.proofs.Lookups.{some_is}
 use Rattle.st_laws_pages.specs.Losses.{is_ended}
 use Rattle.st_laws_pages.specs.Lives.{lost_row, row_lost, rows_lost, Pairwise, Once, server_number}
-
-no_way : (b : Bool) → b ≡ true → b ≡ false → ⊥
-no_way true e f = cc
-no_way false e f = cc
+use Rattle.st_laws_pages.proofs.Clash.{clash}
 
 pub has_number : (al : List Association) (a : Association) → Has a al → Has (server_number a) (map server_number al)
 has_number [] a h = h

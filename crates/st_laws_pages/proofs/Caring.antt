@@ -36,16 +36,13 @@ use Rattle.st_laws_pages.proofs.Fates.{pending_map}
 use Rattle.st_laws_pages.specs.Flush.{file_at, owner_at_page, Is_its, Sent, Write_cared, Dirty_here, Cared, Numbers_below}
 use Rattle.st_laws_pages.proofs.FateSteps.{pending_more}
 use Rattle.st_laws_pages.proofs.Owing.{last_more}
+use Rattle.st_laws_pages.proofs.Writer.{latest_last}
+use Rattle.st_laws_pages.proofs.Clash.{clash}
 
 -- one more entry that is not the client's to this page leaves its latest one
-latest_other : (n before : ℕ) (c : ClientId) (f : FileId) (p : PageNo) (es : List LogEntry) (e : LogEntry) → ev.is_entry_of c f p e ≡ false → ev.latest_from n before c f p (es ++ e ∷ []) ≡ ev.latest_from n before c f p es
-unfolding ev.latest_from ev.latest_at
-latest_other n before c f p [] e q = ap (λ b. if b then n else before) q
-latest_other n before c f p (x ∷ es) e q = latest_other (n + 1) (ev.latest_at c f p n before x) c f p es e q
-
 pub latest_stays : (c : ClientId) (f : FileId) (p : PageNo) (es : List LogEntry) (e : LogEntry) → ev.is_entry_of c f p e ≡ false → latest (es ++ e ∷ []) c f p ≡ latest es c f p
-unfolding latest
-latest_stays c f p es e q = latest_other 1 0 c f p es e q
+unfolding latest ev.latest_at
+latest_stays c f p es e q = latest_last 1 0 c f p es e ∙ ap (λ b. if b then 1 + length es else ev.latest_from 1 0 c f p es) q
 
 pub last_stays : (o : LogOwner) (cs : List IssuedCommand) (x : IssuedCommand) → ev.carries_for o x x.carries ≡ false → last_write (cs ++ x ∷ []) o ≡ last_write cs o
 unfolding last_write
@@ -191,13 +188,9 @@ pub any_kept : {A : Type 0} (q r : A → Bool) (xs : List A) → ((x : A) → q 
 any_kept q r [] k h = h
 any_kept {A} q r (x ∷ xs) k h = go (q x) refl (r x) refl h (any_kept q r xs k)
   where
-    no : (b : Bool) → b ≡ true → b ≡ false → ⊥
-    no true a b = cc
-    no false a b = cc
-
     go : (b : Bool) → q x ≡ b → (d : Bool) → r x ≡ d → (b || list_any q xs) ≡ true → (list_any q xs ≡ true → list_any q (filter r xs) ≡ true) → list_any q (if d then x ∷ filter r xs else filter r xs) ≡ true
     go true e true f h g = or_left (q x) (list_any q (filter r xs)) e
-    go true e false f h g = absurd (no (r x) (k x e) f)
+    go true e false f h g = absurd (clash (r x) (k x e) f)
     go false e true f h g = or_right (q x) (list_any q (filter r xs)) (g h)
     go false e false f h g = g h
 

@@ -42,6 +42,7 @@ use Rattle.st_laws_pages.proofs.Effects.{or_none, stands_not}
 use Rattle.st_laws_pages.proofs.Ending.{some_has}
 use Rattle.st_laws_pages.proofs.GoneLaw.{pending_crashed}
 use Rattle.st_laws_pages.proofs.Lasting.{Present, present_is, present_end_is}
+use Rattle.st_laws_pages.proofs.Clash.{clash}
 
 -- The numbers from one to a count.
 numbers_has : (a n i : ℕ) → a ≤ i → i < a + n → Has i (numbers a n)
@@ -208,11 +209,7 @@ module _ (past : List Step) (w : World) (steps : List ℕ) (r : adm.refusal w (e
             written b = at (some_has (pages.is_write_of o.file.ino o.page) a.store.commands b)
               where
                 at : (pc : PageCommand) × Has pc a.store.commands × (pages.is_write_of o.file.ino o.page pc ≡ true) → ⊥
-                at (pc, i, k) = bad (pages.is_write pc.kind) (and_true (pages.is_write pc.kind) _ k).0 (none_passes pages.is_any_write a.store.commands z.1 pc i)
-                  where
-                    bad : (b : Bool) → b ≡ true → b ≡ false → ⊥
-                    bad true x y = cc
-                    bad false x y = cc
+                at (pc, i, k) = clash (pages.is_write pc.kind) (and_true (pages.is_write pc.kind) _ k).0 (none_passes pages.is_any_write a.store.commands z.1 pc i)
 
             failed : (n : Option ℕ) → d.failed ≡ n → is_some n ≡ true → list_any (reports_failure (last_write w.commands (owner_at_page l.client a o.file.ino o.page))) past ≡ true
             failed None q k = cc

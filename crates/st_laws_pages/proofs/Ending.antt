@@ -35,6 +35,7 @@ use Rattle.st_laws_pages.proofs.Fates.{pending_map}
 use Rattle.st_laws_pages.proofs.Caring.{store_same}
 use Rattle.st_laws_pages.specs.Client.{Change, Says, Operates, Answers, Greets, Tells_lost, Begins, Follows, Learns, Forgets, Caches, Writes, Reads, Submits}
 use Rattle.st_base.specs.declared.ids.Stamp.{Stamp}
+use Rattle.st_laws_pages.proofs.Clash.{clash}
 
 -- The numbers of outstanding commands.
 pub apart_fewer : (q : PageCommand → Bool) (cs : List PageCommand) → Numbers_apart cs → Numbers_apart (filter q cs)
@@ -60,10 +61,6 @@ some_has {A} q (x ∷ xs) h = go (q x) refl h (some_has q xs)
     go : (b : Bool) → q x ≡ b → (b || list_any q xs) ≡ true → (list_any q xs ≡ true → (y : A) × Has y xs × (q y ≡ true)) → (y : A) × Has y (x ∷ xs) × (q y ≡ true)
     go true e h f = (x, inl refl, e)
     go false e h f = let z = f h in (z.0, inr z.1, z.2)
-
-no_bool : (b : Bool) → b ≡ true → b ≡ false → ⊥
-no_bool true a b = cc
-no_bool false a b = cc
 
 -- the version of a write
 a_write : (k : IoKind) → pages.is_write k ≡ true → (v : ℕ) × (k ≡ io.Write v)
@@ -96,7 +93,7 @@ without_cared past cs es c starts next a number told h =
     fail ino p d n i q false f (inl w) = let z = some_has (pages.is_write_of ino p) a.store.commands w in inr (gone z.0 z.1 z.2 (pages.is_numbered number z.0) refl)
       where
         gone : (pc : PageCommand) → Has pc a.store.commands → pages.is_write_of ino p pc ≡ true → (b : Bool) → pages.is_numbered number pc ≡ b → list_any (reports_failure (last_write cs (owner_at_page c a ino p))) past ≡ true
-        gone pc y t false u = absurd (no_bool (pages.is_write_of ino p pc) t (none_passes (pages.is_write_of ino p) (filter keeps a.store.commands) f pc (has_filter_in keeps a.store.commands pc y (ap not u))))
+        gone pc y t false u = absurd (clash (pages.is_write_of ino p pc) t (none_passes (pages.is_write_of ino p) (filter keeps a.store.commands) f pc (has_filter_in keeps a.store.commands pc y (ap not u))))
         gone pc y t true u =
             let k = and_true (pages.is_write pc.kind) ((pc.ino == ino) && same_page pc.page p) t in
             let v = a_write pc.kind k.0 in
@@ -238,7 +235,7 @@ failed_was ps ino p n i q d e = go (pages.dirty_of ps i q) refl (sym (failed_row
           where
             turned : (b : Bool) → Place_is i q ino p ≡ b → b ≡ false
             turned false t = refl
-            turned true t = let s = one_place i q ino p t in absurd (no_bool (Place_is ino p i q) (subst (λ j. Place_is j p i q ≡ true) s.0 (subst (λ r. Place_is i r i q ≡ true) s.1 (self_place i q))) z)
+            turned true t = let s = one_place i q ino p t in absurd (clash (Place_is ino p i q) (subst (λ j. Place_is j p i q ≡ true) s.0 (subst (λ r. Place_is i r i q ≡ true) s.1 (self_place i q))) z)
 
 failed_still : (ps : Pages) (ino : ℕ) (p : PageNo) (n : ℕ) (i : ℕ) (q : PageNo) (d : DirtyPage) → pages.dirty_of ps i q ≡ Some d → pages.dirty_of (pages.fail ps ino p n) i q ≡ Some (pages.fail_of ino p n d)
 unfolding pages.fail pages.failed_by
@@ -278,7 +275,7 @@ failed_cared past cs es c starts next a ino p n free told h =
         go false z = refl
         go true z =
             let o = one_place ino p pc.ino pc.page z in
-            absurd (no_bool (pages.is_write_of ino p pc) (ap (λ k. pages.is_write k && Place_is pc.ino pc.page ino p) q ∙ subst (λ j. Place_is j pc.page ino p ≡ true) o.0 (subst (λ r. Place_is ino r ino p ≡ true) o.1 (self_place ino p)))
+            absurd (clash (pages.is_write_of ino p pc) (ap (λ k. pages.is_write k && Place_is pc.ino pc.page ino p) q ∙ subst (λ j. Place_is j pc.page ino p ≡ true) o.0 (subst (λ r. Place_is ino r ino p ≡ true) o.1 (self_place ino p)))
             (none_passes (pages.is_write_of ino p) a.store.commands free pc i))
 
     fail : (i : ℕ) (q : PageNo) (d : DirtyPage) (k : ℕ) (t : Bool) → Place_is ino p i q ≡ t → Was a.store.pages ino p i q d → d.failed ≡ Some k → (pages.is_being_written a.store.commands i q ≡ true) ⊎ (list_any (reports_failure (last_write cs (owner_at_page c a i q))) past ≡ true)
@@ -374,7 +371,7 @@ ends_cared past cs es c starts next number ok t _ (Fails pc v e o k) ap_ fo so h
             let m = and_true (pages.is_write qc.kind) ((qc.ino == pc.ino) && same_page qc.page pc.page) z in
             let s = a_write qc.kind m.0 in
             let l = one_place qc.ino qc.page pc.ino pc.page m.1 in
-            no_bool (pages.is_numbered number qc) (eq-eqb qc.number number (h.once qc pc f.0 is.0 s.0 v s.1 k l.0 l.1 ∙ is.1)) (not_true (pages.is_numbered number qc) f.1)
+            clash (pages.is_numbered number qc) (eq-eqb qc.number number (h.once qc pc f.0 is.0 s.0 v s.1 k l.0 l.1 ∙ is.1)) (not_true (pages.is_numbered number qc) f.1)
 
 -- A change that changes no page and submits nothing.
 abbrev pub Is_quiet : (now : Stamp) (t u : Turn) → Change now t u → Type 0

@@ -39,6 +39,7 @@ use Rattle.st_laws_pages.proofs.Living.{row_is}
 use Rattle.st_laws_pages.proofs.Turning.{says_one}
 use Rattle.st_laws_pages.proofs.Dirtying.{note_map}
 use Rattle.st_laws_pages.proofs.Lasting.{no_option}
+use Rattle.st_laws_pages.proofs.Clash.{clash}
 
 -- no row is lost of a server whose lease is not over
 pub none_lost : (c : ClientId) (s : ClientState) (now : Stamp) (k : Rattle.st_base.specs.declared.config.Config.Config) (ts : List Stamp) (es : List LeaseLife) (n : cl.ClientNode) → n.state ≡ s → Node_holds k ts es c n → (a : Association) (l : Life) → Has a s.associations → is_ended s.config now a.session ≡ false →
@@ -47,10 +48,6 @@ none_lost c s now k ts es n e h a l i f = go (find (is_life_of c a.server l) (ro
   where
     once : Rattle.st_laws_pages.specs.Lives.Once (map Rattle.st_laws_pages.specs.Lives.server_number s.associations)
     once = subst (λ (x : ClientState). Rattle.st_laws_pages.specs.Lives.Once (map Rattle.st_laws_pages.specs.Lives.server_number x.associations)) e h.once
-
-    clash : (b : Bool) → b ≡ true → b ≡ false → ⊥
-    clash true x y = cc
-    clash false x y = cc
 
     go : (o : Option LeaseLife) → find (is_life_of c a.server l) (rows_lost c s now s.associations) ≡ o → o ≡ None
     go None q = refl

@@ -58,10 +58,10 @@ use Rattle.st_laws_pages.proofs.FateLaw.{pending_hard, pending_fewer}
 use Rattle.st_laws_pages.proofs.FateSteps.{pending_more}
 use Rattle.st_laws_pages.proofs.Moves.{clock_up}
 use Rattle.st_laws_pages.proofs.LifeSteps.{owners_hard, owners_ended}
-use Rattle.st_laws_pages.proofs.Folds.{owners_drop}
 use Rattle.st_laws_pages.proofs.Keeping.{Told}
 use Rattle.st_laws_pages.proofs.Flushing.{Input_told, emptied_cared}
-use Rattle.st_laws_pages.proofs.FlushSteps.{latest_same, node_fates, moved_flush, same_clocks, client_flush}
+use Rattle.st_laws_pages.proofs.FlushSteps.{latest_owners, node_fates, moved_flush, same_clocks, client_flush}
+use Rattle.st_lemmas.proofs.Marks.{owners_drop}
 
 -- Behind one more step.
 up_one : (past : List Step) (x : Step) (n : ℕ) → list_any (reports_failure n) past ≡ true → list_any (reports_failure n) (past ++ x ∷ []) ≡ true
@@ -98,7 +98,7 @@ module _ (past : List Step) (x : Step) where
   marked : (w v : World) (es : List LogEntry) → v.config ≡ w.config → ((c : ClientId) → (clock_in w.clocks c).0 ≤ (clock_in v.clocks c).0) → v.clients ≡ w.clients → v.commands ≡ w.commands → v.flushed ≡ w.flushed → length v.servers ≡ length w.servers → v.log ≡ es → map owner_of es ≡ map owner_of w.log →
       ((P : LogOwner → Type 0) → Pending_all P w.log → Pending_all P es) → FlushHold past w → FlushHold more v
   marked w v es k ts cs xs fl ns l o f h =
-      moved_flush past more w v k ts cs xs fl ns (up_one past x) (λ c b g p. ap (λ zs. latest zs c g p) l ∙ latest_same c g p w.log es o) (λ P z. subst (Pending_all P) (sym l) (f P z)) h
+      moved_flush past more w v k ts cs xs fl ns (up_one past x) (λ c b g p. ap (λ zs. latest zs c g p) l ∙ latest_owners c g p w.log es o) (λ P z. subst (Pending_all P) (sym l) (f P z)) h
 
   -- A client's step.
   takes_flush : (w : World) (c : ClientId) (input : ClientInput) (old site : ClientSite) → site_of w c ≡ Some old → old.node ≡ site.node → old.starts ≡ site.starts → Takes_owes w c input site →
@@ -191,7 +191,7 @@ module _ (past : List Step) (x : Step) where
         node : (d : ClientId) (y : ClientSite) → y.node.running ≡ true → ((d ≡ c) × (y ≡ ev.stopped_site site)) ⊎ (numbered w.clients d.0 ≡ Some y) → Node_cared more w.commands es d y
         node d y r (inl q) = absurd (no y q.1 r)
         node d y r (inr q) =
-            node_fates past more w.commands w.log es d y (up_one past x) (λ f p. latest_same d f p w.log es (owners_drop 1 (ev.is_of_crashed w c) (log.always causes.Crash) w.log)) (λ P z. pending_fewer P 1 (ev.is_of_crashed w c) (log.always causes.Crash) w.log z) (h.sites d y q r)
+            node_fates past more w.commands w.log es d y (up_one past x) (λ f p. latest_owners d f p w.log es (owners_drop 1 (ev.is_of_crashed w c) (log.always causes.Crash) w.log)) (λ P z. pending_fewer P 1 (ev.is_of_crashed w c) (log.always causes.Crash) w.log z) (h.sites d y q r)
 
         starts : (d : ClientId) (y : ClientSite) → ((d ≡ c) × (y ≡ ev.stopped_site site)) ⊎ (numbered w.clients d.0 ≡ Some y) → Starts_below w.commands d y.starts
         starts d y (inl q) = λ z i e. subst (λ (s : ClientSite). z.starts ≤ s.starts) (sym q.1) (h.starts c site there z i (e ∙ q.0))

@@ -50,26 +50,12 @@ use Rattle.st_laws_pages.proofs.LifeSteps.{steps_so}
 use Rattle.st_laws_pages.proofs.Turning.{says_one}
 use Rattle.st_laws_pages.proofs.Adding.{After, after_clients}
 use Rattle.st_laws_pages.proofs.Flushing.{Input_told, Flushed_by, step_flushed, step_cared, pair_of}
+use Rattle.st_laws_pages.proofs.Writer.{latest_same}
 
 -- Equal owners give equal latest entries.
-latest_by : (n before : ℕ) (c : ClientId) (f : FileId) (p : PageNo) (es fs : List LogEntry) → map owner_of es ≡ map owner_of fs → ev.latest_from n before c f p es ≡ ev.latest_from n before c f p fs
-unfolding ev.latest_from ev.latest_at
-latest_by n before c f p [] [] e = refl
-latest_by n before c f p [] (y ∷ fs) e = cc
-latest_by n before c f p (x ∷ es) [] e = cc
-latest_by n before c f p (x ∷ es) (y ∷ fs) e =
-    ap (λ o. ev.latest_from (n + 1) (if log.is_of_client c o && (same_file o.file f && same_page o.page p) then n else before) c f p es) (head (owner_of x) (owner_of y) (map owner_of es) (map owner_of fs) e)
-    ∙ latest_by (n + 1) (ev.latest_at c f p n before y) c f p es fs (tail (owner_of x) (owner_of y) (map owner_of es) (map owner_of fs) e)
-  where
-    head : (a b : LogOwner) (xs ys : List LogOwner) → a ∷ xs ≡ b ∷ ys → a ≡ b
-    head a b xs ys z = cc
-
-    tail : (a b : LogOwner) (xs ys : List LogOwner) → a ∷ xs ≡ b ∷ ys → xs ≡ ys
-    tail a b xs ys z = cc
-
-pub latest_same : (c : ClientId) (f : FileId) (p : PageNo) (es fs : List LogEntry) → map owner_of fs ≡ map owner_of es → latest fs c f p ≡ latest es c f p
+pub latest_owners : (c : ClientId) (f : FileId) (p : PageNo) (es fs : List LogEntry) → map owner_of fs ≡ map owner_of es → latest fs c f p ≡ latest es c f p
 unfolding latest
-latest_same c f p es fs e = latest_by 1 0 c f p fs es e
+latest_owners c f p es fs e = latest_same 1 0 c f p es fs e
 
 -- What stands of a client that runs, behind more steps and with other fates.
 pub node_fates : (past more : List Step) (cs : List IssuedCommand) (es fs : List LogEntry) (c : ClientId) (site : ClientSite) → ((n : ℕ) → list_any (reports_failure n) past ≡ true → list_any (reports_failure n) more ≡ true) →
@@ -203,23 +189,6 @@ says_less c before (o ∷ os) sc =
     let a = less_one c before o sc in
     let b = says_less c before os (client_says sc c before o) in
     record { config = b.config ∙ a.config; clocks = b.clocks ∙ a.clocks; servers = b.servers ∙ a.servers; flushed = b.flushed ∙ a.flushed }
-
-flush_servers : (c : ClientId) (s : ClientState) (ss : List ServerId) (w : World) → (ev.flushes c s ss w).servers ≡ w.servers
-unfolding ev.flushes
-flush_servers c s [] w = refl
-flush_servers c s (y ∷ ss) w = flush_servers c s ss (ev.flushed_at w c y s) ∙ in_phase (cl.lease_end_with s y) (cl.phase_with s y (clock_of w (nodes.Client c)))
-  where
-    under : (o : Option Stamp) → (ev.flushed_under w c y o).servers ≡ w.servers
-    under None = refl
-    under (Some e) = refl
-
-    in_phase : (o : Option Stamp) (p : Option Phase) → (ev.flushed_in w c y o p).servers ≡ w.servers
-    in_phase o (Some phases.Flush) = under o
-    in_phase o (Some phases.Valid) = refl
-    in_phase o (Some phases.Renewal) = refl
-    in_phase o (Some phases.Quiesce) = refl
-    in_phase o (Some phases.Expired) = refl
-    in_phase o None = refl
 
 -- Flush steps.
 
@@ -390,7 +359,7 @@ module _ (past more : List Step) (w : World) (c : ClientId) (old site : ClientSi
   servers_of d x e a i = go (at_site d x e)
     where
       count : length v.servers ≡ length w.servers
-      count = ap length (flush_servers c turn.node.state (world.all_servers u) u ∙ (says_less c site.node.state turn.out sc).servers)
+      count = ap length (fl.servers ∙ (says_less c site.node.state turn.out sc).servers)
 
       up_to : (b : Association) → (1 ≤ b.server.0) × (b.server.0 ≤ length w.servers) → a.server ≡ b.server → (1 ≤ a.server.0) × (a.server.0 ≤ length v.servers)
       up_to b (x, y) q = let z = ap (λ (s : ServerId). s.0) q in (omega (arith, x, z), omega (arith, y, z, count))

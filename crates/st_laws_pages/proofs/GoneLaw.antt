@@ -59,6 +59,7 @@ use Rattle.st_laws_pages.proofs.Living.{row_is}
 use Rattle.st_laws_pages.proofs.Turning.{Said, says_lives}
 use Rattle.st_laws_pages.proofs.Lasting.{Flushed, flush_parts, no_option, end_one}
 use Rattle.st_laws_pages.proofs.LifeSteps.{steps_so, stopped_is}
+use Rattle.st_laws_pages.proofs.Clash.{clash}
 
 -- a crash ended the life, or its lease is over
 abbrev pub Over : World → LogOwner → Type 0
@@ -69,11 +70,7 @@ gone_known P Q [] f h = h
 gone_known P Q (e ∷ es) f h = record { one = λ q. f e.of (inl refl) (h.one q); rest = gone_known P Q es (λ o i. f o (inr i)) h.rest }
 
 gone_more : (P : LogOwner → Type 0) (es : List LogEntry) (e : LogEntry) → log.counts e.fate ≡ true → Gone_all P es → Gone_all P (es ++ e ∷ [])
-gone_more P [] e t h = record { one = λ q. absurd (no (log.counts e.fate) t q); rest = record {} }
-  where
-    no : (b : Bool) → b ≡ true → b ≡ false → ⊥
-    no true u v = cc
-    no false u v = cc
+gone_more P [] e t h = record { one = λ q. absurd (clash (log.counts e.fate) t q); rest = record {} }
 gone_more P (x ∷ es) e t h = record { one = h.one; rest = gone_more P es e t h.rest }
 
 -- in a world of the same clocks, clients and ended lives

@@ -81,26 +81,27 @@ pub record Flushed (w v : World) : Type 0 where
   pub log : v.log ≡ w.log
   pub commands : v.commands ≡ w.commands
   pub config : v.config ≡ w.config
+  pub servers : v.servers ≡ w.servers
 
 pub flush_parts : (c : ClientId) (s : ClientState) (ss : List ServerId) (w : World) → Flushed w (ev.flushes c s ss w)
 unfolding ev.flushes
-flush_parts c s [] w = record { clocks = refl; clients = refl; ended = refl; log = refl; commands = refl; config = refl }
+flush_parts c s [] w = record { clocks = refl; clients = refl; ended = refl; log = refl; commands = refl; config = refl; servers = refl }
 flush_parts c s (x ∷ ss) w = go (in_phase (cl.lease_end_with s x) (cl.phase_with s x (clock_of w (nodes.Client c)))) (flush_parts c s ss (ev.flushed_at w c x s))
   where
     under : (o : Option Stamp) → Flushed w (ev.flushed_under w c x o)
-    under None = record { clocks = refl; clients = refl; ended = refl; log = refl; commands = refl; config = refl }
-    under (Some e) = record { clocks = refl; clients = refl; ended = refl; log = refl; commands = refl; config = refl }
+    under None = record { clocks = refl; clients = refl; ended = refl; log = refl; commands = refl; config = refl; servers = refl }
+    under (Some e) = record { clocks = refl; clients = refl; ended = refl; log = refl; commands = refl; config = refl; servers = refl }
 
     in_phase : (o : Option Stamp) (p : Option Phase) → Flushed w (ev.flushed_in w c x o p)
     in_phase o (Some phases.Flush) = under o
-    in_phase o (Some phases.Valid) = record { clocks = refl; clients = refl; ended = refl; log = refl; commands = refl; config = refl }
-    in_phase o (Some phases.Renewal) = record { clocks = refl; clients = refl; ended = refl; log = refl; commands = refl; config = refl }
-    in_phase o (Some phases.Quiesce) = record { clocks = refl; clients = refl; ended = refl; log = refl; commands = refl; config = refl }
-    in_phase o (Some phases.Expired) = record { clocks = refl; clients = refl; ended = refl; log = refl; commands = refl; config = refl }
-    in_phase o None = record { clocks = refl; clients = refl; ended = refl; log = refl; commands = refl; config = refl }
+    in_phase o (Some phases.Valid) = record { clocks = refl; clients = refl; ended = refl; log = refl; commands = refl; config = refl; servers = refl }
+    in_phase o (Some phases.Renewal) = record { clocks = refl; clients = refl; ended = refl; log = refl; commands = refl; config = refl; servers = refl }
+    in_phase o (Some phases.Quiesce) = record { clocks = refl; clients = refl; ended = refl; log = refl; commands = refl; config = refl; servers = refl }
+    in_phase o (Some phases.Expired) = record { clocks = refl; clients = refl; ended = refl; log = refl; commands = refl; config = refl; servers = refl }
+    in_phase o None = record { clocks = refl; clients = refl; ended = refl; log = refl; commands = refl; config = refl; servers = refl }
 
     go : Flushed w (ev.flushed_at w c x s) → Flushed (ev.flushed_at w c x s) (ev.flushes c s ss (ev.flushed_at w c x s)) → Flushed w (ev.flushes c s ss (ev.flushed_at w c x s))
-    go a b = record { clocks = b.clocks ∙ a.clocks; clients = b.clients ∙ a.clients; ended = b.ended ∙ a.ended; log = b.log ∙ a.log; commands = b.commands ∙ a.commands; config = b.config ∙ a.config }
+    go a b = record { clocks = b.clocks ∙ a.clocks; clients = b.clients ∙ a.clients; ended = b.ended ∙ a.ended; log = b.log ∙ a.log; commands = b.commands ∙ a.commands; config = b.config ∙ a.config; servers = b.servers ∙ a.servers }
 
 -- what was late stays late, by the parts of a world
 late_parts : (w v : World) (c : ClientId) (old site : ClientSite) → site_of w c ≡ Some old → LivesHold w → v.clocks ≡ w.clocks → v.clients ≡ with_numbered c.0 site w.clients →

@@ -24,7 +24,7 @@ use Rattle.st_rules.specs.Client as cl
 use Rattle.st_rules.specs.ClientState.{ClientSession, Turn, note, answered, is_of, is_at, is_sent, only_at, server_of, with_operations, with_lost_rows, new_operation}
 use Rattle.st_laws_pages.specs.Client.{Operates, Caches, Tells_lost, Changes, Still}
 use Rattle.st_laws_pages.specs.Losses.{is_ended, Loses, Lasts, Is_lost, Is_outdated, without, Ends, Unknown, Passes, Hardens, Fails}
-use Rattle.st_laws_pages.proofs.Tables.{clash}
+use Rattle.st_laws_pages.proofs.Clash.{clash}
 use Rattle.st_laws_pages.proofs.Changes.{one, both, if_changes, k_keep, k_answer, k_each}
 
 -- a lease is over from its end on

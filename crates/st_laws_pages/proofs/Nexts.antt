@@ -27,6 +27,7 @@ use Rattle.st_lemmas.proofs.Contents.{Place_is, one_place, other_place, find_sta
 use Rattle.st_lemmas.proofs.Tables.{and_true, not_true}
 use Rattle.st_laws_pages.specs.Client.{Plain, Plain_note, Changes_page, Goes_on, Unasked, Change, Says, Operates, Answers, Greets, Tells_lost, Begins, Follows, Learns, Forgets, Caches, Writes, Reads, Submits, Changes, Still, Then}
 use Rattle.st_laws_pages.specs.Losses.{Asked_fresh, Session_fresh, Session_next, Fit}
+use Rattle.st_laws_pages.proofs.Clash.{clash}
 
 -- no output notes a loss
 abbrev pub Unlost : Output → Type 0
@@ -150,12 +151,8 @@ not_idle st ino p d e i = go st.pages.dirty e (not_true (pages.has_dirty st.page
     go [] e n = cc
     go (x ∷ xs) e n = at (pages.is_dirty_of ino p x) refl e (λ e n. go xs e n)
       where
-        no : (b : Bool) → b ≡ true → b ≡ false → ⊥
-        no true a b = cc
-        no false a b = cc
-
         at : (b : Bool) → pages.is_dirty_of ino p x ≡ b → (if b then Some x else find (pages.is_dirty_of ino p) xs) ≡ Some d → (find (pages.is_dirty_of ino p) xs ≡ Some d → list_any (pages.is_dirty_on ino) xs ≡ false → ⊥) → ⊥
-        at true q e f = no (x.ino == ino) (and_true (x.ino == ino) (same_page x.page p) q).0 (or_false (x.ino == ino) (list_any (pages.is_dirty_on ino) xs) n).0
+        at true q e f = clash (x.ino == ino) (and_true (x.ino == ino) (same_page x.page p) q).0 (or_false (x.ino == ino) (list_any (pages.is_dirty_on ino) xs) n).0
         at false q e f = f e (or_false (x.ino == ino) (list_any (pages.is_dirty_on ino) xs) n).1
 
 -- what is found among fewer rows is found among all, by its place

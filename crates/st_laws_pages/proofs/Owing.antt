@@ -43,6 +43,7 @@ use Rattle.st_laws_pages.proofs.Lasting.{no_option}
 use Rattle.st_laws_pages.proofs.GoneLaw.{Over, pending_crashed}
 use Rattle.st_laws_pages.proofs.Turning.{says_one}
 use Rattle.st_laws_pages.proofs.Clients.{says_keeps}
+use Rattle.st_laws_pages.proofs.Clash.{clash}
 
 -- A row that is found passes the test of its life.
 of_life : (o : LogOwner) (e : LeaseLife) → e.client ≡ o.client → e.server ≡ o.file.server → e.life.0 ≡ o.life.0 → ev.is_of_life_over e 0 o ≡ true
@@ -143,10 +144,6 @@ over_apart w c old after out there r st h o kn ov i l = go (find (is_at o.file.s
         open_end : is_ended old.node.state.config now p.a.session ≡ false → (end : Stamp) → lease.end_at old.node.state.config (cl.lease_at (Some p.a)) ≡ Some end → end.0 ≤ now.0 → ⊥
         open_end n end q le = by p.a.session refl
           where
-            clash : (b : Bool) → b ≡ true → b ≡ false → ⊥
-            clash true x y = cc
-            clash false x y = cc
-
             inj : (x y : Stamp) → Some x ≡ Some y → x ≡ y
             inj x y e = cc
 

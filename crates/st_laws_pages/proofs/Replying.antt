@@ -31,7 +31,7 @@ use Rattle.st_rules.specs.ClientState as cs
 use Rattle.st_rules.specs.ClientState.{ClientSession, Turn, with_session, with_store, with_operations, with_cache, forget_wait, fits, is_asked, answer_each, send}
 use Rattle.st_laws_pages.specs.Client.{map_in, map_asked, Goes_on, Unasked, with_greeted, Says, Operates, Greets, Begins, Follows, Learns, Changes, Still}
 use Rattle.st_laws_pages.specs.Losses.{Asked_fresh, Session_fresh}
-use Rattle.st_laws_pages.proofs.Tables.{and_true}
+use Rattle.st_lemmas.proofs.Tables.{and_true}
 use Rattle.st_laws_pages.proofs.Changes.{one, both, if_changes, goes_same, k_each}
 
 goes_on_then : (st : Store) (s u v : ClientSession) → Goes_on st s u → u.lease.date ≡ v.lease.date → u.requests.asked ≡ v.requests.asked → Goes_on st s v

@@ -29,6 +29,7 @@ use Rattle.st_laws_pages.proofs.Nexts.{Unlost, All_unlost, Next, next_same, next
 use Rattle.st_laws_pages.proofs.Asking.{c_passes}
 use Rattle.st_laws_pages.proofs.Replying.{c_hear}
 use Rattle.st_laws_pages.proofs.Losing.{lose_is, c_only, Finished, finish_is}
+use Rattle.st_laws_pages.proofs.Clash.{clash}
 
 -- the lives that outputs say to be lost
 rows_unlost : (c : ClientId) (s : ClientState) (os : List Output) → All_unlost os → ended_rows c s os ≡ []
@@ -270,10 +271,6 @@ pub record Lost_or_not (k : Config) (now : Stamp) (a b : Association) : Type 0 w
   pub emptied : is_ended k now a.session ≡ true → b.store ≡ pages.empty_store
   pub going : is_ended k now b.session ≡ false
 
-no_clash : (b : Bool) → b ≡ true → b ≡ false → ⊥
-no_clash true e f = cc
-no_clash false e f = cc
-
 empty_fit : (a : Association) → Fit (cl.emptied a)
 empty_fit a = record { mapped = λ ino p d e. absurd (none d e); fresh = tt }
   where
@@ -284,7 +281,7 @@ lose_left : (c : ClientId) (s : ClientState) (k : Config) (now : Stamp) (t u : T
 unfolding row_lost ended_rows
 lose_left c s k now t _ e q (Lasts n) =
     record {
-      one = record { server = refl; fit = λ f. f; lasts = λ z. refl; lost = λ z. absurd (no_clash _ z (ap (λ w. is_ended w now t.here.session) (sym e) ∙ n)); emptied = λ z. absurd (no_clash _ z (ap (λ w. is_ended w now t.here.session) (sym e) ∙ n)); going = ap (λ w. is_ended w now t.here.session) (sym e) ∙ n };
+      one = record { server = refl; fit = λ f. f; lasts = λ z. refl; lost = λ z. absurd (clash _ z (ap (λ w. is_ended w now t.here.session) (sym e) ∙ n)); emptied = λ z. absurd (clash _ z (ap (λ w. is_ended w now t.here.session) (sym e) ∙ n)); going = ap (λ w. is_ended w now t.here.session) (sym e) ∙ n };
       said = none_rows (ended_rows c s t.out) ∙ ap (λ b. ended_rows c s t.out ++ (if b then Rattle.st_laws_pages.specs.Lives.lost_row c s t.here.server t.here.life ∷ [] else [])) (sym (ap (λ w. is_ended w now t.here.session) (q ∙ sym e) ∙ n));
     }
 lose_left c s k now t _ e q (Is_lost x i n v m) = go (changes_next now (note t (notes.Lost t.here.server t.here.life)) v m)
@@ -295,7 +292,7 @@ lose_left c s k now t _ e q (Is_lost x i n v m) = go (changes_next now (note t (
     go : Next now (note t (notes.Lost t.here.server t.here.life)) v → Left (Lost_or_not k now) (row_lost c s now) (ended_rows c s) t (cl.empty_here v)
     go n2 =
         record {
-          one = record { server = n2.server; fit = λ f. empty_fit v.here; lasts = λ z. absurd (no_clash _ (ap (λ w. is_ended w now t.here.session) (sym e) ∙ n) z); lost = λ z. ap cl.next_life n2.life; emptied = λ z. refl; going = refl };
+          one = record { server = n2.server; fit = λ f. empty_fit v.here; lasts = λ z. absurd (clash _ (ap (λ w. is_ended w now t.here.session) (sym e) ∙ n) z); lost = λ z. ap cl.next_life n2.life; emptied = λ z. refl; going = refl };
           said =
               ap (ended_rows c s) n2.out ∙ rows_more c s (t.out ++ outputs.Note (notes.Lost t.here.server t.here.life) ∷ []) n2.more n2.unlost
               ∙ rows_both c s t.out (outputs.Note (notes.Lost t.here.server t.here.life) ∷ [])

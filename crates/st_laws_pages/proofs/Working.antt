@@ -27,7 +27,7 @@ use Rattle.st_rules.specs.ClientPages.{Pages, Store}
 use Rattle.st_rules.specs.ClientPasses as cp
 use Rattle.st_rules.specs.ClientState.{ClientSession, Turn, with_session, with_store, with_operations, with_cache, with_release, note, keep, answered, server_of, is_of, is_busy, is_serving, is_open_file, forget_wait, send}
 use Rattle.st_laws_pages.specs.Client.{Changes_page, Says, Operates, Greets, Follows, Forgets, Caches, Writes, Reads, Submits, Changes, Still}
-use Rattle.st_laws_pages.proofs.Tables.{and_true, not_true}
+use Rattle.st_lemmas.proofs.Tables.{and_true, not_true}
 use Rattle.st_laws_pages.proofs.Changes.{one, both, if_changes, goes_same, k_keep, k_answer}
 
 server_is : (a b : ServerId) → (a.0 == b.0) ≡ true → a ≡ b

@@ -1,0 +1,9 @@
+use Rattle.st_laws_pages.proofs.CutLaw.{law}
+use Rattle.st_laws_pages.proofs.Whole.{cuts_law}
+use Rattle.st_laws_pages.proofs.cuts_are_locked.Goals as goal
+
+pub returns-clause-steps : goal.returns-clause-steps
+returns-clause-steps c = law
+
+pub returns-clause-runs : goal.returns-clause-runs
+returns-clause-runs c = cuts_law
