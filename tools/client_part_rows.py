@@ -9,6 +9,7 @@ import sys
 sys.path.insert(0, sys.argv[1])
 sys.dont_write_bytecode = True
 from tank_oracle import base, client  # noqa: E402
+from tank_oracle.asks import ReadAsk, WriteAsk  # noqa: E402
 from tank_oracle.wire import Ack, KeepAlive, Message, Nack, Released, Welcome  # noqa: E402
 
 CONFIG = base.Config(100, 50, 70, 85, 10, 5, 3, 2, 2)
@@ -166,3 +167,131 @@ def table(name, calls):
 
 for name, calls in (("leases", LEASES), ("requests", REQUESTS)):
     table(name, calls)
+
+
+# Pages. A page is of one byte repeated. Before the calls, 62 pages of file 9 are dirty and 254 pages of file 8 are clean.
+def one_page(byte):
+    return bytes([byte]) * 4096
+
+
+def served(node, ask):
+    at = peer(node)
+    place = (ask.file.ino, ask.page)
+    at.locks[ask.file.ino] = client.Lock(base.X, 1)
+    if isinstance(ask, WriteAsk):
+        at.extents[place] = (None, 1)
+    op = client.Operation(1, ask, SERVER, ask.file.ino)
+    node.operations, node.out = [op], []
+    node.serve(at, op)
+    node.operations = []
+    at.extents.pop(place, None)
+    answers = [o.answer for o in node.out if isinstance(o, client.AnswerApp)]
+    return answers[0] if answers else None
+
+
+def read_page(node, ino, page):
+    found = served(node, ReadAsk(base.File(SERVER, ino), page))
+    return "Miss" if found is None else f"Hit({found.values[0][0]})"
+
+
+def write_page(node, ino, page, byte):
+    found = served(node, WriteAsk(base.File(SERVER, ino), page, one_page(byte)))
+    return {"written": "Done", "dirtyfull": "DirtyFull"}[found.word]
+
+
+def fill_page(node, ino, page, byte):
+    at = peer(node)
+    if node.cached(at, ino, page) is not None:
+        return "AtHand"
+    at.extents[ino, page] = (None, 1)
+    node.read_done(at, client.Command(ino, page, None), base.Tag(base.File(SERVER, ino), page, 1), one_page(byte))
+    del at.extents[ino, page]
+    return "Done"
+
+
+def write_of(node, ino, page):
+    dirty = peer(node).dirty.get((ino, page))
+    return client.Command(ino, page, 0 if dirty is None else dirty.version)
+
+
+def harden_page(node, ino, page):
+    node.write_done(peer(node), write_of(node, ino, page))
+    return "Done"
+
+
+def fail_page(node, ino, page, command):
+    node.command_failed(peer(node), command, write_of(node, ino, page))
+    return "Done"
+
+
+def dirty_page(node, ino, page):
+    dirty = peer(node).dirty.get((ino, page))
+    if dirty is None:
+        return "Nothing"
+    failed = "None" if dirty.failed is None else f"Some({dirty.failed})"
+    return f"Dirty({dirty.data[0]}, {dirty.version}, {failed})"
+
+
+def first_of(places):
+    return "Nothing" if not places else f"Place({places[0][0]}, {places[0][1]})"
+
+
+def next_page(node, ino, page):
+    return first_of([place for place in sorted(peer(node).dirty) if place > (ino, page)])
+
+
+def first_page(node):
+    return first_of(sorted(peer(node).dirty))
+
+
+def all_places(node):
+    number = 0
+    for ino, page in sorted(peer(node).dirty):
+        number = (number * 1_000_003 + (ino << 32) + page + 1) % 2**64
+    return f"Places({number})"
+
+
+def drop_pages(node, ino, page):
+    peer(node).forget_from(ino, page)
+    return "Done"
+
+
+def has_dirty(node, ino):
+    return "Yes" if peer(node).has_dirty(ino) else "No"
+
+
+def lose_pages(node):
+    node.out = []
+    node.lose(peer(node))
+    peer(node).epoch = 1
+    return "Done"
+
+
+PAGES = [
+    ("Read", 8, 0), ("Read", 8, 254), ("Fill", 8, 254, 5), ("Fill", 7, 1, 6), ("Fill", 7, 2, 7), ("Read", 8, 1), ("Read", 8, 0), ("Write", 8, 2, 9),
+    ("Write", 1, 3, 10), ("Write", 1, 4, 11), ("Write", 1, 3, 12), ("Dirty", 1, 3), ("Dirty", 1, 4), ("Read", 8, 2), ("Harden", 9, 5), ("Read", 9, 5),
+    ("Write", 1, 4, 13), ("Fail", 1, 4, 77), ("Dirty", 1, 4), ("Write", 1, 4, 14), ("Dirty", 1, 4), ("First",), ("Next", 1, 4), ("Next", 9, 61), ("Next", 8, 3),
+    ("Places",), ("HasDirty", 8), ("HasDirty", 7), ("DropFrom", 8, 100), ("Read", 8, 99), ("Read", 8, 100), ("Read", 7, 1), ("Harden", 7, 1), ("Fail", 7, 1, 3),
+    ("Lose",), ("Read", 9, 6), ("Places",), ("Write", 1, 1, 1), ("Dirty", 1, 1), ("First",),
+]
+PAGE_PLAY = {
+    "Read": read_page, "Write": write_page, "Fill": fill_page, "Harden": harden_page, "Fail": fail_page, "Dirty": dirty_page, "Next": next_page,
+    "First": first_page, "Places": all_places, "DropFrom": drop_pages, "HasDirty": has_dirty, "Lose": lose_pages,
+}
+
+
+def page_table():
+    node = fresh()
+    peer(node).epoch = 1
+    for page in range(62):
+        write_page(node, 9, page, 1)
+    for page in range(254):
+        fill_page(node, 8, page, 2)
+    print(f"const CALLS: [(Call, Answer); {len(PAGES)}] = [ // pages")
+    for call, *args in PAGES:
+        words = ", ".join(str(a) for a in args)
+        print(f'    (Call::{call}{"(" + words + ")" if args else ""}, Answer::{PAGE_PLAY[call](node, *args)}),')
+    print("];")
+
+
+page_table()

@@ -8,7 +8,7 @@ use std::alloc::{AllocError, Global};
 use std::test::Fail;
 
 /// Settings under which a lease lasts 100 ticks.
-const CONFIG: Config = Config {
+pub const CONFIG: Config = Config {
     lease: 100,
     renew: 50,
     quiesce: 70,
@@ -43,7 +43,7 @@ fn discard(lease: &mut Lease, permit: LossPermit) -> Receipt
 }
 
 /// Spends a standing, and returns its name.
-fn spend(lease: &mut Lease, standing: Standing) -> &'static str
+pub fn spend(lease: &mut Lease, standing: Standing) -> &'static str
     requires { server_of standing ≡ lease.old.server }
     ensures server { lease.new.server ≡ lease.old.server }
     ensures config { lease.new.config ≡ lease.old.config }

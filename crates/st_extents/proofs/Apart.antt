@@ -1,12 +1,11 @@
--- A server's own blocks differ.
-use Rattle.std.proofs.Common.{◌≡◌, ℕ, zero, suc, ◌+◌, ◌<◌, ◌≤◌, Bool, true, false, List, [], ◌∷◌, ◌++◌, map, filter, arith, refl, ⊎_elim}
-use Rattle.std.specs.Prelude.{flat_map, ◌==◌, ◌&&◌}
-use Rattle.std.specs.List.{IsDistinct, AllByRecursion}
-use Rattle.std.proofs.lemmas.Bool.{cases_Bool, ne_eqb}
-use Rattle.std.proofs.lemmas.Map.Keys.{IsDistinct-head, IsDistinct-tail, IsDistinct-cons}
+-- A server's own blocks are in order.
+use Rattle.std.proofs.Common.{ℕ, zero, suc, ◌+◌, ◌*◌, ◌<◌, ◌≤◌, Bool, List, [], ◌∷◌, ◌++◌, map, filter, arith, ⊎_elim}
+use Rattle.std.specs.Prelude.{flat_map}
+use Rattle.std.specs.List.{AllByRecursion}
+use Rattle.std.proofs.lemmas.Bool.{cases_Bool}
 use Rattle.st_base.specs.declared.disk.BlockAt.{BlockAt}
-use Rattle.st_rules.specs.Keys.{same_block}
-use Rattle.st_rules.specs.Extents as rules
+use Rattle.st_rules.specs.Extents as extents
+use Rattle.st_extents.specs.Places.{AreInOrder, rank}
 
 every_append : {K : Type 0} (P : K → Type 0) (xs ys : List K) → AllByRecursion P xs → AllByRecursion P ys → AllByRecursion P (xs ++ ys)
 every_append P [] ys a b = b
@@ -16,66 +15,60 @@ every_weaker : {K : Type 0} (P Q : K → Type 0) → ((k : K) → P k → Q k) �
 every_weaker P Q f [] a = a
 every_weaker P Q f (x ∷ xs) a = (f x a.0, every_weaker P Q f xs a.1)
 
--- rows that differ, one after the other
-distinct_append : {K : Type 0} (E : K → K → Bool) (xs ys : List K) → IsDistinct E xs → IsDistinct E ys → AllByRecursion (λ x. AllByRecursion (λ y. E x y ≡ false) ys) xs → IsDistinct E (xs ++ ys)
-distinct_append E [] ys d e a = e
-distinct_append E (x ∷ xs) ys d e a =
-    IsDistinct-cons E x (xs ++ ys) (every_append (λ y. E x y ≡ false) xs ys (IsDistinct-head E x xs d) a.0)
-    (distinct_append E xs ys (IsDistinct-tail E x xs d) e a.1)
-
-other_number : (a b : Bool) → b ≡ false → (a && b) ≡ false
-other_number true b h = h
-other_number false b h = refl
-
-other_disk : (a b : Bool) → a ≡ false → (a && b) ≡ false
-other_disk a b h = rw h refl
+-- blocks in order, one list after the other
+order_append : (xs ys : List BlockAt) → AreInOrder xs → AreInOrder ys → AllByRecursion (λ x. AllByRecursion (λ y. rank x < rank y) ys) xs → AreInOrder (xs ++ ys)
+order_append [] ys d e a = e
+order_append (x ∷ xs) ys d e a = (every_append (λ y. rank x < rank y) xs ys d.0 a.0, order_append xs ys d.1 e a.1)
 
 -- the blocks of one disk
-numbers_above : (place m n count : ℕ) → m < n → AllByRecursion (λ b. same_block (rules.block_at place m) b ≡ false) (map (rules.block_at place) (rules.numbers n count))
-unfolding rules.numbers
+numbers_above : (place m n count : ℕ) → m < n → AllByRecursion (λ b. rank (extents.block_at place m) < rank b) (map (extents.block_at place) (extents.numbers n count))
+unfolding extents.numbers
 numbers_above place m n zero l = tt
-numbers_above place m n (suc count) l = (other_number (place + 1 == place + 1) (m == n) (ne_eqb m n (λ (e : m ≡ n). omega (arith, e, l))), numbers_above place m (n + 1) count (omega arith))
+numbers_above place m n (suc count) l = (omega (arith, l), numbers_above place m (n + 1) count (omega (arith, l)))
 
-numbers_differ : (place n count : ℕ) → IsDistinct same_block (map (rules.block_at place) (rules.numbers n count))
-unfolding rules.numbers IsDistinct
-numbers_differ place n zero = tt
-numbers_differ place n (suc count) =
-    IsDistinct-cons same_block (rules.block_at place n) (map (rules.block_at place) (rules.numbers (n + 1) count)) (numbers_above place n (n + 1) count (omega arith)) (numbers_differ place (n + 1) count)
+disk_in_order : (place n count : ℕ) → AreInOrder (map (extents.block_at place) (extents.numbers n count))
+unfolding extents.numbers
+disk_in_order place n zero = tt
+disk_in_order place n (suc count) = (numbers_above place n (n + 1) count (omega arith), disk_in_order place (n + 1) count)
 
-disk_is : (place n count : ℕ) → AllByRecursion (λ (b : BlockAt). b.disk.0 ≡ place + 1) (map (rules.block_at place) (rules.numbers n count))
-unfolding rules.numbers
-disk_is place n zero = tt
-disk_is place n (suc count) = (refl, disk_is place (n + 1) count)
+-- the ranks of one disk's blocks
+abbrev is_on : ℕ → BlockAt → Type 0
+is_on place b = ((place + 1) * 4294967296 ≤ rank b) × (rank b < (place + 2) * 4294967296)
+
+disk_ranks : (place n count : ℕ) → n + count ≤ 4294967296 → AllByRecursion (is_on place) (map (extents.block_at place) (extents.numbers n count))
+unfolding extents.numbers
+disk_ranks place n zero l = tt
+disk_ranks place n (suc count) l = ((omega (arith, l), omega (arith, l)), disk_ranks place (n + 1) count (omega (arith, l)))
 
 -- the blocks of later disks
-places_from : (p : ℕ → Bool) (m n count : ℕ) → m ≤ n → AllByRecursion (λ q. m ≤ q) (filter p (rules.numbers n count))
-unfolding rules.numbers
+places_from : (p : ℕ → Bool) (m n count : ℕ) → m ≤ n → AllByRecursion (λ q. m ≤ q) (filter p (extents.numbers n count))
+unfolding extents.numbers
 places_from p m n zero l = tt
 places_from p m n (suc count) l =
-    let rest = places_from p m (n + 1) count (omega arith) in
+    let rest = places_from p m (n + 1) count (omega (arith, l)) in
     ⊎_elim (λ t. rw t (l, rest)) (λ f. rw f rest) (cases_Bool (p n))
 
-disks_from : (x : rules.Extents) (m : ℕ) (ps : List ℕ) → AllByRecursion (λ q. m ≤ q) ps → AllByRecursion (λ (b : BlockAt). m + 1 ≤ b.disk.0) (flat_map (rules.blocks_of x) ps)
-disks_from x m [] a = tt
-disks_from x m (q ∷ ps) a =
-    every_append (λ (b : BlockAt). m + 1 ≤ b.disk.0) (rules.blocks_of x q) (flat_map (rules.blocks_of x) ps)
-    (every_weaker (λ (b : BlockAt). b.disk.0 ≡ q + 1) (λ (b : BlockAt). m + 1 ≤ b.disk.0) (λ b (e : b.disk.0 ≡ q + 1). omega (arith, e, a.0)) (rules.blocks_of x q) (disk_is q 0 x.blocks))
-    (disks_from x m ps a.1)
+disks_from : (x : extents.Extents) (m : ℕ) (ps : List ℕ) → x.blocks ≤ 4294967296 → AllByRecursion (λ q. m ≤ q) ps → AllByRecursion (λ b. (m + 1) * 4294967296 ≤ rank b) (flat_map (extents.blocks_of x) ps)
+disks_from x m [] few a = tt
+disks_from x m (q ∷ ps) few a =
+    every_append (λ b. (m + 1) * 4294967296 ≤ rank b) (extents.blocks_of x q) (flat_map (extents.blocks_of x) ps)
+    (every_weaker (is_on q) (λ b. (m + 1) * 4294967296 ≤ rank b) (λ b e. let l = a.0 in omega (arith, e.0, l)) (extents.blocks_of x q) (disk_ranks q 0 x.blocks (omega (arith, few))))
+    (disks_from x m ps few a.1)
 
-disks_differ : (x : rules.Extents) (p : ℕ → Bool) (n count : ℕ) → IsDistinct same_block (flat_map (rules.blocks_of x) (filter p (rules.numbers n count)))
-unfolding rules.numbers IsDistinct
-disks_differ x p n zero = tt
-disks_differ x p n (suc count) =
-    let rest = disks_differ x p (n + 1) count in
-    let later = disks_from x (n + 1) (filter p (rules.numbers (n + 1) count)) (places_from p (n + 1) (n + 1) count (omega arith)) in
+disks_in_order : (x : extents.Extents) (p : ℕ → Bool) (n count : ℕ) → x.blocks ≤ 4294967296 → AreInOrder (flat_map (extents.blocks_of x) (filter p (extents.numbers n count)))
+unfolding extents.numbers
+disks_in_order x p n zero few = tt
+disks_in_order x p n (suc count) few =
+    let rest = disks_in_order x p (n + 1) count few in
+    let later = disks_from x (n + 1) (filter p (extents.numbers (n + 1) count)) few (places_from p (n + 1) (n + 1) count (omega arith)) in
     ⊎_elim
-    (λ t. rw t (distinct_append same_block (rules.blocks_of x n) (flat_map (rules.blocks_of x) (filter p (rules.numbers (n + 1) count))) (numbers_differ n 0 x.blocks) rest
-    (every_weaker (λ (b : BlockAt). b.disk.0 ≡ n + 1) (λ (b : BlockAt). AllByRecursion (λ y. same_block b y ≡ false) (flat_map (rules.blocks_of x) (filter p (rules.numbers (n + 1) count))))
-    (λ b (e : b.disk.0 ≡ n + 1). every_weaker (λ (y : BlockAt). (n + 1) + 1 ≤ y.disk.0) (λ y. same_block b y ≡ false) (λ y (k : (n + 1) + 1 ≤ y.disk.0). other_disk (b.disk.0 == y.disk.0) (b.block == y.block) (ne_eqb b.disk.0 y.disk.0 (λ (g : b.disk.0 ≡ y.disk.0). omega (arith, e, k, g)))) (flat_map (rules.blocks_of x) (filter p (rules.numbers (n + 1) count))) later)
-    (rules.blocks_of x n) (disk_is n 0 x.blocks))))
+    (λ t. rw t (order_append (extents.blocks_of x n) (flat_map (extents.blocks_of x) (filter p (extents.numbers (n + 1) count))) (disk_in_order n 0 x.blocks) rest
+    (every_weaker (is_on n) (λ b. AllByRecursion (λ y. rank b < rank y) (flat_map (extents.blocks_of x) (filter p (extents.numbers (n + 1) count))))
+    (λ b e. every_weaker (λ y. ((n + 1) + 1) * 4294967296 ≤ rank y) (λ y. rank b < rank y) (λ y k. let h = e.1 in omega (arith, h, k)) (flat_map (extents.blocks_of x) (filter p (extents.numbers (n + 1) count))) later)
+    (extents.blocks_of x n) (disk_ranks n 0 x.blocks (omega (arith, few))))))
     (λ f. rw f rest)
     (cases_Bool (p n))
 
-pub own_apart : (x : rules.Extents) → IsDistinct same_block (rules.own_blocks x)
-unfolding rules.own_blocks
-own_apart x = disks_differ x (rules.is_own_disk x) 0 x.disks
+pub own_in_order : (x : extents.Extents) → x.blocks ≤ 4294967296 → AreInOrder (extents.own_blocks x)
+unfolding extents.own_blocks
+own_in_order x few = disks_in_order x (extents.is_own_disk x) 0 x.disks few

@@ -1,6 +1,6 @@
 -- Pages that are not mapped yet are mapped one after another.
-use Rattle.std.proofs.Common.{◌≡◌, ℕ, ◌+◌, ◌<◌, Bool, true, false, List, [], ◌∷◌, ◌++◌, filter, length, drop, get_or, refl, sym, ap, subst, ◌∙◌, ⊎_elim, true≢false}
-use Rattle.std.specs.Prelude.{find, not, is_some, ◌&&◌}
+use Rattle.std.proofs.Common.{◌≡◌, ℕ, zero, suc, ◌+◌, ◌<◌, ◌≤◌, arith, Bool, true, false, List, [], ◌∷◌, ◌++◌, filter, length, drop, get_or, refl, ap, subst, ◌∙◌, ⊎_elim, true≢false}
+use Rattle.std.specs.Prelude.{find, map, not, is_some, ◌&&◌}
 use Rattle.std.specs.List.{AllByRecursion}
 use Rattle.std.proofs.lemmas.Bool.{cases_Bool}
 use Rattle.std.proofs.lemmas.List.{drop_more}
@@ -10,30 +10,22 @@ use Rattle.st_base.specs.declared.ids.FileId.{FileId}
 use Rattle.st_base.specs.declared.ids.PageNo.{PageNo}
 use Rattle.st_base.specs.declared.disk.BlockAt.{BlockAt}
 use Rattle.st_rules.specs.declared.extents.Extent.{Extent}
-use Rattle.st_rules.specs.Keys.{same_file, same_page}
-use Rattle.st_rules.specs.Extents.{is_extent_of, no_extents, own_blocks, pages_from, place_on}
-use Rattle.st_extents.specs.Layout.{AreFresh, Shape, none_at, placed_first, unmapped_of, with_shape}
+use Rattle.st_rules.specs.Keys.{page_no, same_file, same_page}
+use Rattle.st_rules.specs.Extents.{free_blocks, is_extent_of, no_extents, numbers, own_blocks, pages_from, place_on}
+use Rattle.st_extents.specs.Layout.{AreFresh, Shape, none_at, unmapped_of, with_shape}
 use Rattle.st_extents.specs.Places.{IsMapped}
 use Rattle.st_extents.proofs.Blocks.{free_is}
-use Rattle.st_extents.proofs.Owned.{distinct_filter, not_true, pages_differ}
+use Rattle.st_extents.proofs.Owned.{distinct_filter, every_filter, not_true, pages_differ}
 
 -- A page is mapped as the definition says.
 module _ (s : Shape) (rows after : List Extent) (births : ℕ) (f : FileId) (p : PageNo) where
-  placed_true : (bs : List BlockAt) → IsMapped rows f p (births + 1) bs true after → with_shape s after (births + 1) ≡ place_on (with_shape s rows births) f p bs
+  placed_by : (bs : List BlockAt) → 1 ≤ length bs → IsMapped rows f p (births + 1) bs after → with_shape s after (births + 1) ≡ place_on (with_shape s rows births) f p bs
   unfolding place_on
-  placed_true [] h = absurd (true≢false h.0)
-  placed_true (b ∷ bs) h = ap (λ l. with_shape s l (births + 1)) h.1
+  placed_by [] l h = let no : ⊥ = omega (arith, l) in absurd no
+  placed_by (b ∷ bs) l h = ap (λ r. with_shape s r (births + 1)) h
 
-  placed_false : (bs : List BlockAt) → IsMapped rows f p (births + 1) bs false after → with_shape s after births ≡ place_on (with_shape s rows births) f p bs
-  unfolding place_on
-  placed_false [] h = ap (λ l. with_shape s l births) h.1
-  placed_false (b ∷ bs) h = absurd (true≢false (sym h.0))
-
-  pub mapped_is : (own : List BlockAt) → own ≡ own_blocks (no_extents s.server s.servers s.disks s.blocks) → IsMapped rows f p (births + 1) (filter (none_at rows) own) true after → with_shape s after (births + 1) ≡ placed_first s rows births f p
-  mapped_is own e h = placed_true (filter (none_at rows) own) h ∙ ap (place_on (with_shape s rows births) f p) (free_is s rows births own e)
-
-  pub stays_is : (own : List BlockAt) → own ≡ own_blocks (no_extents s.server s.servers s.disks s.blocks) → IsMapped rows f p (births + 1) (filter (none_at rows) own) false after → with_shape s after births ≡ placed_first s rows births f p
-  stays_is own e h = placed_false (filter (none_at rows) own) h ∙ ap (place_on (with_shape s rows births) f p) (free_is s rows births own e)
+  pub mapped_is : (own : List BlockAt) → own ≡ own_blocks (no_extents s.server s.servers s.disks s.blocks) → 1 ≤ length (filter (none_at rows) own) → IsMapped rows f p (births + 1) (filter (none_at rows) own) after → with_shape s after (births + 1) ≡ place_on (with_shape s rows births) f p (free_blocks (with_shape s rows births))
+  mapped_is own e l h = placed_by (filter (none_at rows) own) l h ∙ ap (place_on (with_shape s rows births) f p) (free_is s rows births own e)
 
 -- Another page stays unmapped.
 other_page : (a b : Bool) → b ≡ false → (a && b) ≡ false
@@ -49,10 +41,9 @@ module _ (f : FileId) (p q : PageNo) where
       (λ t. rw t (push_unmapped rows e (rw t at none) other))
       (cases_Bool (is_extent_of f q x))
 
-  pub still_fresh : (rows after : List Extent) (birth : ℕ) (bs : List BlockAt) (r : Bool) → IsMapped rows f p birth bs r after → is_some (find (is_extent_of f q) rows) ≡ false → same_page p q ≡ false → is_some (find (is_extent_of f q) after) ≡ false
-  still_fresh rows after birth [] r h none other = rw h.1 none
-  still_fresh rows after birth (b ∷ bs) r h none other =
-      rw h.1 (push_unmapped rows (record { file = f; page = p; at = b; birth = birth }) none (other_page (same_file f f) (same_page p q) other))
+  pub still_fresh : (rows after : List Extent) (e : Extent) → after ≡ rows ++ e ∷ [] → e.page ≡ p → is_some (find (is_extent_of f q) rows) ≡ false → same_page p q ≡ false → is_some (find (is_extent_of f q) after) ≡ false
+  still_fresh rows after e h at none other =
+      rw h (push_unmapped rows e none (other_page (same_file e.file f) (same_page e.page q) (ap (λ (x : PageNo). same_page x q) at ∙ other)))
 
 module _ (rows : List Extent) (f : FileId) where
   -- the first of the pages that are left
@@ -79,3 +70,12 @@ module _ (rows : List Extent) (f : FileId) where
         unmapped = recursion_from_All (λ q. is_some (find (is_extent_of f q) rows) ≡ false) (filter test ps) (All-weaker (λ q. test q ≡ true) (λ q. is_some (find (is_extent_of f q) rows) ≡ false) (λ q h. not_true (is_some (find (is_extent_of f q) rows)) h) (filter test ps) (filter_passes test ps));
         apart = distinct_filter same_page test ps (pages_differ p.0 count);
       }
+
+-- the pages of a range are below its end
+numbers_below : (end n count : ℕ) → n + count ≤ end → AllByRecursion (λ (q : PageNo). q.0 < end) (map page_no (numbers n count))
+unfolding numbers
+numbers_below end n zero l = tt
+numbers_below end n (suc count) l = (omega (arith, l), numbers_below end (n + 1) count (omega (arith, l)))
+
+pub low_unmapped : (rows : List Extent) (f : FileId) (p : PageNo) (count : ℕ) → p.0 + count ≤ 1048576 → AllByRecursion (λ (q : PageNo). q.0 < 1048576) (unmapped_of rows f p count)
+low_unmapped rows f p count l = every_filter (λ (q : PageNo). q.0 < 1048576) (λ q. not (is_some (find (is_extent_of f q) rows))) (pages_from p count) (numbers_below 1048576 p.0 count l)

@@ -1,7 +1,11 @@
-pub mod Apart
 pub mod Blocks
-pub mod Fresh
-pub mod Laid
-pub mod Listed
 pub mod Owned
+pub mod Fresh
+pub mod RunOrder
+pub mod RunsFound
+pub mod RunsChanged
+pub mod RunsTold
+pub mod Laid
 pub mod Taking
+pub mod Apart
+pub mod Added

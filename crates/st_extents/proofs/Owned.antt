@@ -14,7 +14,7 @@ use Rattle.st_base.specs.declared.ids.PageNo.{PageNo}
 use Rattle.st_base.specs.declared.disk.BlockAt.{BlockAt}
 use Rattle.st_rules.specs.declared.extents.Extent.{Extent}
 use Rattle.st_rules.specs.Keys.{same_file, same_page, same_block, page_no}
-use Rattle.st_rules.specs.Extents as rules
+use Rattle.st_rules.specs.Extents as extents
 use Rattle.st_extents.specs.Layout.{Shape, with_shape}
 use Rattle.st_extents.specs.Ownership.{IsOwned, IsSound, of_one_page, on_one_block, of_one_birth, is_own_block}
 
@@ -58,10 +58,10 @@ both_equiv E F e f = record {
   congr = λ x y z s. rw (e.congr x y z (and_parts (E x y) (F x y) s).0, f.congr x y z (and_parts (E x y) (F x y) s).1) refl;
 }
 
-pages_equiv : IsEquivalence of_one_page
+pub pages_equiv : IsEquivalence of_one_page
 pages_equiv = both_equiv _ _ (both_equiv _ _ (number_equiv (λ (e : Extent). e.file.server.0)) (number_equiv (λ (e : Extent). e.file.ino))) (number_equiv (λ (e : Extent). e.page.0))
 
-blocks_equiv : IsEquivalence on_one_block
+pub blocks_equiv : IsEquivalence on_one_block
 blocks_equiv = both_equiv _ _ (number_equiv (λ (e : Extent). e.at.disk.0)) (number_equiv (λ (e : Extent). e.at.block))
 
 births_equiv : IsEquivalence of_one_birth
@@ -90,76 +90,76 @@ none_owned s births = record {
 }
 
 -- A page is mapped.
-module _ (x : rules.Extents) (f : FileId) (p : PageNo) where
-  one_owned : (b : BlockAt) → IsOwned x → rules.is_mapped x f p ≡ false → rules.is_free x b ≡ true → is_own_block x b ≡ true → IsOwned (rules.with_extent (rules.new_extent x f p b) x)
-  unfolding rules.own_blocks
+module _ (x : extents.Extents) (f : FileId) (p : PageNo) where
+  one_owned : (b : BlockAt) → IsOwned x → extents.is_mapped x f p ≡ false → extents.is_free x b ≡ true → is_own_block x b ≡ true → IsOwned (extents.with_extent (extents.new_extent x f p b) x)
+  unfolding extents.own_blocks
   one_owned b o none free own =
-      let e = rules.new_extent x f p b in
+      let e = extents.new_extent x f p b in
       record {
-        pages = IsDistinct-push pages_equiv x.rows e o.pages (sym (found_is_any (rules.is_extent_of f p) x.rows) ∙ none);
-        blocks = IsDistinct-push blocks_equiv x.rows e o.blocks (not_true (list_any (rules.lies_at b) x.rows) free);
+        pages = IsDistinct-push pages_equiv x.rows e o.pages (sym (found_is_any (extents.is_extent_of f p) x.rows) ∙ none);
+        blocks = IsDistinct-push blocks_equiv x.rows e o.blocks (not_true (list_any (extents.lies_at b) x.rows) free);
         births = IsDistinct-push births_equiv x.rows e o.births (list_any_none (of_one_birth e) x.rows (All-weaker (λ (d : Extent). d.birth ≤ x.births) (λ (d : Extent). of_one_birth e d ≡ false) (λ d l. grind arith) x.rows o.given));
         given = All-push (λ (d : Extent). d.birth ≤ x.births + 1) x.rows e (All-weaker (λ (d : Extent). d.birth ≤ x.births) (λ (d : Extent). d.birth ≤ x.births + 1) (λ d l. omega (arith, l)) x.rows o.given) (omega arith);
         own = All-push (λ (d : Extent). is_own_block x d.at ≡ true) x.rows e o.own own;
       }
 
-  first_owned : (bs : List BlockAt) → IsOwned x → rules.is_mapped x f p ≡ false → All (λ b. rules.is_free x b ≡ true) bs → All (λ b. is_own_block x b ≡ true) bs → IsOwned (rules.place_on x f p bs)
-  unfolding rules.place_on
+  first_owned : (bs : List BlockAt) → IsOwned x → extents.is_mapped x f p ≡ false → All (λ b. extents.is_free x b ≡ true) bs → All (λ b. is_own_block x b ≡ true) bs → IsOwned (extents.place_on x f p bs)
+  unfolding extents.place_on
   first_owned [] o none free own = o
-  first_owned (b ∷ bs) o none free own = one_owned b o none (All-head (λ b. rules.is_free x b ≡ true) b bs free) (All-head (λ b. is_own_block x b ≡ true) b bs own)
+  first_owned (b ∷ bs) o none free own = one_owned b o none (All-head (λ b. extents.is_free x b ≡ true) b bs free) (All-head (λ b. is_own_block x b ≡ true) b bs own)
 
-  page_owned : IsOwned x → rules.is_mapped x f p ≡ false → IsOwned (rules.place_on x f p (rules.free_blocks x))
-  unfolding rules.free_blocks
-  page_owned o none = first_owned (rules.free_blocks x) o none
-      (filter_passes (rules.is_free x) (rules.own_blocks x))
-      (All-filter (rules.is_free x) (λ b. is_own_block x b ≡ true) (rules.own_blocks x) (All-is_member at_block_equiv (rules.own_blocks x)))
+  page_owned : IsOwned x → extents.is_mapped x f p ≡ false → IsOwned (extents.place_on x f p (extents.free_blocks x))
+  unfolding extents.free_blocks
+  page_owned o none = first_owned (extents.free_blocks x) o none
+      (filter_passes (extents.is_free x) (extents.own_blocks x))
+      (All-filter (extents.is_free x) (λ b. is_own_block x b ≡ true) (extents.own_blocks x) (All-is_member at_block_equiv (extents.own_blocks x)))
 
   -- another page stays unmapped
-  still_unmapped : (bs : List BlockAt) (q : PageNo) → rules.is_mapped x f q ≡ false → same_page p q ≡ false → rules.is_mapped (rules.place_on x f p bs) f q ≡ false
-  unfolding rules.place_on
+  still_unmapped : (bs : List BlockAt) (q : PageNo) → extents.is_mapped x f q ≡ false → same_page p q ≡ false → extents.is_mapped (extents.place_on x f p bs) f q ≡ false
+  unfolding extents.place_on
   still_unmapped [] q none other = none
   still_unmapped (b ∷ bs) q none other =
-      let e = rules.new_extent x f p b in
-      let before : list_any (rules.is_extent_of f q) x.rows ≡ false = sym (found_is_any (rules.is_extent_of f q) x.rows) ∙ none in
-      let here : rules.is_extent_of f q e ≡ false = and_right (same_file f f) (same_page p q) other in
-      found_is_any (rules.is_extent_of f q) (x.rows ++ e ∷ []) ∙ list_any-append (rules.is_extent_of f q) x.rows (e ∷ []) ∙ rw (before, here) refl
+      let e = extents.new_extent x f p b in
+      let before : list_any (extents.is_extent_of f q) x.rows ≡ false = sym (found_is_any (extents.is_extent_of f q) x.rows) ∙ none in
+      let here : extents.is_extent_of f q e ≡ false = and_right (same_file f f) (same_page p q) other in
+      found_is_any (extents.is_extent_of f q) (x.rows ++ e ∷ []) ∙ list_any-append (extents.is_extent_of f q) x.rows (e ∷ []) ∙ rw (before, here) refl
 
-  all_unmapped : (bs : List BlockAt) (qs : List PageNo) → AllByRecursion (λ q. rules.is_mapped x f q ≡ false) qs → AllByRecursion (λ q. same_page p q ≡ false) qs → AllByRecursion (λ q. rules.is_mapped (rules.place_on x f p bs) f q ≡ false) qs
+  all_unmapped : (bs : List BlockAt) (qs : List PageNo) → AllByRecursion (λ q. extents.is_mapped x f q ≡ false) qs → AllByRecursion (λ q. same_page p q ≡ false) qs → AllByRecursion (λ q. extents.is_mapped (extents.place_on x f p bs) f q ≡ false) qs
   all_unmapped bs [] none other = tt
   all_unmapped bs (q ∷ qs) none other = (still_unmapped bs q none.0 other.0, all_unmapped bs qs none.1 other.1)
 
 -- Pages are mapped one after another.
-pages_owned : (f : FileId) (ps : List PageNo) (x : rules.Extents) → IsOwned x → AllByRecursion (λ q. rules.is_mapped x f q ≡ false) ps → IsDistinct same_page ps → IsOwned (rules.place_pages f ps x)
-unfolding rules.place_pages
+pages_owned : (f : FileId) (ps : List PageNo) (x : extents.Extents) → IsOwned x → AllByRecursion (λ q. extents.is_mapped x f q ≡ false) ps → IsDistinct same_page ps → IsOwned (extents.place_pages f ps x)
+unfolding extents.place_pages
 pages_owned f [] x o none d = o
 pages_owned f (p ∷ ps) x o none d =
-    pages_owned f ps (rules.place_on x f p (rules.free_blocks x)) (page_owned x f p o none.0)
-    (all_unmapped x f p (rules.free_blocks x) ps none.1 (IsDistinct-head same_page p ps d)) (IsDistinct-tail same_page p ps d)
+    pages_owned f ps (extents.place_on x f p (extents.free_blocks x)) (page_owned x f p o none.0)
+    (all_unmapped x f p (extents.free_blocks x) ps none.1 (IsDistinct-head same_page p ps d)) (IsDistinct-tail same_page p ps d)
 
-pages_above : (m n count : ℕ) → m < n → AllByRecursion (λ q. same_page (page_no m) q ≡ false) (map page_no (rules.numbers n count))
-unfolding rules.numbers
+pages_above : (m n count : ℕ) → m < n → AllByRecursion (λ q. same_page (page_no m) q ≡ false) (map page_no (extents.numbers n count))
+unfolding extents.numbers
 pages_above m n zero l = tt
 pages_above m n (suc count) l = (ne_eqb m n (λ e. omega (arith, e)), pages_above m (n + 1) count (omega arith))
 
-pub pages_differ : (n count : ℕ) → IsDistinct same_page (map page_no (rules.numbers n count))
-unfolding rules.numbers IsDistinct
+pub pages_differ : (n count : ℕ) → IsDistinct same_page (map page_no (extents.numbers n count))
+unfolding extents.numbers IsDistinct
 pages_differ n zero = tt
 pages_differ n (suc count) = (pages_above n (n + 1) count (omega arith), pages_differ (n + 1) count)
 
 -- Pages of a range that have no block are mapped.
-pub allocated_owned : (x : rules.Extents) (f : FileId) (p : PageNo) (count : ℕ) → IsOwned x → IsOwned (rules.place_pages f (rules.unmapped x f p count) x)
+pub allocated_owned : (x : extents.Extents) (f : FileId) (p : PageNo) (count : ℕ) → IsOwned x → IsOwned (extents.place_pages f (extents.unmapped x f p count) x)
 allocated_owned x f p count o =
-    let test = λ (q : PageNo). not (rules.is_mapped x f q) in
-    let ps = rules.pages_from p count in
+    let test = λ (q : PageNo). not (extents.is_mapped x f q) in
+    let ps = extents.pages_from p count in
     pages_owned f (filter test ps) x o
-    (recursion_from_All (λ q. rules.is_mapped x f q ≡ false) (filter test ps) (All-weaker (λ q. test q ≡ true) (λ q. rules.is_mapped x f q ≡ false) (λ q h. not_true (rules.is_mapped x f q) h) (filter test ps) (filter_passes test ps)))
+    (recursion_from_All (λ q. extents.is_mapped x f q ≡ false) (filter test ps) (All-weaker (λ q. test q ≡ true) (λ q. extents.is_mapped x f q ≡ false) (λ q h. not_true (extents.is_mapped x f q) h) (filter test ps) (filter_passes test ps)))
     (distinct_filter same_page test ps (pages_differ p.0 count))
 
 -- Pages are released.
-pub released_owned : (x : rules.Extents) (f : FileId) (p : PageNo) → IsOwned x → IsOwned (rules.release_from x f p)
-unfolding rules.release_from rules.own_blocks
+pub released_owned : (x : extents.Extents) (f : FileId) (p : PageNo) → IsOwned x → IsOwned (extents.release_from x f p)
+unfolding extents.release_from extents.own_blocks
 released_owned x f p o =
-    let keep = λ (e : Extent). not (rules.is_at_or_behind f p e) in
+    let keep = λ (e : Extent). not (extents.is_at_or_behind f p e) in
     record {
       pages = distinct_filter of_one_page keep x.rows o.pages;
       blocks = distinct_filter on_one_block keep x.rows o.blocks;
@@ -192,20 +192,20 @@ among_own own q (e ∷ rows) a h = ⊎_elim
     (λ t. among_own own q rows (All-tail (λ e. list_any (at_block e.at) own ≡ true) e rows a) (rw t at h))
     (cases_Bool (at_block q e.at))
 
-pub mapped_within : (x : rules.Extents) → IsOwned x → length x.rows ≤ length (rules.own_blocks x)
+pub mapped_within : (x : extents.Extents) → IsOwned x → length x.rows ≤ length (extents.own_blocks x)
 mapped_within x o =
-    let short : length (map place_of x.rows) ≤ length (rules.own_blocks x) = length-le_from_is_member at_block_equiv (map place_of x.rows) (rules.own_blocks x) (blocks_differ x.rows o.blocks) (λ q h. among_own (rules.own_blocks x) q x.rows o.own h) in
+    let short : length (map place_of x.rows) ≤ length (extents.own_blocks x) = length-le_from_is_member at_block_equiv (map place_of x.rows) (extents.own_blocks x) (blocks_differ x.rows o.blocks) (λ q h. among_own (extents.own_blocks x) q x.rows o.own h) in
     rw (length-map x.rows place_of) at short
 
 -- Soundness.
-pub none_sound : (s : Shape) → length (rules.own_blocks (rules.no_extents s.server s.servers s.disks s.blocks)) ≤ 32768 → IsSound (with_shape s [] 0)
+pub none_sound : (s : Shape) → length (extents.own_blocks (extents.no_extents s.server s.servers s.disks s.blocks)) ≤ 32768 → IsSound (with_shape s [] 0)
 none_sound s few = record { owned = none_owned s 0; counted = omega arith; few = few }
 
-pub released_sound : (x : rules.Extents) (f : FileId) (p : PageNo) → IsSound x → IsSound (rules.release_from x f p)
-unfolding rules.release_from rules.own_blocks
+pub released_sound : (x : extents.Extents) (f : FileId) (p : PageNo) → IsSound x → IsSound (extents.release_from x f p)
+unfolding extents.release_from extents.own_blocks
 released_sound x f p k = record { owned = released_owned x f p k.owned; counted = k.counted; few = k.few }
 
-pub allocated_sound : (s : Shape) (rows after : List Extent) (births given : ℕ) (f : FileId) (p : PageNo) (count : ℕ) → IsSound (with_shape s rows births) → with_shape s after given ≡ rules.place_pages f (rules.unmapped (with_shape s rows births) f p count) (with_shape s rows births) → given < 2 ^ 63 → IsSound (with_shape s after given)
-unfolding rules.own_blocks
+pub allocated_sound : (s : Shape) (rows after : List Extent) (births given : ℕ) (f : FileId) (p : PageNo) (count : ℕ) → IsSound (with_shape s rows births) → with_shape s after given ≡ extents.place_pages f (extents.unmapped (with_shape s rows births) f p count) (with_shape s rows births) → given < 2 ^ 63 → IsSound (with_shape s after given)
+unfolding extents.own_blocks
 allocated_sound s rows after births given f p count k e l =
     record { owned = rw e (allocated_owned (with_shape s rows births) f p count k.owned); counted = l; few = k.few }

@@ -10,7 +10,7 @@ use Rattle.st_rules.specs.declared.extents.AllocateRefusal.TheVariants.{NoSpace}
 use Rattle.st_extents.specs.declared.refusal.ExtentRefusal.{ExtentRefusal}
 use Rattle.st_extents.specs.declared.refusal.ExtentRefusal.TheVariants as refusals
 use Rattle.st_base.specs.declared.disk.BlockAt.{BlockAt}
-use Rattle.st_rules.specs.Extents.{Extents, free_blocks, is_extent_of, lies_at, no_extents, own_blocks, pages_from, place_on}
+use Rattle.st_rules.specs.Extents.{Extents, is_extent_of, lies_at, no_extents, own_blocks, pages_from, place_pages}
 use Rattle.st_rules.specs.Keys.{same_page}
 use Rattle.st_extents.specs.Ownership.{IsSound}
 use Rattle.st_extents.specs.Places.{Ground}
@@ -25,10 +25,6 @@ pub record Shape : Type 0 where
 -- the extents of a server with this shape, these mapped pages and this many births
 abbrev pub with_shape : Shape → List Extent → ℕ → Extents
 with_shape l rows births = record { server = l.server; servers = l.servers; disks = l.disks; blocks = l.blocks; rows = rows; births = births }
-
--- the extents after a page got the first free block, under the next birth
-abbrev pub placed_first : Shape → List Extent → ℕ → FileId → PageNo → Extents
-placed_first l rows births f p = place_on (with_shape l rows births) f p (free_blocks (with_shape l rows births))
 
 -- the counts are within the limits: 1 to 4 servers, at least a disk for each server and at most 8 disks, 1 to 4,096 blocks
 pub record IsWithinLimits (server servers disks blocks : ℕ) : Type 0 where
@@ -50,13 +46,19 @@ pub record AreFresh (rows : List Extent) (f : FileId) (ps : List PageNo) : Type 
   pub apart : IsDistinct same_page ps
 
 -- what the calls keep: the blocks are the server's own, and the extents are sound
-pub record IsKept (s : Shape) (g : Ground) (births : ℕ) : Type 0 where
+pub record IsKept (s : Shape) (g : Ground) : Type 0 where
   pub own : g.own ≡ own_blocks (no_extents s.server s.servers s.disks s.blocks)
-  pub sound : IsSound (with_shape s g.rows births)
+  pub sound : IsSound (with_shape s g.rows g.births)
 
 -- the pages of a range that have no block, by the mapped pages
 abbrev pub unmapped_of : List Extent → FileId → PageNo → ℕ → List PageNo
 unmapped_of rows f p count = filter (λ q. not (is_some (find (is_extent_of f q) rows))) (pages_from p count)
+
+-- after these pages were mapped one after another, what stands is what the definition gives
+abbrev pub PlacesAll : Ground → Ground → FileId → List PageNo → Type 0
+PlacesAll old new f ps =
+    (s : Shape) → old.own ≡ own_blocks (no_extents s.server s.servers s.disks s.blocks)
+    → with_shape s new.rows new.births ≡ place_pages f ps (with_shape s old.rows old.births)
 
 -- What a call that maps pages answers and leaves: what the rule gives; and where the rule refuses, or the call runs out of
 -- memory, nothing is changed.

@@ -1,3 +1,4 @@
 pub mod Layout
 pub mod Ownership
 pub mod Places
+pub mod Runs

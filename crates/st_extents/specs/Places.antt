@@ -1,15 +1,16 @@
 -- The places of a server's blocks, and the pages that are mapped to them.
-use Rattle.std.specs.Prelude.{ℕ, ◌≡◌, ◌≤◌, ◌<◌, ◌&&◌, ◌==◌, ◌++◌, Bool, true, false, not, if◌then◌else◌, List, [], ◌∷◌, filter, length, get_or, map, set}
+use Rattle.std.specs.Prelude.{ℕ, ◌≡◌, ◌≤◌, ◌<◌, ◌+◌, ◌*◌, ◌++◌, Bool, true, false, not, List, [], ◌∷◌, filter, length, get_or, ⊤}
 use Rattle.std.specs.List.{IsDistinct, AllByRecursion, list_any}
-use Rattle.std.specs.Map.{keys_of, values_of}
 use Rattle.st_base.specs.declared.disk.BlockAt.{BlockAt}
 use Rattle.st_rules.specs.declared.extents.Extent.{Extent}
 use Rattle.st_base.specs.declared.ids.FileId.{FileId}
 use Rattle.st_base.specs.declared.ids.PageNo.{PageNo}
-use Rattle.st_rules.specs.Extents.{is_at_or_behind}
+use Rattle.st_rules.specs.Extents.{lies_at}
 use Rattle.st_rules.specs.Keys.{same_block}
-use Rattle.st_extents.specs.declared.pages.Mapped.{Mapped}
-use Rattle.st_extents.specs.declared.pages.PageKey.{PageKey}
+use Rattle.st_extents.specs.Ownership.{of_one_page, on_one_block}
+use Rattle.st_extents.specs.Runs.{mapped_to}
+use Rattle.st_extents.specs.declared.run_map.RunKey.{RunKey}
+use Rattle.st_extents.specs.declared.run_map.Run.{Run}
 
 -- the places that are not taken are counted, and all places below the mark are taken
 pub record IsCounted (taken : List Bool) (low free : ℕ) : Type 0 where
@@ -17,63 +18,60 @@ pub record IsCounted (taken : List Bool) (low free : ℕ) : Type 0 where
   pub below : (j : ℕ) → j < low → get_or taken j false ≡ true
   pub within : low ≤ length taken
 
--- the key of a mapped page: its file and its number
-abbrev pub key_of : Mapped → PageKey
-key_of m = record { server = m.extent.file.server.0; ino = m.extent.file.ino; page = m.extent.page.0 }
+-- a block's number among the blocks of all disks, where a disk has at most 2^32 blocks
+abbrev pub rank : BlockAt → ℕ
+rank b = b.disk.0 * 4294967296 + b.block
 
--- one key
-abbrev pub same_key : PageKey → PageKey → Bool
-same_key a b = (a.server == b.server) && ((a.ino == b.ino) && (a.page == b.page))
+-- blocks by rising disk and then by rising number
+abbrev pub AreInOrder : List BlockAt → Type 0
+AreInOrder [] = ⊤
+AreInOrder (b ∷ bs) = AllByRecursion (λ c. rank b < rank c) bs × AreInOrder bs
 
--- each key is that of its page
-abbrev pub IsKeyed : List (PageKey × Mapped) → Type 0
-IsKeyed es = keys_of es ≡ map key_of (values_of es)
+-- the block is one of these
+abbrev pub is_among : List BlockAt → BlockAt → Bool
+is_among own at = list_any (λ b. same_block b at) own
 
--- mapped pages, and for how many more there is memory
-pub record Table : Type 0 where
-  pub rows : List Mapped
-  pub room : ℕ
-
--- the extent of a mapped page
-abbrev pub extent_in : Mapped → Extent
-extent_in m = m.extent
-
--- the page's block is the one at this place
-abbrev pub is_at : ℕ → Mapped → Bool
-is_at i m = m.place == i
-
--- two pages are at one place
-abbrev pub same_place : Mapped → Mapped → Bool
-same_place a b = b.place == a.place
-
--- the page's block is the one at its place
-abbrev pub IsPlaced : List BlockAt → Mapped → Type 0
-IsPlaced own m = (m.place < length own) × ((d : BlockAt) → get_or own m.place d ≡ m.extent.at)
-
--- the server's blocks differ, each mapped page lies on the block at its place, no place has two pages, and a place is taken
--- exactly where it has one
-pub record IsLaid (own : List BlockAt) (taken : List Bool) (rows : List Mapped) : Type 0 where
-  pub apart : IsDistinct same_block own
+-- the server's blocks are in order; each mapped page lies on one of them, no page is mapped twice, and no block has two
+-- pages; a place is taken exactly where its block has a page
+pub record IsLaid (own : List BlockAt) (taken : List Bool) (rows : List Extent) : Type 0 where
+  pub order : AreInOrder own
   pub as_long : length taken ≡ length own
-  pub placed : AllByRecursion (IsPlaced own) rows
-  pub once : IsDistinct same_place rows
-  pub told : (i : ℕ) (d : Bool) → i < length own → get_or taken i d ≡ list_any (is_at i) rows
+  pub among : AllByRecursion (λ e. is_among own e.at ≡ true) rows
+  pub pages : IsDistinct of_one_page rows
+  pub once : IsDistinct on_one_block rows
+  pub told : (i : ℕ) (d : Bool) (b : BlockAt) → i < length own → get_or taken i d ≡ list_any (lies_at (get_or own i b)) rows
 
--- a server's own blocks, its mapped pages, and for how many more there is memory
+-- a server's own blocks, its mapped pages, how many births were given, and the runs of the pages
 pub record Ground : Type 0 where
   pub own : List BlockAt
   pub rows : List Extent
-  pub room : ℕ
+  pub births : ℕ
+  pub runs : List (RunKey × Run)
 
--- a mapped page at this place is of this file and of this page or a later one
-abbrev pub is_given : FileId → PageNo → ℕ → Mapped → Bool
-is_given f p i m = is_at i m && is_at_or_behind f p m.extent
+-- after a page was mapped to the first of these blocks, the mapped pages
+abbrev pub IsMapped : List Extent → FileId → PageNo → ℕ → List BlockAt → List Extent → Type 0
+IsMapped rows f p birth [] after = after ≡ rows
+IsMapped rows f p birth (b ∷ bs) after = after ≡ rows ++ mapped_to f p b birth ∷ []
 
--- the places, after that of a page is given back where the page is of this file and of this page or a later one
-abbrev pub given : FileId → PageNo → Mapped → List Bool → List Bool
-given f p m taken = if is_at_or_behind f p m.extent then set taken m.place false else taken
+-- the rows, with one more for this page
+abbrev pub HasOneMore : List Extent → ℕ → FileId → PageNo → List Extent → Type 0
+HasOneMore rows birth f p after = (b : BlockAt) × (after ≡ rows ++ mapped_to f p b birth ∷ [])
 
--- after a page was to be mapped to the first of these blocks: whether there was one, and the mapped pages
-abbrev pub IsMapped : List Extent → FileId → PageNo → ℕ → List BlockAt → Bool → List Extent → Type 0
-IsMapped rows f p birth [] result after = (result ≡ false) × (after ≡ rows)
-IsMapped rows f p birth (b ∷ bs) result after = (result ≡ true) × (after ≡ rows ++ record { file = f; page = p; at = b; birth = birth } ∷ [])
+-- the page stands last, under this birth
+abbrev pub IsLastMapped : FileId → PageNo → ℕ → List Extent → Type 0
+IsLastMapped f p birth after = (rows : List Extent) × HasOneMore rows birth f p after
+
+-- the rows, with one more for each of these pages, under the next births
+abbrev pub AreAdded : List Extent → ℕ → FileId → List PageNo → List Extent → Type 0
+AreAdded rows births f [] after = after ≡ rows
+AreAdded rows births f (p ∷ ps) after = (b : BlockAt) × AreAdded (rows ++ mapped_to f p b (births + 1) ∷ []) (births + 1) f ps after
+
+-- these pages stand last, in this order, under the last births
+abbrev pub AreLastMapped : FileId → List PageNo → ℕ → List Extent → Type 0
+AreLastMapped f ps given after = (rows : List Extent) × ((births : ℕ) × ((given ≡ births + length ps) × AreAdded rows births f ps after))
+
+-- these pages, which stood last in this order, are gone, and their births taken back
+abbrev pub TakesBack : Ground → Ground → FileId → List PageNo → Type 0
+TakesBack old new f ps =
+    (rows : List Extent) (births : ℕ) → old.births ≡ births + length ps → AreAdded rows births f ps old.rows
+    → (new.rows ≡ rows) × (new.births ≡ births)

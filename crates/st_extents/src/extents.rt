@@ -1,26 +1,28 @@
-ghost use Rattle.std.specs.Prelude.{◌≡◌, ◌≤◌, ◌+◌, ◌<◌, ◌^◌, IfOk, length, find, is_some, false};
-ghost use Rattle.st_base.specs.declared.ids.PageNo.{PageNo};
+ghost use Rattle.std.specs.Prelude.{◌≡◌, ◌≤◌, ◌+◌, ◌<◌, ◌^◌, IfOk, OnOk, OnErr, length, filter};
+ghost use Rattle.std.specs.List.{AllByRecursion};
 ghost use Rattle.st_rules.specs.Extents as extents;
-ghost use Rattle.st_rules.specs.Keys.{same_page};
-ghost use Rattle.st_extents.specs.Layout.{Allocates, AreFresh, IsWithinLimits, Shape, placed_first, with_shape};
+ghost use Rattle.st_extents.specs.Layout.{Allocates, AreFresh, IsWithinLimits, PlacesAll, none_at};
 ghost use Rattle.st_extents.specs.Ownership.{IsOwned};
+ghost use Rattle.st_extents.specs.Places.{AreLastMapped, TakesBack};
+ghost use Rattle.st_extents.specs.Runs.{AreRunsOf, run_at};
 
 use crate::layout::own_blocks;
 use crate::mapping::Mapping;
 use crate::refusal::ExtentRefusal;
+use crate::run_map::{Run, RunKey};
 use st_base::{BlockAt, FileId, PageNo, ServerId};
 use std::alloc::{AllocError, Global};
+use std::collections::BTreeMap;
 use std::marker::Model;
 
-/// The extents of one server. Contracts see them as the counts of the world, the list of its mapped pages, and how many
-/// births were given.
+/// The extents of one server. Contracts see them as the counts of the world, the list of its mapped pages, and how many births
+/// were given.
 #[derive(Drop)]
 pub struct Extents {
     server: ServerId,
     servers: u16,
     disks: u16,
     blocks: u32,
-    births: u64,
     mapping: Mapping,
 }
 
@@ -30,43 +32,43 @@ impl Model for Extents {
 
     ghost Value = { extents.Extents };
 
-    ghost view = { λ x. with_shape (record { server = x.server; servers = x.servers; disks = x.disks; blocks = x.blocks }) x.mapping.rows x.births };
+    ghost view = { λ x. with_shape (record { server = x.server; servers = x.servers; disks = x.disks; blocks = x.blocks }) x.mapping.rows x.mapping.births };
 
-    ghost invariant = { λ x. IsKept (record { server = x.server; servers = x.servers; disks = x.disks; blocks = x.blocks }) x.mapping x.births };
+    ghost invariant = { λ x. IsKept (record { server = x.server; servers = x.servers; disks = x.disks; blocks = x.blocks }) x.mapping };
 }
 
-/// Maps a page to the first free block, under the next birth, and returns how many births were given.
-fn place_page(mapping: &mut Mapping, births: u64, file: FileId, page: PageNo) -> u64
-    requires room { 0 < mapping.old.room }
-    requires counted { births < 2 ^ 63 }
-    requires fresh { is_some (find (extents.is_extent_of file page) mapping.old.rows) ≡ false }
-    ensures placed { (s : Shape) → mapping.old.own ≡ extents.own_blocks (extents.no_extents s.server s.servers s.disks s.blocks) → with_shape s mapping.new.rows result ≡ placed_first s mapping.old.rows births file page }
-    ensures fresh { (q : PageNo) → is_some (find (extents.is_extent_of file q) mapping.old.rows) ≡ false → same_page page q ≡ false → is_some (find (extents.is_extent_of file q) mapping.new.rows) ≡ false }
+/// Unmaps these pages, which were mapped last and in this order, and takes their births back. It takes no memory.
+fn take_back(mapping: &mut Mapping, file: FileId, pages: &[PageNo])
+    requires { AreLastMapped file pages.now mapping.old.births mapping.old.rows }
     ensures own { mapping.new.own ≡ mapping.old.own }
-    ensures room { mapping.old.room ≤ mapping.new.room + 1 }
-    ensures few { result ≤ births + 1 }
+    ensures back { TakesBack mapping.old mapping.new file pages.now }
 {
-    if mapping.place(file, page, births + 1) {
-        births + 1
-    } else {
-        births
+    let mut left = pages.len();
+    while left > 0 {
+        left -= 1;
+        mapping.take_back(file, pages[left]);
     }
 }
 
-/// Maps these pages one after another, and returns how many births were given.
-fn place_pages(mapping: &mut Mapping, births: u64, file: FileId, pages: &[PageNo]) -> u64
-    requires room { length pages.now ≤ mapping.old.room }
-    requires counted { births + length pages.now < 2 ^ 63 }
+/// Maps these pages one after another, or none of them where it runs out of memory.
+fn place_pages(mapping: &mut Mapping, file: FileId, pages: &[PageNo]) -> Result<(), AllocError>
+    requires room { length pages.now ≤ length (filter (none_at mapping.old.rows) mapping.old.own) }
+    requires counted { mapping.old.births + length pages.now < 2 ^ 63 }
+    requires low { AllByRecursion (λ p. p.0 < 1048576) pages.now }
     requires fresh { AreFresh mapping.old.rows file pages.now }
-    ensures placed { (s : Shape) → mapping.old.own ≡ extents.own_blocks (extents.no_extents s.server s.servers s.disks s.blocks) → with_shape s mapping.new.rows result ≡ extents.place_pages file pages.now (with_shape s mapping.old.rows births) }
+    ensures placed { OnOk result (PlacesAll mapping.old mapping.new file pages.now) }
     ensures own { mapping.new.own ≡ mapping.old.own }
-    ensures few { result ≤ births + length pages.now }
+    ensures few { mapping.new.births ≤ mapping.old.births + length pages.now }
+    ensures rows { OnErr result (mapping.new.rows ≡ mapping.old.rows) }
+    ensures births { OnErr result (mapping.new.births ≡ mapping.old.births) }
 {
-    let mut births = births;
-    for page in pages {
-        births = place_page(mapping, births, file, *page);
+    for place in 0..pages.len() {
+        let Ok(()) = mapping.place(file, pages[place]) else {
+            take_back(mapping, file, &pages[..place]);
+            return Err(AllocError);
+        };
     }
-    births
+    Ok(())
 }
 
 impl Extents {
@@ -89,7 +91,6 @@ impl Extents {
             servers,
             disks,
             blocks,
-            births: 0,
             mapping: Mapping::new(alloc, own)?,
         })
     }
@@ -118,8 +119,7 @@ impl Extents {
                 asked: asked as u64,
             });
         }
-        self.mapping.reserve(asked)?;
-        self.births = place_pages(&mut self.mapping, self.births, file, pages.as_slice());
+        place_pages(&mut self.mapping, file, pages.as_slice())?;
         Ok(())
     }
 
@@ -150,6 +150,14 @@ impl Extents {
     pub fn next_birth(&self) -> u64
         ensures { result ≡ self.now.births + 1 }
     {
-        self.births + 1
+        self.mapping.births() + 1
+    }
+
+    /// The mapped pages as runs, by where they begin: pages of one file one after another, on blocks of one disk one after
+    /// another, under births one after another. No two runs could be joined.
+    pub fn runs(&self) -> &BTreeMap<RunKey, Run>
+        ensures { AreRunsOf self.now.rows (run_at result.now.entries) }
+    {
+        self.mapping.runs()
     }
 }

@@ -4,10 +4,12 @@
 mod extents;
 mod layout;
 mod mapping;
-mod pages;
 mod refusal;
+mod run_map;
+mod runs;
 mod taken;
 
 pub use extents::Extents;
 pub use refusal::ExtentRefusal;
+pub use run_map::{Run, RunKey};
 pub use st_rules::Extent;

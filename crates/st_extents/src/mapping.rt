@@ -1,79 +1,92 @@
-ghost use Rattle.std.specs.Prelude.{◌≡◌, ◌≤◌, ◌<◌, ◌+◌, ◌&&◌, [], not, find, filter, is_some, length, get_or, vec_len, false, IfOk, OnOk, ℕ, Bool};
-ghost use Rattle.std.specs.List.{AllByRecursion, IsDistinct, list_any};
-ghost use Rattle.std.specs.Option.{option_map};
+ghost use Rattle.std.specs.Prelude.{◌≡◌, ◌≤◌, ◌<◌, ◌+◌, ◌-◌, ◌*◌, ◌^◌, ◌∷◌, ◌++◌, [], not, find, filter, is_some, length, get_or, vec_len, false, true, IfOk, OnOk, OnErr, ℕ, List};
+ghost use Rattle.std.specs.List.{list_any};
+ghost use Rattle.st_base.specs.declared.disk.BlockAt.{BlockAt};
+ghost use Rattle.st_rules.specs.declared.extents.Extent.{Extent};
 ghost use Rattle.st_rules.specs.Extents as extents;
-ghost use Rattle.st_rules.specs.Keys.{same_block};
 ghost use Rattle.st_extents.specs.Layout.{none_at, unmapped_of};
-ghost use Rattle.st_extents.specs.Places.{IsMapped, extent_in, given, is_given};
-ghost use Rattle.st_extents.specs.declared.pages.Mapped.{Mapped};
+ghost use Rattle.st_extents.specs.Places.{AreInOrder, HasOneMore, IsLaid, IsLastMapped, IsMapped, is_among, rank};
+ghost use Rattle.st_extents.specs.Runs.{AreRunsOf, run_at};
 
-use crate::pages::{Mapped, Pages, is_at_or_behind};
+use crate::run_map::RunMap;
+use crate::runs::Runs;
 use crate::taken::Taken;
 use st_base::{BlockAt, FileId, PageNo};
 use st_rules::Extent;
 use std::alloc::{AllocError, Global};
 use std::marker::Model;
 
-/// The blocks of one server's disks in order, and the pages that are mapped to them. A page is found by its file and number;
-/// the search for a free block begins behind blocks that are known to be taken.
+/// A block's number among the blocks of all disks, where a disk has at most 2^32 blocks.
+fn rank(at: BlockAt) -> u64
+    ensures { result ≡ rank at }
+{
+    u64::from(at.disk.0) * 4294967296 + u64::from(at.block)
+}
+
+/// The place of a block among these blocks, which are in order. It is one of them.
+fn place_of(own: &[BlockAt], at: BlockAt) -> usize
+    requires order { AreInOrder own.now }
+    requires among { is_among own.now at ≡ true }
+    ensures within { result < length own.now }
+    ensures at { (d : BlockAt) → get_or own.now result d ≡ at }
+{
+    let mut low = 0;
+    let mut high = own.len();
+    'halves: while low < high {
+        let middle = low + (high - low) / 2;
+        if rank(own[middle]) < rank(at) {
+            low = middle + 1;
+        } else {
+            high = middle;
+        }
+    }
+    low
+}
+
+/// Unmaps the pages of a file from `page` on, the last one first, and gives back the places of their blocks. It takes no
+/// memory.
+fn release_all(runs: &mut Runs, taken: &mut Taken, own: &[BlockAt], file: FileId, page: PageNo)
+    requires { IsLaid own.now taken.old runs.old.rows }
+    ensures laid { IsLaid own.now taken.new runs.new.rows }
+    ensures rows { runs.new.rows ≡ filter (λ e. not (extents.is_at_or_behind file page e)) runs.old.rows }
+    ensures births { runs.new.births ≡ runs.old.births }
+{
+    'pages: while let Some(extent) = runs.pop_from(file, page) {
+        let place = place_of(own, extent.at);
+        taken.give(place);
+    }
+}
+
+/// The blocks of one server's disks in order, and the pages that are mapped to them, as runs.
 #[derive(Drop)]
 pub struct Mapping {
     own: Vec<BlockAt>,
     taken: Taken,
-    pages: Pages,
+    runs: Runs,
 }
 
 impl Model for Mapping {
-    ghost use Rattle.std.specs.Prelude.{map};
-    ghost use Rattle.st_extents.specs.Places.{Ground, IsLaid, extent_in};
+    ghost use Rattle.st_extents.specs.Places.{Ground, IsLaid};
 
     ghost Value = { Ground };
 
-    ghost view = { λ m. record { own = m.own.items; rows = map extent_in m.pages.rows; room = m.pages.room } };
+    ghost view = { λ m. record { own = m.own.items; rows = m.runs.rows; births = m.runs.births; runs = m.runs.runs } };
 
-    ghost invariant = { λ m. IsLaid m.own.items m.taken m.pages.rows };
-}
-
-/// The extent of a mapped page, if there is one.
-fn extent_of(page: Option<Mapped>) -> Option<Extent>
-    ensures { result ≡ option_map extent_in page }
-{
-    page.map(|m| m.extent)
-}
-
-/// Gives back the place of one page, where the page is of this file and from `page` on.
-fn give_one(taken: &mut Taken, row: Mapped, file: FileId, page: PageNo)
-    requires { row.place < length taken.old }
-    ensures { taken.new ≡ given file page row taken.old }
-{
-    if is_at_or_behind(file, page, row.extent) {
-        taken.give(row.place);
-    }
-}
-
-/// Gives back the places of the pages of a file from `page` on.
-fn give_all(taken: &mut Taken, pages: &Pages, file: FileId, page: PageNo)
-    requires { AllByRecursion (λ m. m.place < length taken.old) pages.now.rows }
-    ensures len { length taken.new ≡ length taken.old }
-    ensures given { (i : ℕ) (d : Bool) → i < length taken.old → get_or taken.new i d ≡ get_or taken.old i d && not (list_any (is_given file page i) pages.now.rows) }
-{
-    for index in 0..pages.len() {
-        give_one(taken, pages.at(index), file, page);
-    }
+    ghost invariant = { λ m. IsLaid m.own.items m.taken m.runs.rows };
 }
 
 impl Mapping {
     /// Nothing is mapped to these blocks.
     pub fn new(alloc: Global, own: Vec<BlockAt>) -> Result<Mapping, AllocError>
-        requires { IsDistinct same_block own.items }
+        requires { AreInOrder own.items }
         ensures own { IfOk result (λ m. m.own ≡ own.items) }
         ensures rows { IfOk result (λ m. m.rows ≡ []) }
+        ensures births { IfOk result (λ m. m.births ≡ 0) }
     {
         let places = own.len();
         Ok(Mapping {
             own,
             taken: Taken::new(alloc, places)?,
-            pages: Pages::new(alloc),
+            runs: Runs::new(alloc),
         })
     }
 
@@ -81,7 +94,7 @@ impl Mapping {
     pub fn get(&self, file: FileId, page: PageNo) -> Option<Extent>
         ensures { result ≡ find (extents.is_extent_of file page) self.now.rows }
     {
-        extent_of(self.pages.get(file, page))
+        self.runs.get(file, page)
     }
 
     /// The pages of the range of `count` pages from `page` on that have no block.
@@ -116,50 +129,70 @@ impl Mapping {
 
     /// How many pages are mapped.
     pub fn len(&self) -> usize
-        ensures len { result ≡ length self.now.rows }
-        ensures small { result < 9223372036854775808 }
+        ensures { result ≡ length self.now.rows }
     {
-        self.pages.len()
+        self.runs.len()
     }
 
-    /// Makes room for this number of pages more.
-    pub fn reserve(&mut self, more: usize) -> Result<(), AllocError>
-        ensures own { self.new.own ≡ self.old.own }
-        ensures rows { self.new.rows ≡ self.old.rows }
-        ensures room { OnOk result (more ≤ self.new.room) }
+    /// How many births were given.
+    pub fn births(&self) -> u64
+        ensures { result ≡ self.now.births }
     {
-        self.pages.reserve(more)
+        self.runs.births()
     }
 
-    /// Maps a page to the first free block under this birth, and returns whether there was one.
-    pub fn place(&mut self, file: FileId, page: PageNo, birth: u64) -> bool
-        requires room { 0 < self.old.room }
+    /// The runs of the mapped pages, by where they begin.
+    pub fn runs(&self) -> &RunMap
+        ensures { AreRunsOf self.now.rows (run_at result.now.entries) }
+    {
+        self.runs.runs()
+    }
+
+    /// Maps a page to the first free block under the next birth. There is a free block. An error changes nothing.
+    pub fn place(&mut self, file: FileId, page: PageNo) -> Result<(), AllocError>
+        requires births { self.old.births < 2 ^ 63 - 1 }
+        requires page { page.0 < 1048576 }
+        requires room { 1 ≤ length (filter (none_at self.old.rows) self.old.own) }
         requires fresh { is_some (find (extents.is_extent_of file page) self.old.rows) ≡ false }
         ensures own { self.new.own ≡ self.old.own }
-        ensures placed { IsMapped self.old.rows file page birth (filter (none_at self.old.rows) self.old.own) result self.new.rows }
-        ensures room { self.old.room ≤ self.new.room + 1 }
+        ensures placed { OnOk result (IsMapped self.old.rows file page (self.old.births + 1) (filter (none_at self.old.rows) self.old.own) self.new.rows) }
+        ensures added { OnOk result (HasOneMore self.old.rows (self.old.births + 1) file page self.new.rows) }
+        ensures births { OnOk result (self.new.births ≡ self.old.births + 1) }
+        ensures room { OnOk result (length (filter (none_at self.new.rows) self.old.own) + 1 ≡ length (filter (none_at self.old.rows) self.old.own)) }
+        ensures rows { OnErr result (self.new.rows ≡ self.old.rows) }
+        ensures same_births { OnErr result (self.new.births ≡ self.old.births) }
     {
         let place = self.taken.first();
-        if place >= self.own.len() {
-            return false;
-        }
-        let extent = Extent {
-            file,
-            page,
-            at: self.own[place],
-            birth,
-        };
+        let at = self.own[place];
+        self.runs.push(file, page, at)?;
         self.taken.take(place);
-        self.pages.push(Mapped { extent, place });
-        true
+        Ok(())
+    }
+
+    /// Unmaps the page that was mapped last, and takes its birth back. It takes no memory.
+    pub fn take_back(&mut self, file: FileId, page: PageNo)
+        requires { IsLastMapped file page self.old.births self.old.rows }
+        ensures own { self.new.own ≡ self.old.own }
+        ensures rows { (rows : List Extent) (e : Extent) → self.old.rows ≡ rows ++ e ∷ [] → self.new.rows ≡ rows }
+        ensures births { self.new.births + 1 ≡ self.old.births }
+    {
+        let at = self.runs.take_back(file, page);
+        let place = place_of(self.own.as_slice(), at);
+        self.taken.give(place);
     }
 
     /// Unmaps the pages of a file from `page` on. It takes no memory.
     pub fn release(&mut self, file: FileId, page: PageNo)
         ensures own { self.new.own ≡ self.old.own }
         ensures rows { self.new.rows ≡ filter (λ e. not (extents.is_at_or_behind file page e)) self.old.rows }
+        ensures births { self.new.births ≡ self.old.births }
     {
-        give_all(&mut self.taken, &self.pages, file, page);
-        self.pages.release(file, page);
+        release_all(
+            &mut self.runs,
+            &mut self.taken,
+            self.own.as_slice(),
+            file,
+            page,
+        );
     }
 }

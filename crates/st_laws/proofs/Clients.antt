@@ -1,6 +1,7 @@
 -- A step of a client is one step of the law, for all clients of a server at once.
 use Rattle.std.proofs.Common.{◌≡◌, ◌≢◌, ℕ, ◌+◌, ◌*◌, ◌<◌, ◌≤◌, ◌⊎◌, Bool, true, false, List, [], ◌∷◌, ◌++◌, ◌==◌, refl, sym, ap, ◌∙◌, subst, inl, inr, arith}
 use Rattle.std.specs.Prelude.{length, Option, Some, None, unwrap_or, option_map, if◌then◌else◌}
+use Rattle.st_base.specs.declared.ids.ClientId.{ClientId}
 use Rattle.st_base.specs.declared.ids.ServerId.{ServerId}
 use Rattle.st_base.specs.declared.ids.Life.{Life}
 use Rattle.st_base.specs.declared.ids.Stamp.{Stamp}
@@ -17,7 +18,8 @@ use Rattle.st_rules.specs.ClientLease.{end_at}
 use Rattle.st_rules.specs.ClientPages.{empty_store}
 use Rattle.st_rules.specs.ClientState.{Association, ClientSession, ClientState, ClientTurn}
 use Rattle.st_rules.specs.Client as cl
-use Rattle.st_rules.specs.World.{World, ClientSite, numbered, site_of, clock_of, stamp, server}
+use Rattle.st_rules.specs.Events as ev
+use Rattle.st_rules.specs.World.{World, ClientSite, all_servers, numbered, site_of, clock_of, stamp, server}
 use Rattle.st_rules.specs.Server.{ServerNode}
 use Rattle.st_rules.specs.Client.{ClientNode}
 use Rattle.st_assoc.specs.Assoc as net
@@ -46,7 +48,8 @@ use Rattle.st_laws_client.specs.Law.{Comes, Heard_of, Life_ends}
 use Rattle.st_laws_client.specs.World.{sent, Sim, stepped, site_left, world_left, World_left, Own_moves, lost_life, lost_lives}
 use Rattle.st_laws_client.proofs.Steps.{step_losses}
 use Rattle.st_laws_client.proofs.Sim.{own_moves, others_stay, world_is}
-use Rattle.st_laws.specs.Stands.{All_past, Standing, Both, Both_stand}
+use Rattle.st_laws.specs.Stands.{All_past, Standing, Both, Left, Both_after}
+use Rattle.st_laws.proofs.Left.{Runs_on, on_then, on_all, on_flushes}
 use Rattle.st_laws.proofs.Pairs.{length_set, numbered_some, found_at_place, only_here, own_view, said_has}
 
 -- the lives that outputs say to be lost have their fact
@@ -65,6 +68,21 @@ lost_has P c before (outputs.Note n ∷ os) e l h = note n l h (λ l h. lost_has
     note (notes.Lost s life) l (inr h) f = f l.rest h
     note n l h f = f l h
 
+-- a client's step leaves the drift, and no byte goes
+left_by : (w : World) (c : ClientId) (site : ClientSite) (input : ClientInput) → Runs_on w (world_left w c site input)
+unfolding ev.client_took
+left_by w c site input =
+    on_then w a.world _ (record { drift = refl; bytes = omega arith }) (on_then a.world b.world _ (on_all c site.node.state t.out a) (on_flushes c t.node.state (all_servers b.world) b.world))
+  where
+    t : cl.NodeTurn
+    t = cl.node_turn site.node (stepped w c site input)
+
+    a : ev.Scene
+    a = ev.quiet (ev.with_site c (ev.at_node t.node site) w)
+
+    b : ev.Scene
+    b = ev.client_says_all c site.node.state t.out a
+
 module _ (k : Config) (s : ℕ) (w : World) (node : ServerNode) (ended : ℕ → ℕ → ℕ) (G : ℕ → Ghost) (c : ℕ) (site0 site : ClientSite) (input : ClientInput) where
   abbrev Now : Stamp
   Now = clock_of w (nodes.Client (client c))
@@ -79,8 +97,8 @@ module _ (k : Config) (s : ℕ) (w : World) (node : ServerNode) (ended : ℕ →
   Last = site_left w (client c) site input
 
   -- after the step all stands again
-  pub steps : Both k s w node ended G → site_of w (client c) ≡ Some site0 → site.node ≡ site0.node → site.node.running ≡ true → Comes (server s) c input (G c).net → Heard_of input → Both_stand k s After node
-  steps b there same runs comes heard = record { ends_of = E2; ghosts = G2; both = record { stands = record { reached = Works b.stands.reached (record { each = each; table = λ u v z. z }); served = served; compat = b.stands.compat }; clients = clients; ends = ends; few = few } }
+  pub steps : Both k s w node ended G → site_of w (client c) ≡ Some site0 → site.node ≡ site0.node → site.node.running ≡ true → Comes (server s) c input (G c).net → Heard_of input → Both_after k s w After node G
+  steps b there same runs comes heard = record { ends_of = E2; ghosts = G2; both = record { stands = record { reached = Works b.stands.reached (record { each = each; table = λ u v z. z }); served = served; compat = b.stands.compat }; clients = clients; ends = ends; few = few }; drift = drift; left = left }
     where
       st : Standing k s c site0 w.ended (G c).net
       st = b.clients c site0 there
@@ -123,6 +141,28 @@ module _ (k : Config) (s : ℕ) (w : World) (node : ServerNode) (ended : ℕ →
 
       few : length After.clients ≤ 16
       few = let z = b.few in omega (arith, many)
+
+      drift : (d : ℕ) → (G2 d).drift ≡ (G d).drift
+      drift d = upd_all (λ d g. g.drift ≡ (G d).drift) G c y refl (λ d n. refl) d
+
+      left : Left w After
+      left =
+          record {
+            servers = q.servers;
+            config = q.config;
+            clocks = q.clocks;
+            drift = on.drift;
+            many = many;
+            bytes = on.bytes;
+            messages = λ m h. sender m (has_append w.net.messages (sent Turned.out) m (subst (Has m) q.messages h));
+          }
+        where
+          on : Runs_on w After
+          on = left_by w (client c) site input
+
+          sender : (m : SentMessage) → Has m w.net.messages ⊎ Has m (sent Turned.out) → ((x : SentMessage) × Has x w.net.messages × (x.message ≡ m.message)) ⊎ (m.message.header.from ≤ 16)
+          sender m (inl h) = inl (m, h, refl)
+          sender m (inr h) = inr (let z = (said_has c (server s) Turned.out r.net m r.said h).0 in let l = b.few in omega (arith, z, pos.1))
 
       clock_s : clock_of After (nodes.Server (server s)) ≡ clock_of w (nodes.Server (server s))
       clock_s = λ j. unwrap_or (numbered (q.clocks j) (many j + s)) (stamp 0)

@@ -1,5 +1,5 @@
 -- The client's half of the fold over events.
-use Rattle.std.proofs.Common.{◌≡◌, ℕ, Bool, true, false, not, Option, Some, None, Ok, Err, refl, sym, ap, ◌∙◌, subst, inl, if◌then◌else◌}
+use Rattle.std.proofs.Common.{◌≡◌, ℕ, ◌≤◌, arith, Bool, true, false, not, Option, Some, None, Ok, Err, refl, sym, ap, ◌∙◌, subst, inl, if◌then◌else◌}
 use Rattle.st_base.specs.declared.ids.NodeId.TheVariants as nodes
 use Rattle.st_messages.specs.declared.ask.Ask.{Ask}
 use Rattle.st_rules.specs.declared.client.ClientInput.{ClientInput}
@@ -23,16 +23,29 @@ use Rattle.st_laws_server.proofs.Delivery.{message_has}
 use Rattle.st_rules.specs.declared.observation.WorldRefusal.{WorldRefusal}
 use Rattle.st_rules.specs.Admissible as admissible
 use Rattle.std.specs.Option.{option_or}
-use Rattle.st_laws.specs.Stands.{Both, Both_stand, Unseen}
+use Rattle.st_laws.specs.Stands.{Both, Left, Both_after, Unseen}
 use Rattle.st_laws.specs.Law.{Client_event, Client_events_keep}
 use Rattle.st_laws.specs.Law.Client_event.{By_tick, By_ask, By_message, By_report, By_crash, By_start, By_loss, By_cut, By_heal, By_effect}
+use Rattle.st_laws.proofs.Left.{left_all, left_with, left_then, one_changed}
 use Rattle.st_laws.proofs.Clients.{brings, steps}
 use Rattle.st_laws.proofs.Crashes.{crashed, started}
-use Rattle.st_laws.proofs.Unseen.{unseen, message_lost, link_cut, link_healed}
+use Rattle.st_laws.proofs.Unseen.{unseen, message_lost, lost_had, link_cut, link_healed}
+
+-- a client that crashes or starts
+stop_left : (w : World) (c : ℕ) (site : ClientSite) → Left w (ev.crashes_client w (client c) (Some site)).world
+unfolding ev.crashes_client ev.marks
+stop_left w c site = one_changed w (client c) (ev.stopped_site site) _ refl refl refl refl refl refl
+
+start_left : (w : World) (c : ℕ) (site : ClientSite) → Left w (ev.starts_client w (client c) (Some site))
+unfolding ev.starts_client
+start_left w c site = one_changed w (client c) (ev.started_site site) _ refl refl refl refl refl refl
 
 module _ (k : Config) (s : ℕ) (node : ServerNode) (ended : ℕ → ℕ → ℕ) (G : ℕ → Ghost) where
-  found : (w : World) → Both k s w node ended G → Both_stand k s w node
-  found w b = record { ends_of = ended; ghosts = G; both = b }
+  found : (w v : World) → Left w v → Both k s v node ended G → Both_after k s w v node G
+  found w v l b = record { ends_of = ended; ghosts = G; both = b; drift = λ c. refl; left = l }
+
+  stays : (w : World) → Both k s w node ended G → Both_after k s w w node G
+  stays w b = found w w (left_all w w refl refl refl refl refl refl) b
 
   -- a world of which the associations see no change
   same : (w v : World) → Unseen s w v → Both k s w node ended G → Both k s v node ended G
@@ -41,82 +54,89 @@ module _ (k : Config) (s : ℕ) (node : ServerNode) (ended : ℕ → ℕ → ℕ
   counted_same : (w : World) → Unseen s w (counted w)
   counted_same w = record { clients = refl; clocks = refl; ended = refl; config = refl; found = refl; messages = λ m h. inl (m, h, refl) }
 
+  -- what stands behind a change that was before
+  after : (u v w : World) → Left u v → Both_after k s v w node G → Both_after k s u w node G
+  after u v w l b = record { ends_of = b.ends_of; ghosts = b.ghosts; both = b.both; drift = b.drift; left = left_then u v w l b.left }
+
   -- a client takes an input
   takes : (w : World) (c : ℕ) (site0 site : ClientSite) (input : ClientInput) → Both k s w node ended G → site_of w (client c) ≡ Some site0 → site.node ≡ site0.node → Comes (server s) c input (G c).net → Heard_of input →
-      Both_stand k s (ev.client_takes w (client c) input site).world node
+      Both_after k s w (ev.client_takes w (client c) input site).world node G
   unfolding ev.client_takes ev.client_took cl.node_step
   takes w c site0 site input b there is comes heard = go site.node.running refl
     where
-      go : (r : Bool) → site.node.running ≡ r → Both_stand k s (ev.client_took w (client c) site (if r then Ok (cl.node_turn site.node (stepped w (client c) site input)) else Err refusals.Crashed)).world node
+      go : (r : Bool) → site.node.running ≡ r → Both_after k s w (ev.client_took w (client c) site (if r then Ok (cl.node_turn site.node (stepped w (client c) site input)) else Err refusals.Crashed)).world node G
       go true runs = steps k s w node ended G c site0 site input b there is runs comes heard
-      go false runs = found w b
+      go false runs = stays w b
 
-  at_client : (w : World) (c : ℕ) (input : ClientInput) → Both k s w node ended G → Comes (server s) c input (G c).net → Heard_of input → Both_stand k s (ev.at_client w (client c) input (site_of w (client c))).world node
+  at_client : (w : World) (c : ℕ) (input : ClientInput) → Both k s w node ended G → Comes (server s) c input (G c).net → Heard_of input → Both_after k s w (ev.at_client w (client c) input (site_of w (client c))).world node G
   unfolding ev.at_client
   at_client w c input b comes heard = go (site_of w (client c)) refl
     where
-      go : (o : Option ClientSite) → site_of w (client c) ≡ o → Both_stand k s (ev.at_client w (client c) input o).world node
-      go None e = found w b
+      go : (o : Option ClientSite) → site_of w (client c) ≡ o → Both_after k s w (ev.at_client w (client c) input o).world node G
+      go None e = stays w b
       go (Some site) e = takes w c site site input b e refl comes heard
 
-  asked : (w : World) (c : ℕ) (ask : Ask) → Both k s w node ended G → Both_stand k s (ev.asks_at w (client c) ask (site_of w (client c))).world node
+  asked : (w : World) (c : ℕ) (ask : Ask) → Both k s w node ended G → Both_after k s w (ev.asks_at w (client c) ask (site_of w (client c))).world node G
   unfolding ev.asks_at
   asked w c ask b = go (site_of w (client c)) refl
     where
-      go : (o : Option ClientSite) → site_of w (client c) ≡ o → Both_stand k s (ev.asks_at w (client c) ask o).world node
-      go None e = found w b
+      go : (o : Option ClientSite) → site_of w (client c) ≡ o → Both_after k s w (ev.asks_at w (client c) ask o).world node G
+      go None e = stays w b
       go (Some site) e = takes w c site (ev.asked_once_more site) (inputs.App _ ask) b e refl (record {}) (record {})
 
-  told : (w : World) (n : ℕ) (ok : Bool) (o : Option IssuedCommand) → Both k s w node ended G → Both_stand k s (ev.tells w n ok o).world node
+  told : (w : World) (n : ℕ) (ok : Bool) (o : Option IssuedCommand) → Both k s w node ended G → Both_after k s w (ev.tells w n ok o).world node G
   unfolding ev.tells ev.tells_client ev.tells_site
-  told w n ok None b = found w b
+  told w n ok None b = stays w b
   told w n ok (Some x) b = go (site_of w x.client) refl
     where
-      by : (site : ClientSite) → site_of w x.client ≡ Some site → (same : Bool) → Both_stand k s (if same then ev.client_takes w x.client (ev.end_told w n ok x) site else ev.quiet w).world node
+      by : (site : ClientSite) → site_of w x.client ≡ Some site → (same : Bool) → Both_after k s w (if same then ev.client_takes w x.client (ev.end_told w n ok x) site else ev.quiet w).world node G
       by site e true = takes w x.client.0 site site (ev.end_told w n ok x) b e refl (record {}) (record {})
-      by site e false = found w b
+      by site e false = stays w b
 
-      go : (o : Option ClientSite) → site_of w x.client ≡ o → Both_stand k s (ev.tells_client w n ok x o).world node
-      go None e = found w b
+      go : (o : Option ClientSite) → site_of w x.client ≡ o → Both_after k s w (ev.tells_client w n ok x o).world node G
+      go None e = stays w b
       go (Some site) e = by site e (ev.is_same_instance x site)
 
-  reported : (w : World) (n : ℕ) (ok : Bool) → Both k s w node ended G → Both_stand k s (ev.reports_of w n ok).world node
+  reported : (w : World) (n : ℕ) (ok : Bool) → Both k s w node ended G → Both_after k s w (ev.reports_of w n ok).world node G
   unfolding ev.reports_of
   reported w n ok b =
       let v : World = ev.with_disks (ev.disks_after w.disks (disks.done w.disks n ok)) w in
-      told v n ok (issued_of w n) (same w v (record { clients = refl; clocks = refl; ended = refl; config = refl; found = refl; messages = λ m h. inl (m, h, refl) }) b)
+      after w v _ (left_all w v refl refl refl refl refl refl)
+      (told v n ok (issued_of w n) (same w v (record { clients = refl; clocks = refl; ended = refl; config = refl; found = refl; messages = λ m h. inl (m, h, refl) }) b))
 
-  crash_of : (w : World) (c : ℕ) → Both k s w node ended G → ((site : ClientSite) → site_of w (client c) ≡ Some site → site.node.running ≡ true) → Both_stand k s (ev.crashes_client w (client c) (site_of w (client c))).world node
+  crash_of : (w : World) (c : ℕ) → Both k s w node ended G → ((site : ClientSite) → site_of w (client c) ≡ Some site → site.node.running ≡ true) → Both_after k s w (ev.crashes_client w (client c) (site_of w (client c))).world node G
   unfolding ev.crashes_client
   crash_of w c b runs = go (site_of w (client c)) refl
     where
-      go : (o : Option ClientSite) → site_of w (client c) ≡ o → Both_stand k s (ev.crashes_client w (client c) o).world node
-      go None e = found w b
-      go (Some site) e = let x = crashed k s w node ended G c site b e (runs site e) in record { ends_of = _; ghosts = G; both = x.1 }
+      go : (o : Option ClientSite) → site_of w (client c) ≡ o → Both_after k s w (ev.crashes_client w (client c) o).world node G
+      go None e = stays w b
+      go (Some site) e = let x = crashed k s w node ended G c site b e (runs site e) in record { ends_of = _; ghosts = G; both = x.1; drift = λ d. refl; left = stop_left w c site }
 
-  start_of : (w : World) (c : ℕ) → Both k s w node ended G → ((site : ClientSite) → site_of w (client c) ≡ Some site → site.node.running ≡ false) → Both_stand k s (ev.starts_client w (client c) (site_of w (client c))) node
+  start_of : (w : World) (c : ℕ) → Both k s w node ended G → ((site : ClientSite) → site_of w (client c) ≡ Some site → site.node.running ≡ false) → Both_after k s w (ev.starts_client w (client c) (site_of w (client c))) node G
   unfolding ev.starts_client
   start_of w c b stops = go (site_of w (client c)) refl
     where
-      go : (o : Option ClientSite) → site_of w (client c) ≡ o → Both_stand k s (ev.starts_client w (client c) o) node
-      go None e = found w b
-      go (Some site) e = let x = started k s w node ended G c site b e (stops site e) in record { ends_of = _; ghosts = G; both = x.1 }
+      go : (o : Option ClientSite) → site_of w (client c) ≡ o → Both_after k s w (ev.starts_client w (client c) o) node G
+      go None e = stays w b
+      go (Some site) e = let x = started k s w node ended G c site b e (stops site e) in record { ends_of = _; ghosts = G; both = x.1; drift = λ d. refl; left = start_left w c site }
 
   effect_of : (w : World) (n : ℕ) → Unseen s w (ev.effects w n).world
   unfolding ev.effects ev.marks
   effect_of w n = record { clients = refl; clocks = refl; ended = refl; config = refl; found = refl; messages = λ m h. inl (m, h, refl) }
 
-  lost_of : (w : World) (n : ℕ) (o : Option SentMessage) → message_of w n ≡ o → Both k s w node ended G → Both_stand k s (ev.loses_message w n o) node
+  lost_of : (w : World) (n : ℕ) (o : Option SentMessage) → message_of w n ≡ o → Both k s w node ended G → Both_after k s w (ev.loses_message w n o) node G
   unfolding ev.loses_message
-  lost_of w n None e b = found w b
-  lost_of w n (Some m) e b = found (ev.with_lost n m w) (same w (ev.with_lost n m w) (message_lost k s w n m e) b)
+  lost_of w n None e b = stays w b
+  lost_of w n (Some m) e b =
+      found w (ev.with_lost n m w) (record { servers = refl; config = refl; clocks = refl; drift = refl; many = refl; bytes = omega arith; messages = λ x h. inl (lost_had k s w n m e x h) })
+      (same w (ev.with_lost n m w) (message_lost k s w n m e) b)
 
 -- the second of two refusals
-second_none : {A : Type 0} (o p : Option A) → option_or o p ≡ None → p ≡ None
+pub second_none : {A : Type 0} (o p : Option A) → option_or o p ≡ None → p ≡ None
 second_none None p e = e
 second_none (Some x) p e = cc
 
-not_stands : (b : Bool) (r : WorldRefusal) → admissible.stands b r ≡ None → b ≡ false
+pub not_stands : (b : Bool) (r : WorldRefusal) → admissible.stands b r ≡ None → b ≡ false
 unfolding admissible.stands
 not_stands true r e = cc
 not_stands false r e = refl
@@ -124,36 +144,42 @@ not_stands false r e = refl
 runs_by : (w : World) (c : ℕ) (site : ClientSite) → site_of w (client c) ≡ Some site → site.node.running ≡ is_running w (nodes.Client (client c))
 runs_by w c site e = sym (ap (λ o. site_runs o) e)
 
-not_false : (b : Bool) → not b ≡ false → b ≡ true
+pub not_false : (b : Bool) → not b ≡ false → b ≡ true
 not_false true e = refl
 not_false false e = cc
+
+-- an effect on a disk
+effect_left : (w : World) (n : ℕ) → Left w (ev.effects w n).world
+unfolding ev.effects ev.marks
+effect_left w n = left_with w _ refl refl refl refl refl refl refl
 
 pub law : Client_events_keep
 unfolding happens ev.ticks ev.delivers ev.delivers_to ev.crashes ev.starts admissible.refusal
 law k s w node ended G e sc b modes kind h =
     let p = step_happens w e sc h in
     let c : Both k s (counted w) node ended G = same k s node ended G w (counted w) (counted_same k s node ended G w) b in
-    subst (λ (x : Scene). Both_stand k s x.world node) (sym p.1) (go kind p.0 c)
+    subst (λ (x : Scene). Both_after k s w x.world node G) (sym p.1)
+    (after k s node ended G w (counted w) _ (left_all w (counted w) refl refl refl refl refl refl) (go kind p.0 c))
   where
-    go : Client_event w e → admissible.refusal w e ≡ None → Both k s (counted w) node ended G → Both_stand k s (happens (counted w) e).world node
-    go (By_tick c is) f b = subst (λ e. Both_stand k s (happens (counted w) e).world node) (sym is) (at_client k s node ended G (counted w) c inputs.Tick b (record {}) (record {}))
-    go (By_ask c ask is) f b = subst (λ e. Both_stand k s (happens (counted w) e).world node) (sym is) (asked k s node ended G (counted w) c ask b)
+    go : Client_event w e → admissible.refusal w e ≡ None → Both k s (counted w) node ended G → Both_after k s (counted w) (happens (counted w) e).world node G
+    go (By_tick c is) f b = subst (λ e. Both_after k s (counted w) (happens (counted w) e).world node G) (sym is) (at_client k s node ended G (counted w) c inputs.Tick b (record {}) (record {}))
+    go (By_ask c ask is) f b = subst (λ e. Both_after k s (counted w) (happens (counted w) e).world node G) (sym is) (asked k s node ended G (counted w) c ask b)
     go (By_message c n m is found to) f b =
-        subst (λ e. Both_stand k s (happens (counted w) e).world node) (sym is)
-        (subst (λ o. Both_stand k s (ev.delivers (counted w) o).world node) (sym found)
-        (subst (λ t. Both_stand k s (ev.delivers_to (counted w) m.message t).world node) (sym to)
+        subst (λ e. Both_after k s (counted w) (happens (counted w) e).world node G) (sym is)
+        (subst (λ o. Both_after k s (counted w) (ev.delivers (counted w) o).world node G) (sym found)
+        (subst (λ t. Both_after k s (counted w) (ev.delivers_to (counted w) m.message t).world node G) (sym to)
         (let has = message_has w n m found in
         at_client k s node ended G (counted w) c (inputs.Control m.message) b (brings k s (counted w) node ended G c m b has (modes m has)) (modes m has))))
-    go (By_report n ok is) f b = subst (λ e. Both_stand k s (happens (counted w) e).world node) (sym is) (reported k s node ended G (counted w) n ok b)
+    go (By_report n ok is) f b = subst (λ e. Both_after k s (counted w) (happens (counted w) e).world node G) (sym is) (reported k s node ended G (counted w) n ok b)
     go (By_crash c is) f b =
         let q = subst (λ e. admissible.refusal w e ≡ None) is f in
-        subst (λ e. Both_stand k s (happens (counted w) e).world node) (sym is)
+        subst (λ e. Both_after k s (counted w) (happens (counted w) e).world node G) (sym is)
         (crash_of k s node ended G (counted w) c b (λ site e. runs_by w c site e ∙ not_false _ (not_stands _ _ (second_none _ _ q))))
     go (By_start c is) f b =
         let q = subst (λ e. admissible.refusal w e ≡ None) is f in
-        subst (λ e. Both_stand k s (happens (counted w) e).world node) (sym is)
+        subst (λ e. Both_after k s (counted w) (happens (counted w) e).world node G) (sym is)
         (start_of k s node ended G (counted w) c b (λ site e. runs_by w c site e ∙ not_stands _ _ (second_none _ _ q)))
-    go (By_loss n is) f b = subst (λ e. Both_stand k s (happens (counted w) e).world node) (sym is) (lost_of k s node ended G (counted w) n (message_of w n) refl b)
-    go (By_cut x y is) f b = subst (λ e. Both_stand k s (happens (counted w) e).world node) (sym is) (found k s node ended G _ (same k s node ended G (counted w) _ (link_cut k s (counted w) x y) b))
-    go (By_heal x y is) f b = subst (λ e. Both_stand k s (happens (counted w) e).world node) (sym is) (found k s node ended G _ (same k s node ended G (counted w) _ (link_healed k s (counted w) x y) b))
-    go (By_effect n is) f b = subst (λ e. Both_stand k s (happens (counted w) e).world node) (sym is) (found k s node ended G _ (same k s node ended G (counted w) _ (effect_of k s node ended G (counted w) n) b))
+    go (By_loss n is) f b = subst (λ e. Both_after k s (counted w) (happens (counted w) e).world node G) (sym is) (lost_of k s node ended G (counted w) n (message_of w n) refl b)
+    go (By_cut x y is) f b = subst (λ e. Both_after k s (counted w) (happens (counted w) e).world node G) (sym is) (found k s node ended G (counted w) _ (left_with (counted w) _ refl refl refl refl refl refl refl) (same k s node ended G (counted w) _ (link_cut k s (counted w) x y) b))
+    go (By_heal x y is) f b = subst (λ e. Both_after k s (counted w) (happens (counted w) e).world node G) (sym is) (found k s node ended G (counted w) _ (left_with (counted w) _ refl refl refl refl refl refl refl) (same k s node ended G (counted w) _ (link_healed k s (counted w) x y) b))
+    go (By_effect n is) f b = subst (λ e. Both_after k s (counted w) (happens (counted w) e).world node G) (sym is) (found k s node ended G (counted w) _ (effect_left (counted w) n) (same k s node ended G (counted w) _ (effect_of k s node ended G (counted w) n) b))

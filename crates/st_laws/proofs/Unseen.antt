@@ -104,6 +104,11 @@ module _ (k : Config) (s : ℕ) where
   message_lost w zero m e = cc
   message_lost w (suc n) m e = record { clients = refl; clocks = refl; ended = refl; config = refl; found = refl; messages = λ x h. inl (set_has w.net.messages n m x e h) }
 
+  -- each message was there before
+  pub lost_had : (w : World) (n : ℕ) (m : SentMessage) → numbered w.net.messages n ≡ Some m → (x : SentMessage) → Has x (with_lost n m w).net.messages → (y : SentMessage) × Has y w.net.messages × (y.message ≡ x.message)
+  lost_had w zero m e x h = cc
+  lost_had w (suc n) m e x h = set_has w.net.messages n m x e h
+
   pub link_cut : (w : World) (a b : NodeId) → Unseen s w (with_cut a b w)
   link_cut w a b = record { clients = refl; clocks = refl; ended = refl; config = refl; found = refl; messages = λ m h. inl (m, h, refl) }
 

@@ -12,7 +12,7 @@ use Rattle.st_rules.specs.World.{World, message_of, receiver_of}
 use Rattle.st_rules.specs.Events.{Scene, world_step}
 use Rattle.st_assoc.specs.Assoc.{Config}
 use Rattle.st_views.specs.Halves.{Ghost}
-use Rattle.st_laws.specs.Stands.{Both, Both_stand, Grants_have_modes}
+use Rattle.st_laws.specs.Stands.{Both, Both_after, Grants_have_modes}
 
 -- an event of a client, or one that no node takes part in
 pub data Client_event (w : World) (e : Event) : Type 0 where
@@ -31,4 +31,4 @@ pub data Client_event (w : World) (e : Event) : Type 0 where
 abbrev pub Client_events_keep : Type 0
 Client_events_keep =
     (k : Config) (s : ℕ) (w : World) (node : ServerNode) (ended : ℕ → ℕ → ℕ) (G : ℕ → Ghost) (e : Event) (sc : Scene) →
-    Both k s w node ended G → Grants_have_modes w → Client_event w e → world_step w e ≡ Ok sc → Both_stand k s sc.world node
+    Both k s w node ended G → Grants_have_modes w → Client_event w e → world_step w e ≡ Ok sc → Both_after k s w sc.world node G

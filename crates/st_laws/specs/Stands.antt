@@ -36,11 +36,24 @@ pub record Both (k : Config) (s : ℕ) (w : World) (node : ServerNode) (ended : 
   pub ends : (c : ℕ) → Ended_by c s (ended c) w.ended
   pub few : length w.clients ≤ 16
 
--- It stands, with some ends of lives and some ghosts.
-pub record Both_stand (k : Config) (s : ℕ) (w : World) (node : ServerNode) : Type 0 where
+-- What an event of a client leaves: the servers, the settings, the clocks and how far they drifted; there are as many clients and no fewer
+-- bytes; and each message was there before, or is a client's.
+pub record Left (w v : World) : Type 0 where
+  pub servers : v.servers ≡ w.servers
+  pub config : v.config ≡ w.config
+  pub clocks : v.clocks ≡ w.clocks
+  pub drift : v.drift ≡ w.drift
+  pub many : length v.clients ≡ length w.clients
+  pub bytes : w.net.bytes ≤ v.net.bytes
+  pub messages : (m : SentMessage) → Has m v.net.messages → ((x : SentMessage) × Has x w.net.messages × (x.message ≡ m.message)) ⊎ (m.message.header.from ≤ 16)
+
+-- All stands again after an event of a client, with other ends of lives and other ghosts; the drift is what it was.
+pub record Both_after (k : Config) (s : ℕ) (w v : World) (node : ServerNode) (G : ℕ → Ghost) : Type 0 where
   pub ends_of : ℕ → ℕ → ℕ
   pub ghosts : ℕ → Ghost
-  pub both : Both k s w node ends_of ghosts
+  pub both : Both k s v node ends_of ghosts
+  pub drift : (c : ℕ) → (ghosts c).drift ≡ (G c).drift
+  pub left : Left w v
 
 -- What the associations of a server do not see: the clients, the clocks and this server are as they were, and each message was there
 -- before, or is neither this server's nor a client's.

@@ -30,11 +30,11 @@ unfolding start begin_epoch
 started_rows_fit n now = record { rows = λ c i r e. cc; waits = λ w h. elim h [ ]; fits = λ c d i r q ne e f. cc }
 
 -- what a server's crash and start leave of the world
-crash_is : (w : World) (s : ℕ) (node : ServerNode) → node_of w (server s) ≡ Some node → happens (counted w) (events.Crash (nodes.Server (server s))) ≡ quiet (with_node (server s) (crash_node node) (counted w))
+pub crash_is : (w : World) (s : ℕ) (node : ServerNode) → node_of w (server s) ≡ Some node → happens (counted w) (events.Crash (nodes.Server (server s))) ≡ quiet (with_node (server s) (crash_node node) (counted w))
 unfolding happens crashes crashes_server
 crash_is w s node e = ap (λ o. quiet (crashes_server (counted w) (server s) o)) e
 
-start_is : (w : World) (s : ℕ) (node : ServerNode) → node_of w (server s) ≡ Some node → happens (counted w) (events.Start (nodes.Server (server s))) ≡ quiet (with_node (server s) (start_node node (clock_of w (nodes.Server (server s)))) (counted w))
+pub start_is : (w : World) (s : ℕ) (node : ServerNode) → node_of w (server s) ≡ Some node → happens (counted w) (events.Start (nodes.Server (server s))) ≡ quiet (with_node (server s) (start_node node (clock_of w (nodes.Server (server s)))) (counted w))
 unfolding happens starts starts_server
 start_is w s node e = ap (λ o. quiet (starts_server (counted w) (server s) o)) e
 

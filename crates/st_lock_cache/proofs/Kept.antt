@@ -17,7 +17,8 @@ use Rattle.st_lemmas.proofs.Tables.{all_pass, each_passes, found_at, has_append,
 use Rattle.st_lemmas.proofs.Lookups.{find_without, found_ino, if_ap, if_false}
 use Rattle.st_lemmas.proofs.Puts.{find_put_at, has_put}
 use Rattle.st_lock_cache.specs.Calls.{IsCached, tables}
-use Rattle.st_lock_cache.proofs.Once.{once_put, once_filter, once_with, once_found}
+use Rattle.st_lemmas.proofs.Once.{once_filter}
+use Rattle.st_lock_cache.proofs.Once.{once_put, once_with, once_found}
 
 -- a greatest grant's file
 abbrev ino_of_seen : SeenGrant → ℕ

@@ -6,3 +6,4 @@ pub mod Installing
 pub mod Ways
 pub mod Files
 pub mod Overdue
+pub mod Sound

@@ -1,11 +1,13 @@
 -- What the calls of a lock table answer.
-use Rattle.std.specs.Prelude.{◌≡◌, ◌<◌, ◌^◌, ◌&&◌, ◌==◌, ◌++◌, ◌∷◌, [], ℕ, Bool, not, is_some, find, filter, map, length, nat_le, List}
+use Rattle.std.specs.Prelude.{◌≡◌, ◌<◌, ◌+◌, ◌^◌, ◌&&◌, ◌==◌, ◌++◌, ◌∷◌, [], ℕ, Bool, true, false, not, is_some, find, filter, map, length, nat_le, List}
+use Rattle.std.specs.List.{list_all}
 use Rattle.std.specs.Prelude.{Option, None, Some, Result, Ok, Err}
 use Rattle.st_base.specs.declared.ids.ClientId.{ClientId}
 use Rattle.st_base.specs.declared.ids.Life.{Life}
 use Rattle.st_base.specs.declared.ids.Epoch.{Epoch}
 use Rattle.st_base.specs.declared.ids.GrantNo.{GrantNo}
 use Rattle.st_base.specs.declared.mode.Mode.{Mode}
+use Rattle.st_base.specs.declared.mode.Mode.TheVariants as modes
 use Rattle.st_rules.specs.declared.locks.LockRow.{LockRow}
 use Rattle.st_rules.specs.declared.locks.Waiter.{Waiter}
 use Rattle.st_rules.specs.declared.locks.Verdict.{Verdict}
@@ -16,14 +18,37 @@ use Rattle.st_rules.specs.declared.locks.InstallRefusal.TheVariants as installin
 use Rattle.st_locks.specs.declared.refusal.LockRefusal.{LockRefusal}
 use Rattle.st_locks.specs.declared.refusal.LockRefusal.TheVariants.{TooManyLocks, Conflict, Memory}
 use Rattle.st_rules.specs.Keys.{client, rising}
-use Rattle.st_rules.specs.Locks.{Locks, Acquired, Granting, Demanding, client_of_row, row_of, is_row_by, is_row_of, is_wait_by, is_wait_on}
+use Rattle.st_rules.specs.ServerInvariants.{is_compatible}
+use Rattle.st_rules.specs.Locks.{Locks, Acquired, Granting, Demanding, client_of_row, first_after, is_earlier_grant, row_of, is_row_by, is_row_of, is_wait_by, is_wait_on}
 use Rattle.st_rules.specs.Locks.{grant_file, demand_row, demand_clients, demand_for}
 use Rattle.st_locks.specs.declared.passes.Pass.{Pass}
 
--- what is always so of the counters of a lock table
-pub record IsSound (epoch : Epoch) (grants : ℕ) : Type 0 where
+-- a mode of a lock: shared or exclusive
+abbrev pub is_lock : Mode → Bool
+is_lock modes.None = false
+is_lock mode = true
+
+-- the row is of a lock
+abbrev pub is_locked : LockRow → Bool
+is_locked r = is_lock r.mode
+
+-- the wait is for a lock
+abbrev pub is_wanted : Waiter → Bool
+is_wanted w = is_lock w.mode
+
+-- the row's grant number is one that this epoch or an earlier one gave
+abbrev pub is_given : Epoch → ℕ → LockRow → Bool
+is_given epoch grants r = nat_le r.g.0 (first_after epoch + grants)
+
+-- what is always so of a lock table: of its counters; no row conflicts with another client's; no row has a grant number that is
+-- still to be given; each row is of a lock, and each wait is for one
+pub record IsSound (epoch : Epoch) (grants : ℕ) (rows : List LockRow) (waits : List Waiter) : Type 0 where
   pub epochs : epoch.0 < 2 ^ 32
   pub counted : grants < 2 ^ 32
+  pub compatible : list_all (is_compatible rows) rows ≡ true
+  pub given : list_all (is_given epoch grants) rows ≡ true
+  pub locked : list_all is_locked rows ≡ true
+  pub wanted : list_all is_wanted waits ≡ true
 
 -- a wait of the client for a file of which it has no row
 abbrev pub waits_alone : List LockRow → ClientId → Waiter → Bool
@@ -96,3 +121,11 @@ rows_demanded pass ino to cs d = demand_clients pass.config pass.now pass.tick i
 -- the rows in the way of a file's first waiter are demanded
 abbrev pub file_demanded : Pass → List ClientId → ℕ → Demanding → Demanding
 file_demanded pass suspects ino d = demand_for pass.config pass.now pass.tick suspects (find (is_wait_on ino) d.locks.waiters) d
+
+-- a row that is to be installed is of a lock
+abbrev pub is_lock_row : ℕ × GrantNo × Mode → Bool
+is_lock_row r = is_lock r.2
+
+-- an earlier epoch gave the grant number of a row that is to be installed
+abbrev pub is_old_row : Epoch → ℕ × GrantNo × Mode → Bool
+is_old_row epoch r = is_earlier_grant epoch r.1

@@ -1,11 +1,11 @@
 // Installing the locks that a client holds.
-ghost use Rattle.std.specs.Prelude.{◌≡◌, ◌≤◌, ◌<◌, ◌+◌, ◌^◌, ◌++◌, ◌∷◌, ◌&&◌, [], IfOk, IfSome, OnOk, OnErr, Some, find, filter, map, not, length, slice_get, None, false, nat_lt, nat_le, ◌==◌, if◌then◌else◌};
-ghost use Rattle.std.specs.List.{IsDistinct, list_any};
+ghost use Rattle.std.specs.Prelude.{◌≡◌, ◌≤◌, ◌<◌, ◌+◌, ◌^◌, ◌++◌, ◌∷◌, ◌&&◌, [], IfOk, IfSome, OnOk, OnErr, Some, find, filter, map, not, length, slice_get, None, false, true, nat_lt, nat_le, ◌==◌, if◌then◌else◌};
+ghost use Rattle.std.specs.List.{IsDistinct, list_all, list_any};
 ghost use Rattle.std.specs.Option.{option_copied, option_map, option_to_list};
 ghost use Rattle.st_rules.specs.Keys as keys;
 ghost use Rattle.st_rules.specs.Locks as locks;
 ghost use Rattle.st_locks.specs.Since.{IsClient, KeepsSince, since_of_demand};
-ghost use Rattle.st_locks.specs.Calls.{Answers, Gives, Installs, demanding, granting, same_file, told, with_one};
+ghost use Rattle.st_locks.specs.Calls.{Answers, Gives, Installs, demanding, granting, is_lock_row, is_old_row, same_file, told, with_one};
 
 use crate::refusal::LockRefusal;
 use crate::table::LockTable;
@@ -62,6 +62,9 @@ impl LockTable {
     ) -> Result<(), AllocError>
         requires client { IsClient client }
         requires new { locks.row_of self.old client row.0 ≡ None }
+        requires lock { is_lock_row row ≡ true }
+        requires earlier { is_old_row self.old.epoch row ≡ true }
+        requires free { list_any (locks.stands_against client row.0 row.2) self.old.rows ≡ false }
         ensures { OnOk result (self.new ≡ with_one self.old (locks.installed client life row)) }
     {
         self.rows.put(LockRow {
@@ -85,6 +88,9 @@ impl LockTable {
         requires client { IsClient client }
         requires distinct { IsDistinct same_file rows.now }
         requires none { locks.has_rows self.old client ≡ false }
+        requires modes { list_all is_lock_row rows.now ≡ true }
+        requires earlier { list_all (is_old_row self.old.epoch) rows.now ≡ true }
+        requires free { locks.first_conflict self.old client rows.now ≡ None }
         ensures { OnOk result (self.new ≡ locks.with_rows self.old client life rows.now) }
     {
         for row in rows {
@@ -104,6 +110,8 @@ impl LockTable {
         requires client { IsClient client }
         requires distinct { IsDistinct same_file rows.now }
         requires none { locks.has_rows self.old client ≡ false }
+        requires modes { list_all is_lock_row rows.now ≡ true }
+        requires earlier { list_all (is_old_row self.old.epoch) rows.now ≡ true }
         ensures { Installs self.old self.new result (locks.install self.old client life rows.now) }
     {
         match self.first_conflict(client, rows)? {

@@ -1,11 +1,11 @@
 // The passes of a server's step: grants to those who wait, demands, and demands that went unanswered.
-ghost use Rattle.std.specs.Prelude.{◌≡◌, ◌≤◌, ◌<◌, ◌+◌, ◌^◌, ◌++◌, ◌∷◌, ◌&&◌, [], IfOk, IfSome, OnOk, OnErr, Some, find, filter, map, not, length, slice_get, None, false, nat_lt, nat_le, ◌==◌, if◌then◌else◌};
+ghost use Rattle.std.specs.Prelude.{◌≡◌, ◌≤◌, ◌<◌, ◌+◌, ◌^◌, ◌++◌, ◌∷◌, ◌&&◌, [], IfOk, IfSome, OnOk, OnErr, Some, find, filter, map, not, length, slice_get, None, false, true, nat_lt, nat_le, ◌==◌, if◌then◌else◌};
 ghost use Rattle.std.specs.List.{IsDistinct, list_any};
 ghost use Rattle.std.specs.Option.{option_copied, option_map, option_to_list};
 ghost use Rattle.st_rules.specs.Keys as keys;
 ghost use Rattle.st_rules.specs.Locks as locks;
 ghost use Rattle.st_locks.specs.Since.{IsClient, KeepsSince, since_of_demand};
-ghost use Rattle.st_locks.specs.Calls.{demanding, file_demanded, file_granted, granting, row_demanded, rows_demanded};
+ghost use Rattle.st_locks.specs.Calls.{demanding, file_demanded, file_granted, granting, is_lock, row_demanded, rows_demanded};
 
 use crate::since::passed;
 use crate::table::{LockTable, push_if};
@@ -127,6 +127,8 @@ impl LockTable {
     fn next_waiter(&self, ino: u32) -> Option<Waiter>
         ensures next { result ≡ locks.next_waiter self.now ino }
         ensures client { IfSome result (λ w. IsClient w.client) }
+        ensures lock { IfSome result (λ w. is_lock w.mode ≡ true) }
+        ensures free { IfSome result (λ w. list_any (locks.stands_against w.client w.ino w.mode) self.now.rows ≡ false) }
     {
         let _waits = self.waits.len();
         let w = self.waits.first_on(ino)?;
@@ -141,6 +143,8 @@ impl LockTable {
     fn grant_waiter(&mut self, granted: &mut Vec<Sent>, w: Waiter) -> Result<(), AllocError>
         requires client { IsClient w.client }
         requires room { self.old.grants + 1 < 2 ^ 32 }
+        requires lock { is_lock w.mode ≡ true }
+        requires free { list_any (locks.stands_against w.client w.ino w.mode) self.old.rows ≡ false }
         ensures { OnOk result (granting self.new granted.new.items ≡ locks.grant_waiter (granting self.old granted.old.items) w) }
     {
         let g = self.next_grant();

@@ -198,7 +198,8 @@ impl Rows {
     pub fn demand(&mut self, old: LockRow, row: LockRow) -> Result<(), AllocError>
         requires found { find (locks.is_row_of row.client row.ino) self.old ≡ Some old }
         requires since { KeepsSince (since_of_demand old.demand) (since_of_demand row.demand) }
-        ensures { OnOk result (Changes lock_key row self.old self.new) }
+        ensures ok { OnOk result (Changes lock_key row self.old self.new) }
+        ensures err { OnErr result (self.new ≡ self.old) }
     {
         put_in(
             &mut self.since,

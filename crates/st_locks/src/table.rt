@@ -1,14 +1,15 @@
 // The lock table: look-ups, and what acquires a lock.
-ghost use Rattle.std.specs.Prelude.{◌≡◌, ◌≤◌, ◌<◌, ◌+◌, ◌^◌, ◌++◌, ◌∷◌, ◌&&◌, ◌||◌, [], ℕ, IfOk, IfSome, OnOk, OnErr, Some, find, filter, map, not, length, slice_get, None, false, nat_lt, nat_le, ◌==◌, if◌then◌else◌};
+ghost use Rattle.std.specs.Prelude.{◌≡◌, ◌≤◌, ◌<◌, ◌+◌, ◌^◌, ◌++◌, ◌∷◌, ◌&&◌, ◌||◌, [], ℕ, IfOk, IfSome, OnOk, OnErr, Some, find, filter, map, not, length, slice_get, None, false, true, nat_lt, nat_le, ◌==◌, if◌then◌else◌};
 ghost use Rattle.std.specs.List.{IsDistinct, list_any};
 ghost use Rattle.std.specs.Option.{option_copied, option_map, option_to_list};
 ghost use Rattle.st_rules.specs.Keys as keys;
 ghost use Rattle.st_rules.specs.Locks as locks;
+ghost use Rattle.st_rules.specs.ServerInvariants.{IsLockTable};
 ghost use Rattle.std.specs.BTreeSet.{contains};
 ghost use Rattle.st_base.specs.declared.ids.ClientId.{ClientId};
 ghost use Rattle.st_base.specs.declared.ids.Stamp.{Stamp};
 ghost use Rattle.st_locks.specs.Since.{IsClient, is_since, since_of, wait_order};
-ghost use Rattle.st_locks.specs.Calls.{Answers, Gives, Installs, demanding, granting, is_row_from, same_file, told, with_one};
+ghost use Rattle.st_locks.specs.Calls.{Answers, Gives, Installs, demanding, granting, is_lock, is_row_from, same_file, told, with_one};
 
 use crate::refusal::LockRefusal;
 use crate::rows::{Rows, key};
@@ -41,7 +42,7 @@ impl Model for LockTable {
 
     ghost view = { λ t. record { epoch = t.epoch; grants = t.grants; rows = t.rows; waiters = t.waits } };
 
-    ghost invariant = { λ t. IsSound t.epoch t.grants };
+    ghost invariant = { λ t. IsSound t.epoch t.grants t.rows t.waits };
 }
 
 /// The waits of other clients.
@@ -153,10 +154,14 @@ impl LockTable {
         }
     }
 
-    /// The epoch of the table.
+    /// The epoch of the table. A client has one row and one wait a file, the rows of a file are compatible, and no row has a
+    /// grant number that is still to be given.
     pub fn epoch(&self) -> Epoch
-        ensures { result ≡ self.now.epoch }
+        ensures epoch { result ≡ self.now.epoch }
+        ensures valid { IsLockTable self.now }
     {
+        let _rows = self.rows.len();
+        let _waits = self.waits.len();
         self.epoch
     }
 
@@ -216,6 +221,8 @@ impl LockTable {
     ) -> Result<(), AllocError>
         requires client { IsClient client }
         requires room { self.old.grants + 1 < 2 ^ 32 }
+        requires lock { is_lock mode ≡ true }
+        requires free { list_any (locks.stands_against client ino mode) self.old.rows ≡ false }
         ensures ok { OnOk result (self.new ≡ locks.grant self.old client life ino mode) }
         ensures err { OnErr result (self.new ≡ self.old) }
     {
@@ -243,6 +250,7 @@ impl LockTable {
         mode: Mode,
     ) -> Result<(), AllocError>
         requires client { IsClient client }
+        requires lock { is_lock mode ≡ true }
         ensures ok { OnOk result (self.new ≡ locks.queue self.old client life ino mode) }
         ensures err { OnErr result (self.new ≡ self.old) }
     {
@@ -279,6 +287,8 @@ impl LockTable {
     ) -> Result<Verdict, LockRefusal>
         requires client { IsClient client }
         requires room { self.old.grants + 1 < 2 ^ 32 }
+        requires lock { is_lock mode ≡ true }
+        requires free { list_any (locks.stands_against client ino mode) self.old.rows ≡ false }
         ensures { Gives self.old self.new result (locks.acquire_granted self.old client life ino mode) }
     {
         let g = self.next_grant();
@@ -315,7 +325,8 @@ impl LockTable {
         ino: u32,
         mode: Mode,
     ) -> Result<Verdict, LockRefusal>
-        requires { IsClient client }
+        requires client { IsClient client }
+        requires lock { is_lock mode ≡ true }
         ensures { Gives self.old self.new result (locks.acquire_queued self.old client life ino mode) }
     {
         let others = self.in_the_way(client, ino, mode)?;
@@ -342,6 +353,7 @@ impl LockTable {
     ) -> Result<Verdict, LockRefusal>
         requires client { IsClient client }
         requires room { self.old.grants + 1 < 2 ^ 32 }
+        requires lock { is_lock mode ≡ true }
         ensures { Gives self.old self.new result (locks.acquire_more self.old client life ino mode grants) }
     {
         if self.may_grant(client, ino, mode, grants) {
@@ -394,6 +406,7 @@ impl LockTable {
     ) -> Result<Verdict, LockRefusal>
         requires client { IsClient client }
         requires room { self.old.grants + 1 < 2 ^ 32 }
+        requires lock { is_lock mode ≡ true }
         ensures { Answers self.old self.new result (locks.acquire_new self.old client life ino mode grants) }
     {
         if self.has_place(client, ino)? {
@@ -415,6 +428,7 @@ impl LockTable {
     ) -> Result<Verdict, LockRefusal>
         requires client { IsClient client }
         requires room { self.old.grants + 1 < 2 ^ 32 }
+        requires lock { is_lock mode ≡ true }
         ensures { Gives self.old self.new result (locks.acquire_over self.old client life ino mode grants row) }
     {
         if row.mode.covers(mode) {
@@ -440,6 +454,7 @@ impl LockTable {
     ) -> Result<Verdict, LockRefusal>
         requires client { IsClient client }
         requires room { self.old.grants + 1 < 2 ^ 32 }
+        requires lock { is_lock mode ≡ true }
         ensures { Answers self.old self.new result (locks.acquire self.old client life ino mode grants) }
     {
         match self.row_at(client, ino) {

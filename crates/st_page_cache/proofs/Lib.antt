@@ -9,3 +9,4 @@ pub mod Places
 pub mod Dropping
 pub mod Changes
 pub mod Used
+pub mod KnownRows

@@ -5,6 +5,7 @@ use Rattle.std.specs.Map.{keys_of, values_of}
 use Rattle.lru.specs.LruCache.{LruCache}
 use Rattle.st_rules.specs.ClientPages.{with_newest}
 use Rattle.st_rules.specs.declared.client.CleanPage.{CleanPage}
+use Rattle.st_rules.specs.declared.client.KnownExtent.{KnownExtent}
 use Rattle.st_rules.specs.declared.pages.DirtyPage.{DirtyPage}
 use Rattle.st_page_cache.specs.declared.key.PageKey.{PageKey}
 
@@ -19,6 +20,10 @@ clean_key c = record { ino = c.ino; page = c.page.0 }
 -- the key of a dirty page
 abbrev pub dirty_key : DirtyPage → PageKey
 dirty_key d = record { ino = d.ino; page = d.page.0 }
+
+-- the key of a page of which something is known
+abbrev pub known_key : KnownExtent → PageKey
+known_key e = record { ino = e.ino; page = e.page.0 }
 
 -- a clean page that is found becomes the newest one
 abbrev pub touched : Option CleanPage → List CleanPage → List CleanPage
@@ -39,4 +44,9 @@ pub record IsCache (c : LruCache PageKey CleanPage) : Type 0 where
 -- a table of dirty pages
 pub record IsTable (es : List (PageKey × DirtyPage)) : Type 0 where
   pub keyed : IsKeyed dirty_key es
+  pub distinct : IsDistinct same_key (keys_of es)
+
+-- a table of what is known of pages
+pub record IsKnown (es : List (PageKey × KnownExtent)) : Type 0 where
+  pub keyed : IsKeyed known_key es
   pub distinct : IsDistinct same_key (keys_of es)

@@ -119,6 +119,13 @@ impl PageCache {
         }
     }
 
+    /// The version that the next change of a page gets.
+    pub fn next_version(&self) -> u64
+        ensures { result ≡ self.now.pages.next_version }
+    {
+        self.next_version
+    }
+
     /// Whether a page of the file is dirty.
     pub fn has_dirty(&self, ino: u32) -> bool
         ensures { result ≡ pages.has_dirty self.now.pages ino }

@@ -1,17 +1,19 @@
 //! The pages that a client has of one server: at most 64 dirty ones and at most 256 clean ones, the most recently used
-//! first. `docs/PROTOCOL.md`, "Leases, locks, pages and commands", has the rules.
+//! first; and what it knows of the places of pages. `docs/PROTOCOL.md`, "Leases, locks, pages and commands", has the rules.
 #![tactic(auto)]
 
 mod cache;
 mod clean_pages;
 mod dirty_pages;
 mod key;
+mod known;
 mod placing;
 mod reading;
 mod refusal;
 mod shown;
 
 pub use cache::PageCache;
+pub use known::KnownExtents;
 pub use refusal::CacheRefusal;
 pub use shown::{Dirty, Page};
 pub use st_rules::{CleanPage, DirtyPage};

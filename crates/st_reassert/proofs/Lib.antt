@@ -1,1 +1,2 @@
 pub mod OwnRows
+pub mod NewGrants

@@ -2,14 +2,14 @@
 use Rattle.std.proofs.Common.{◌≡◌, ℕ, ◌⊎◌, Bool, true, false, ◌&&◌, ◌||◌, ◌==◌, not, cond, List, [], ◌∷◌, Option, Some, None, refl, sym, ap, ◌∙◌, inl, inr}
 use Rattle.std.specs.Prelude.{filter, filter_map, find, map, nat_le, nat_lt, slice_get, option_map}
 use Rattle.std.specs.List.{cons_option, list_any}
-use Rattle.std.proofs.lemmas.Bool.{eqb-true, eq-eqb, leb-false, lt-ltb, not-true}
+use Rattle.std.proofs.lemmas.Bool.{eq-eqb, leb-false, lt-ltb, not-true}
 use Rattle.st_base.specs.declared.ids.ClientId.{ClientId}
 use Rattle.st_base.specs.declared.ids.Life.{Life}
 use Rattle.st_base.specs.declared.ids.GrantNo.{GrantNo}
 use Rattle.st_base.specs.declared.mode.Mode.{Mode}
 use Rattle.st_rules.specs.declared.locks.LockRow.{LockRow}
 use Rattle.st_rules.specs.Keys.{same_client, with_key, placed, past, rising, least}
-use Rattle.st_rules.specs.Locks.{Locks, has_rows, ino_of_row, is_row_by, is_row_of, row_at, row_in_list, row_of, rows_of}
+use Rattle.st_rules.specs.Locks.{Locks, has_rows, ino_of_row, is_row_by, is_row_of, row_at, row_in_list, rows_of}
 use Rattle.st_rules.specs.Grace.{is_row_below, own_older}
 use Rattle.st_reassert.specs.Accepting.{is_row_from, is_older}
 

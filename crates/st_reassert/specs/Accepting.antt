@@ -1,5 +1,5 @@
 -- What a reassertion needs, and what accepting it leaves.
-use Rattle.std.specs.Prelude.{◌≡◌, Bool, true, not, Result, Ok, Err}
+use Rattle.std.specs.Prelude.{◌≡◌, Bool, not, Result, Ok, Err}
 use Rattle.std.specs.List.{list_any}
 use Rattle.st_base.specs.declared.ids.ClientId.{ClientId}
 use Rattle.st_base.specs.declared.ids.Life.{Life}

@@ -1,8 +1,8 @@
 // The refusals of a reassertion in grace, and what accepting it does.
 ghost use Rattle.std.specs.Prelude.{◌≡◌, IfOk, Some, true, false, find, not};
-ghost use Rattle.std.specs.List.{IsDistinct};
+ghost use Rattle.std.specs.List.{IsDistinct, list_all};
 ghost use Rattle.st_base.specs.declared.ids.Life.{Life};
-ghost use Rattle.st_locks.specs.Calls.{same_file};
+ghost use Rattle.st_locks.specs.Calls.{is_lock_row, is_old_row, same_file};
 ghost use Rattle.st_locks.specs.Since.{IsClient};
 ghost use Rattle.st_rules.specs.Grace as grace;
 ghost use Rattle.st_rules.specs.Locks.{has_rows, install, is_earlier_grant};
@@ -49,6 +49,8 @@ fn install(
 ) -> Result<(), ReassertRefusal>
     requires client { IsClient client }
     requires distinct { IsDistinct same_file rows.now }
+    requires modes { list_all is_lock_row rows.now ≡ true }
+    requires earlier { list_all (is_old_row locks.old.epoch) rows.now ≡ true }
     requires none { has_rows locks.old client ≡ false }
     ensures { Accepts (record { locks = locks.old; sessions = sessions.old }) (record { locks = locks.new; sessions = sessions.new }) result
         (grace.accept_installed sessions.old client life (install locks.old client life rows.now)) }
@@ -75,6 +77,8 @@ fn accept_own(
 ) -> Result<(), ReassertRefusal>
     requires client { IsClient client }
     requires distinct { IsDistinct same_file rows.now }
+    requires modes { list_all is_lock_row rows.now ≡ true }
+    requires earlier { list_all (is_old_row locks.old.epoch) rows.now ≡ true }
     requires older { is_older locks.old client life ≡ true }
     ensures { Accepts (record { locks = locks.old; sessions = sessions.old }) (record { locks = locks.new; sessions = sessions.new }) result
         (grace.accept_own locks.old sessions.old client life rows.now (grace.own_older locks.old client life)) }
@@ -98,6 +102,7 @@ pub fn accept_rows(
 ) -> Result<(), ReassertRefusal>
     requires client { IsClient client }
     requires distinct { IsDistinct same_file rows.now }
+    requires modes { list_all is_lock_row rows.now ≡ true }
     requires older { is_older locks.old client life ≡ true }
     ensures { Accepts (record { locks = locks.old; sessions = sessions.old }) (record { locks = locks.new; sessions = sessions.new }) result
         (grace.accept_rows locks.old sessions.old client life rows.now) }

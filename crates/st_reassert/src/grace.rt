@@ -1,7 +1,7 @@
 ghost use Rattle.std.specs.Prelude.{◌≡◌, IsOk, true};
-ghost use Rattle.std.specs.List.{IsDistinct};
+ghost use Rattle.std.specs.List.{IsDistinct, list_all};
 ghost use Rattle.st_base.specs.Config as settings;
-ghost use Rattle.st_locks.specs.Calls.{same_file};
+ghost use Rattle.st_locks.specs.Calls.{is_lock_row, same_file};
 ghost use Rattle.st_locks.specs.Since.{IsClient};
 ghost use Rattle.st_rules.specs.Grace as grace;
 ghost use Rattle.st_reassert.specs.Accepting.{Accepts, is_older};
@@ -97,6 +97,7 @@ impl Grace {
     ) -> Result<(), ReassertRefusal>
         requires client { IsClient client }
         requires distinct { IsDistinct same_file rows.now }
+        requires modes { list_all is_lock_row rows.now ≡ true }
         requires older { is_older locks.old client life ≡ true }
         ensures { Accepts (record { locks = locks.old; sessions = sessions.old }) (record { locks = locks.new; sessions = sessions.new }) result
             (grace.accept self.now now client life rows.now locks.old sessions.old) }

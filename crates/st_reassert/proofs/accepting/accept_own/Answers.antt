@@ -1,4 +1,4 @@
-use Rattle.std.proofs.Common.{◌≡◌, ℕ, Option, None, Some, sym, ◌∙◌, ap, subst}
+use Rattle.std.proofs.Common.{ℕ, Option, sym, ◌∙◌, subst}
 use Rattle.st_rules.specs.Grace.{accept_own}
 use Rattle.st_reassert.specs.Accepting.{Accepts}
 use Rattle.st_reassert.proofs.OwnRows.{no_own}

@@ -7,13 +7,13 @@ pub invariant_of-self : goal.invariant_of-self
 unfolding release_from
 invariant_of-self c = record {
   own = c.release.ensures.own ∙ c.self.invariant.own;
-  sound = rw c.release.ensures.rows (released_sound _ c.args.file c.args.page c.self.invariant.sound);
+  sound = rw (c.release.ensures.rows, c.release.ensures.births) (released_sound _ c.args.file c.args.page c.self.invariant.sound);
 }
 
 pub returns-clause-released : goal.returns-clause-released
 unfolding release_from
-returns-clause-released c = rw (← c.self.view_is, c.release.ensures.rows) refl
+returns-clause-released c = rw (← c.self.view_is, c.release.ensures.rows, c.release.ensures.births) refl
 
 pub returns-clause-owned : goal.returns-clause-owned
 unfolding release_from
-returns-clause-owned c = rw c.release.ensures.rows (released_sound _ c.args.file c.args.page c.self.invariant.sound).owned
+returns-clause-owned c = rw (c.release.ensures.rows, c.release.ensures.births) (released_sound _ c.args.file c.args.page c.self.invariant.sound).owned

@@ -3,4 +3,4 @@ use Rattle.st_extents.proofs.Laid.{free_counted}
 use Rattle.st_extents.proofs.mapping.Mapping.free.Goals as goal
 
 pub returns-clause-free : goal.returns-clause-free
-returns-clause-free c = rw (← c.self.view_is) (c.free.ensures.free ∙ free_counted c.self.inside.own.items c.self.inside.taken c.self.inside.pages.rows c.self.invariant)
+returns-clause-free c = rw (← c.self.view_is) (c.free.ensures.free ∙ free_counted c.self.inside.own.items c.self.inside.taken c.self.inside.runs.rows c.self.invariant)

@@ -14,7 +14,7 @@ invariant_of-self-2 c =
     (subst (λ l. find (is_row_of c.args.row.client c.args.row.ino) l ≡ Some c.args.old) (sym c.self.view_is) c.requires.found) c.requires.since
     (λ s i d. c.in_ok-put_in.ensures.ok s i d ∙ ap (λ o. contains wait_order c.self.inside.since (s, i, d) || (is_since s o && is_key c.args.row.client c.args.row.ino d i)) c.since_of_demand.ensures))
 
-pub returns : goal.returns
-returns c = λ f v found same.
+pub returns-clause-ok : goal.returns-clause-ok
+returns-clause-ok c = λ f v found same.
     subst (λ l. c.change.new.self ≡ map (λ r. if is_row_of c.args.row.client c.args.row.ino r then f r else r) l) c.self.view_is
     (c.change.ensures.changed f v (subst (λ l. find (is_row_of c.args.row.client c.args.row.ino) l ≡ Some v) (sym c.self.view_is) found) same)

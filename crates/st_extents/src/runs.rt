@@ -1,0 +1,209 @@
+ghost use Rattle.std.specs.Prelude.{◌≡◌, ◌<◌, ◌+◌, ◌-◌, ◌^◌, ◌++◌, ◌∷◌, [], not, find, filter, is_some, length, false, true, OnOk, OnErr, IfSome, IfNone, Some};
+ghost use Rattle.std.specs.Option.{IsSomeAnd};
+ghost use Rattle.std.specs.List.{list_any};
+ghost use Rattle.st_rules.specs.Extents as extents;
+ghost use Rattle.st_rules.specs.declared.extents.Extent.{Extent};
+ghost use Rattle.st_extents.specs.Runs as runs;
+
+use crate::run_map::{Run, RunKey, RunMap, last_up_to, put, shorten};
+use st_base::{BlockAt, DiskId, FileId, PageNo, ServerId};
+use st_rules::Extent;
+use std::alloc::{AllocError, Global};
+use std::collections::BTreeMap;
+use std::marker::Model;
+
+/// The extent of the page this many places after a run's first one.
+fn extent_in(key: RunKey, run: Run, place: u32) -> Extent
+    requires page { key.page + place < 2 ^ 32 }
+    requires block { run.at.block + place < 2 ^ 32 }
+    requires birth { run.birth + place < 2 ^ 64 }
+    ensures { result ≡ runs.extent_in place (key, run) }
+{
+    Extent {
+        file: FileId {
+            server: ServerId(key.server),
+            ino: key.ino,
+        },
+        page: PageNo(key.page + place),
+        at: BlockAt {
+            disk: run.at.disk,
+            block: run.at.block + place,
+        },
+        birth: run.birth + u64::from(place),
+    }
+}
+
+/// The run with one page more, where the page goes on where it ends, else a run of that page.
+fn grown_by(key: RunKey, run: Run, new_key: RunKey, new: Run) -> (RunKey, Run)
+    requires file { runs.file_of key ≡ runs.file_of new_key }
+    requires page { key.page + run.length < 2 ^ 32 - 1 }
+    requires birth { run.birth + run.length < 2 ^ 64 }
+    ensures { result ≡ runs.grown_by (key, run) (new_key, new) }
+{
+    if key.page + run.length == new_key.page
+        && run.at.disk.0 == new.at.disk.0
+        && run.at.block <= new.at.block
+        && new.at.block - run.at.block == run.length
+        && run.birth + u64::from(run.length) == new.birth
+    {
+        (
+            key,
+            Run {
+                length: run.length + 1,
+                at: run.at,
+                birth: run.birth,
+            },
+        )
+    } else {
+        (new_key, new)
+    }
+}
+
+/// The same, where there may be no run before the page.
+fn grown(before: Option<(RunKey, Run)>, new_key: RunKey, new: Run) -> (RunKey, Run)
+    requires file { IfSome before (λ e. runs.file_of e.0 ≡ runs.file_of new_key) }
+    requires page { IfSome before (λ e. e.0.page + e.1.length < 2 ^ 32 - 1) }
+    requires birth { IfSome before (λ e. e.1.birth + e.1.length < 2 ^ 64) }
+    ensures { result ≡ runs.grown before (new_key, new) }
+{
+    match before {
+        Some((key, run)) => grown_by(key, run, new_key, new),
+        None => (new_key, new),
+    }
+}
+
+/// The mapped pages as runs, and how many births were given. Contracts see the list of the pages in the order of their births,
+/// too.
+#[derive(Drop)]
+pub struct Runs {
+    map: RunMap,
+    births: u64,
+    count: usize,
+}
+
+impl Model for Runs {
+    ghost use Rattle.st_extents.specs.Runs.{IsRunTable, Told, rows_of};
+
+    ghost Value = { Told };
+
+    ghost view = { λ r. record { rows = rows_of r.births r.map.entries; births = r.births; runs = r.map.entries } };
+
+    ghost invariant = { λ r. IsRunTable r.births r.count r.map.entries };
+}
+
+impl Runs {
+    /// No page is mapped, and no birth was given.
+    pub fn new(alloc: Global) -> Runs
+        ensures rows { result.rows ≡ [] }
+        ensures births { result.births ≡ 0 }
+    {
+        Runs {
+            map: BTreeMap::new(alloc),
+            births: 0,
+            count: 0,
+        }
+    }
+
+    /// The extent of a page, if it is mapped.
+    pub fn get(&self, file: FileId, page: PageNo) -> Option<Extent>
+        ensures { result ≡ find (extents.is_extent_of file page) self.now.rows }
+    {
+        let Some((key, run)) = last_up_to(&self.map, file, page) else {
+            return None;
+        };
+        if page.0 - key.page < run.length {
+            Some(extent_in(key, run, page.0 - key.page))
+        } else {
+            None
+        }
+    }
+
+    /// How many pages are mapped.
+    pub fn len(&self) -> usize
+        ensures { result ≡ length self.now.rows }
+    {
+        self.count
+    }
+
+    /// How many births were given.
+    pub fn births(&self) -> u64
+        ensures { result ≡ self.now.births }
+    {
+        self.births
+    }
+
+    /// The runs, by where they begin.
+    pub fn runs(&self) -> &RunMap
+        ensures { runs.AreRunsOf self.now.rows (runs.run_at result.now.entries) }
+    {
+        &self.map
+    }
+
+    /// Maps a page that is not mapped, under the next birth. An error changes nothing.
+    pub fn push(&mut self, file: FileId, page: PageNo, at: BlockAt) -> Result<(), AllocError>
+        requires births { self.old.births < 2 ^ 63 - 1 }
+        requires page { page.0 < 1048576 }
+        requires fresh { is_some (find (extents.is_extent_of file page) self.old.rows) ≡ false }
+        ensures rows { OnOk result (self.new.rows ≡ self.old.rows ++ runs.mapped_to file page at (self.old.births + 1) ∷ []) }
+        ensures births { OnOk result (self.new.births ≡ self.old.births + 1) }
+        ensures err { OnErr result (self.new ≡ self.old) }
+    {
+        let new_key = RunKey {
+            server: file.server.0,
+            ino: file.ino,
+            page: page.0,
+        };
+        let new = Run {
+            length: 1,
+            at,
+            birth: self.births + 1,
+        };
+        let before = last_up_to(&self.map, file, page);
+        let (key, run) = grown(before, new_key, new);
+        put(&mut self.map, key, run)?;
+        self.births += 1;
+        self.count += 1;
+        Ok(())
+    }
+
+    /// Unmaps the last page of the file, where it is `page` or a later one, and returns what it was mapped to. It takes no memory.
+    pub fn pop_from(&mut self, file: FileId, page: PageNo) -> Option<Extent>
+        ensures some { IfSome result (λ e. extents.is_at_or_behind file page e ≡ true) }
+        ensures found { IfSome result (λ e. find (extents.is_extent_of file e.page) self.old.rows ≡ Some e) }
+        ensures rows { IfSome result (λ e. self.new.rows ≡ filter (λ x. not (extents.is_extent_of file e.page x)) self.old.rows) }
+        ensures fewer { IfSome result (λ e. length self.new.rows < length self.old.rows) }
+        ensures none { IfNone result (list_any (extents.is_at_or_behind file page) self.old.rows ≡ false) }
+        ensures same { IfNone result (self.new.rows ≡ self.old.rows) }
+        ensures births { self.new.births ≡ self.old.births }
+    {
+        let Some((key, run)) = last_up_to(&self.map, file, PageNo(u32::MAX)) else {
+            return None;
+        };
+        let last = run.length - 1;
+        if key.page + last < page.0 {
+            return None;
+        }
+        shorten(&mut self.map, key, run);
+        self.count -= 1;
+        Some(extent_in(key, run, last))
+    }
+
+    /// Unmaps the page that was mapped last, takes its birth back, and returns the block. It takes no memory.
+    pub fn take_back(&mut self, file: FileId, page: PageNo) -> BlockAt
+        requires { IsSomeAnd (find (extents.is_extent_of file page) self.old.rows) (λ e. e.birth ≡ self.old.births) }
+        ensures last { (e : Extent) → find (extents.is_extent_of file page) self.old.rows ≡ Some e → runs.Unmaps self.old.rows self.new.rows result e }
+        ensures rows { self.new.rows ≡ filter (λ x. not (extents.is_extent_of file page x)) self.old.rows }
+        ensures births { self.new.births + 1 ≡ self.old.births }
+    {
+        let Some((key, run)) = last_up_to(&self.map, file, page) else {
+            unreachable!()
+        };
+        shorten(&mut self.map, key, run);
+        self.births -= 1;
+        self.count -= 1;
+        BlockAt {
+            disk: run.at.disk,
+            block: run.at.block + (run.length - 1),
+        }
+    }
+}

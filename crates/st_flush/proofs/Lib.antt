@@ -1,0 +1,3 @@
+pub mod Begun
+pub mod Picked
+pub mod Batch

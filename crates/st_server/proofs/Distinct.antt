@@ -1,0 +1,29 @@
+-- The rows of a reassertion are of different files.
+use Rattle.std.proofs.Common.{◌≡◌, ℕ, ◌+◌, ◌<◌, ◌≤◌, true, false, ◌==◌, List, [], ◌∷◌, arith}
+use Rattle.std.specs.List.{AllByRecursion, IsDistinct}
+use Rattle.std.proofs.lemmas.Bool.{leb-true, and_parts, ne_eqb}
+use Rattle.st_base.specs.declared.ids.GrantNo.{GrantNo}
+use Rattle.st_base.specs.declared.mode.Mode.{Mode}
+use Rattle.st_messages.specs.Fits.{are_locks, are_rows, after_lock, is_lock_row}
+use Rattle.st_locks.specs.Calls.{same_file}
+
+low : (least : ℕ) (r : ℕ × GrantNo × Mode) → is_lock_row least r ≡ true → least ≤ r.0
+low least r e = leb-true least r.0 (and_parts _ _ (and_parts _ _ e).0).0
+
+above : (m least : ℕ) (rs : List (ℕ × GrantNo × Mode)) → m < least → are_rows is_lock_row after_lock least rs ≡ true → AllByRecursion (λ y. (m == y.0) ≡ false) rs
+above m least [] below e = tt
+above m least (r ∷ rs) below e =
+    let p = and_parts (is_lock_row least r) (are_rows is_lock_row after_lock (r.0 + 1) rs) e in
+    let l : least ≤ r.0 = low least r p.0 in
+    (ne_eqb m r.0 (λ (q : m ≡ r.0). omega (arith, q, l, below)), above m (r.0 + 1) rs (omega (arith, l, below)) p.1)
+
+apart : (least : ℕ) (rs : List (ℕ × GrantNo × Mode)) → are_rows is_lock_row after_lock least rs ≡ true → IsDistinct same_file rs
+unfolding IsDistinct
+apart least [] e = tt
+apart least (r ∷ rs) e =
+    let p = and_parts (is_lock_row least r) (are_rows is_lock_row after_lock (r.0 + 1) rs) e in
+    (above r.0 (r.0 + 1) rs (omega arith) p.1, apart (r.0 + 1) rs p.1)
+
+pub distinct : (rs : List (ℕ × GrantNo × Mode)) → are_locks rs ≡ true → IsDistinct same_file rs
+unfolding are_locks
+distinct rs e = apart 1 rs (and_parts _ _ e).1

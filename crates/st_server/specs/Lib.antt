@@ -1,0 +1,6 @@
+pub mod Parts
+pub mod Steps
+pub mod Told
+pub mod Room
+pub mod Sound
+pub mod Ready

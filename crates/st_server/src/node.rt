@@ -1,0 +1,138 @@
+ghost use Rattle.std.specs.Prelude.{◌≡◌, ◌≤◌, ◌<◌, ◌+◌, ◌-◌, ◌^◌, true, false, IsOk, IfOk, OnOk};
+ghost use Rattle.std.specs.List.{list_all};
+ghost use Rattle.st_base.specs.Config as settings;
+ghost use Rattle.st_extents.specs.Layout.{IsWithinLimits};
+ghost use Rattle.st_rules.specs.Server as server;
+ghost use Rattle.st_server.specs.Parts.{stable_of};
+ghost use Rattle.st_server.specs.Ready.{comes_fit};
+ghost use Rattle.st_server.specs.Room.{HasRoom};
+ghost use Rattle.st_server.specs.Sound.{is_sent};
+ghost use Rattle.st_server.specs.Steps.{Runs, Steps};
+
+use crate::machine::Machine;
+use crate::stable::ServerStable;
+use st_base::{Config, Epoch, ServerId, Stamp};
+use st_extents::Extents;
+use st_lease_server::Authority;
+use st_locks::LockTable;
+use st_messages::{Outputs, StepFault};
+use st_namespace::Names;
+use st_reassert::Grace;
+use st_rules::ServerInput;
+use st_sessions::Sessions;
+use std::alloc::{AllocError, Global};
+use std::marker::Model;
+
+/// One server of a world. Contracts see it as its machine's state, and whether it runs.
+#[derive(Drop)]
+pub struct ServerNode {
+    machine: Machine,
+    running: bool,
+}
+
+impl Model for ServerNode {
+    ghost use Rattle.std.specs.Prelude.{◌≡◌, []};
+    ghost use Rattle.st_rules.specs.Server as shared;
+    ghost use Rattle.st_server.specs.Sound.{IsSound};
+
+    ghost Value = { shared.ServerNode };
+
+    ghost view = { λ n. record { state = n.machine.state; running = n.running } };
+
+    ghost invariant = { λ n. (n.machine.out ≡ []) × IsSound n.machine.state };
+}
+
+impl ServerNode {
+    /// A server that was never started before: it runs, in epoch 1 and without grace. `id` is from 1 to `servers`, which is at
+    /// most 4.
+    pub fn fresh(
+        alloc: Global,
+        id: ServerId,
+        config: &Config,
+        servers: u16,
+        disks: u16,
+        blocks: u32,
+    ) -> Result<ServerNode, AllocError>
+        requires checked { IsOk (settings.check config.now) }
+        requires limits { IsWithinLimits id.0 servers disks blocks }
+        ensures { IfOk result (λ n. n ≡ server.fresh_node id config.now servers disks blocks) }
+    {
+        Ok(ServerNode {
+            machine: Machine::fresh(alloc, id, *config, servers, disks, blocks)?,
+            running: true,
+        })
+    }
+
+    /// Whether the node runs.
+    pub fn running(&self) -> bool
+        ensures { result ≡ self.now.running }
+    {
+        self.running
+    }
+
+    /// What a crash of the node leaves.
+    pub fn stable(&self) -> &ServerStable
+        ensures { stable_of result.now ≡ self.now.state.stable }
+    {
+        &self.machine.stable
+    }
+
+    /// The node crashes: only its stable part is left, and it does not run.
+    pub fn crash(&mut self)
+        ensures { self.new ≡ server.crash_node self.old }
+    {
+        self.machine.crash();
+        self.running = false;
+    }
+
+    /// A node that does not run is started: its epoch rises, and grace begins.
+    pub fn start(&mut self, now: Stamp) -> Result<(), AllocError>
+        requires crashed { self.old.running ≡ false }
+        requires epochs { self.old.state.stable.epoch.0 < 2 ^ 32 - 1 }
+        requires time { now.0 ≤ 2 ^ 62 }
+        ensures { OnOk result (self.new ≡ server.start_node self.old now) }
+    {
+        self.machine.start(now);
+        self.running = true;
+        Ok(())
+    }
+
+    /// Takes the outputs of the step, in order.
+    fn step_running(&mut self, now: Stamp, input: &ServerInput) -> Result<Outputs, StepFault>
+        requires time { now.0 ≤ 2 ^ 62 }
+        requires fits { comes_fit input.now ≡ true }
+        requires room { HasRoom self.old.state }
+        requires running { self.old.running ≡ true }
+        ensures exact { Runs self.old self.new result (server.node_turn self.old (server.server_step self.old.state now input.now)) }
+        ensures sent { IfOk result (λ out. list_all is_sent out ≡ true) }
+    {
+        match self.machine.step(now, input) {
+            Ok(()) => Ok(self.machine.take_outputs()),
+            Err(_) => {
+                self.machine.crash();
+                self.running = false;
+                Err(StepFault::Memory)
+            }
+        }
+    }
+
+    /// Takes a step at this moment, and returns its outputs in order. Moments never fall.
+    ///
+    /// # Errors
+    /// `Crashed` where the node does not run; then nothing changes. `Memory` where memory runs out: then the node is crashed, and
+    /// its stable part is that from before the step or that which the step leaves.
+    #[tactic(auto, unfolding(st_rules::specs::Server::node_step))]
+    pub fn step(&mut self, now: Stamp, input: ServerInput) -> Result<Outputs, StepFault>
+        requires time { now.0 ≤ 2 ^ 62 }
+        requires fits { comes_fit input ≡ true }
+        requires room { HasRoom self.old.state }
+        ensures exact { Steps self.old self.new result (server.node_step self.old now input) }
+        ensures sent { IfOk result (λ out. list_all is_sent out ≡ true) }
+    {
+        if self.running {
+            self.step_running(now, &input)
+        } else {
+            Err(StepFault::Crashed)
+        }
+    }
+}

@@ -1,0 +1,83 @@
+// What a rule puts out: notes, and messages to clients.
+ghost use Rattle.std.specs.Prelude.{◌≡◌, OnOk};
+ghost use Rattle.st_rules.specs.Server as server;
+
+use crate::machine::Machine;
+use st_base::{ClientId, Life};
+use st_messages::{Body, Header, Message, Note, Output};
+use std::alloc::AllocError;
+
+impl Machine {
+    fn say(&mut self, output: Output) -> Result<(), AllocError>
+        ensures ok { OnOk result (self.new ≡ server.say self.old output) }
+        ensures same { self.new.state ≡ self.old.state }
+    {
+        self.out.push(output)?;
+        Ok(())
+    }
+
+    pub(crate) fn note(&mut self, note: Note) -> Result<(), AllocError>
+        ensures ok { OnOk result (self.new ≡ server.note self.old note) }
+        ensures same { self.new.state ≡ self.old.state }
+    {
+        self.say(Output::Note(note))
+    }
+
+    fn send(&mut self, header: Header, body: Body) -> Result<(), AllocError>
+        ensures ok { OnOk result (self.new ≡ server.send self.old header body) }
+        ensures same { self.new.state ≡ self.old.state }
+    {
+        self.say(Output::Send(Message { header, body }))
+    }
+
+    fn reply_header(&self, h: Header) -> Header
+        ensures { result ≡ server.reply_header self.now.state h }
+    {
+        Header {
+            from: 32_768 + self.id.0,
+            to: h.from,
+            life: h.life,
+            epoch: self.stable.epoch.0,
+            number: h.number,
+            stamp: h.stamp,
+        }
+    }
+
+    fn own_header(&self, client: ClientId, life: Life) -> Header
+        ensures { result ≡ server.own_header self.now.state client life }
+    {
+        Header {
+            from: 32_768 + self.id.0,
+            to: client.0,
+            life: life.0,
+            epoch: self.stable.epoch.0,
+            number: 0,
+            stamp: 0,
+        }
+    }
+
+    /// Replies to the request with this header.
+    #[tactic(auto, unfolding(st_rules::specs::Server::reply))]
+    pub(crate) fn reply(&mut self, h: Header, body: Body) -> Result<(), AllocError>
+        ensures ok { OnOk result (self.new ≡ server.reply self.old h body) }
+        ensures same { self.new.state ≡ self.old.state }
+    {
+        let header = self.reply_header(h);
+        self.send(header, body)
+    }
+
+    /// Tells a client what it did not ask for.
+    #[tactic(auto, unfolding(st_rules::specs::Server::tell))]
+    pub(crate) fn tell(
+        &mut self,
+        client: ClientId,
+        life: Life,
+        body: Body,
+    ) -> Result<(), AllocError>
+        ensures ok { OnOk result (self.new ≡ server.tell self.old client life body) }
+        ensures same { self.new.state ≡ self.old.state }
+    {
+        let header = self.own_header(client, life);
+        self.send(header, body)
+    }
+}
