@@ -7,5 +7,6 @@ pub mod Fold
 pub mod Everywhere
 pub mod Beginning
 pub mod Calmly
+pub mod Shown
 pub mod Promised
 pub mod Runs

@@ -30,9 +30,9 @@ module _ (life epoch stamp : ℕ) (N : List Msg) where
   refused why.Suspect e h = cc
   refused why.NoSession e h = cc
   refused why.OtherEpoch e h = cc
-  refused why.Grace e h = ack _ h
-  refused why.GraceOver e h = ack _ h
-  refused why.Conflict e h = ack _ h
+  refused why.Grace e h = cc
+  refused why.GraceOver e h = cc
+  refused why.Conflict e h = cc
   refused why.NotHolder e h = ack _ h
   refused why.NoFile e h = ack _ h
   refused why.NoSpace e h = ack _ h
