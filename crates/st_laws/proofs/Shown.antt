@@ -1,5 +1,5 @@
 -- Each date of the history was shown to the association of its client and its server.
-use Rattle.std.proofs.Common.{◌≡◌, ℕ, ◌+◌, Bool, true, false, not, ◌==◌, List, [], ◌∷◌, Some, refl, sym, ap, ◌∙◌, subst, if◌then◌else◌}
+use Rattle.std.proofs.Common.{◌≡◌, ℕ, ◌+◌, Bool, true, false, not, ◌==◌, List, [], ◌∷◌, refl, ap, ◌∙◌, subst, if◌then◌else◌}
 use Rattle.st_base.specs.Mode.{number_of}
 use Rattle.st_messages.specs.declared.message.Body.{Body}
 use Rattle.st_messages.specs.declared.message.Body.TheVariants as bd
@@ -7,14 +7,12 @@ use Rattle.st_messages.specs.declared.message.Why.{Why}
 use Rattle.st_messages.specs.declared.message.Why.TheVariants as why
 use Rattle.st_rules.specs.Dating.{refuses_client}
 use Rattle.st_rules.specs.History.{LeaseDate}
-use Rattle.st_rules.specs.Server.{ServerNode}
-use Rattle.st_rules.specs.World.{World, node_of, server}
+use Rattle.st_rules.specs.World.{World}
 use Rattle.st_assoc.specs.Assoc as net
 use Rattle.st_assoc.specs.Assoc.{Config, In, Msg, msg}
-use Rattle.st_lemmas.specs.Lists.{Has}
 use Rattle.st_views.specs.Messages.{Shows, refusal, shown, with_date}
 use Rattle.st_laws_history.specs.Replies.{Dates_replied, Replied, renews_lease}
-use Rattle.st_laws_server.specs.Pair.{Dates_shown, Date_shown, Wires}
+use Rattle.st_laws_server.specs.Pair.{Dates_shown, Wires}
 
 -- a body that renews, among those that are shown
 pub record Renewal (life epoch stamp : ℕ) (N : List Msg) : Type 0 where
@@ -33,26 +31,26 @@ module _ (life epoch stamp : ℕ) (N : List Msg) where
   refused why.Grace e h = cc
   refused why.GraceOver e h = cc
   refused why.Conflict e h = cc
-  refused why.NotHolder e h = ack _ h
-  refused why.NoFile e h = ack _ h
-  refused why.NoSpace e h = ack _ h
-  refused why.TooManyLocks e h = ack _ h
+  refused why.NotHolder e h = ack [] h
+  refused why.NoFile e h = ack [] h
+  refused why.NoSpace e h = ack [] h
+  refused why.TooManyLocks e h = ack [] h
 
   -- what renews a lease shows a renewal
   pub renewal : (n : ℕ) (b : Body) → renews_lease n b ≡ true → Shows life epoch stamp (shown n b) N → Renewal life epoch stamp N
   unfolding with_date
   renewal n bd.Welcome e h = record { body = net.Welcome; renews = refl; is = h.one }
-  renewal n bd.Ack e h = ack _ h
+  renewal n bd.Ack e h = ack [] h
   renewal n (bd.Nack w a b) e h = refused w e h
   renewal n (bd.Granted ino g mode) e h = dated (n == 0) e h
     where
       dated : (z : Bool) → not z ≡ true → Shows life epoch stamp (if z then net.Granted ino g.0 (number_of mode) ∷ [] else net.Ack ∷ net.Granted ino g.0 (number_of mode) ∷ []) N → Renewal life epoch stamp N
       dated true e h = cc
-      dated false e h = ack _ h
-  renewal n (bd.Queued ino mode) e h = ack _ h
-  renewal n (bd.Extents ino rows) e h = ack _ h
-  renewal n (bd.Named reply) e h = ack _ h
-  renewal n bd.Reasserted e h = ack _ h
+      dated false e h = ack (net.Granted ino g.0 (number_of mode) ∷ []) h
+  renewal n (bd.Queued ino mode) e h = ack [] h
+  renewal n (bd.Extents ino rows) e h = ack [] h
+  renewal n (bd.Named reply) e h = ack [] h
+  renewal n bd.Reasserted e h = ack (net.Reasserted ∷ []) h
   renewal n bd.Hello e h = cc
   renewal n bd.KeepAlive e h = cc
   renewal n (bd.Acquire i m) e h = cc
