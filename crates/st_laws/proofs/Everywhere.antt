@@ -64,7 +64,7 @@ get_is [] n l = absurd (omega arith)
 get_is (x ∷ xs) zero l = (x, refl)
 get_is (x ∷ xs) (suc n) l = get_is xs n (omega arith)
 
-numbered_is : {A : Type 0} (xs : List A) (n : ℕ) → 1 ≤ n → n ≤ length xs → (x : A) × (numbered xs n ≡ Some x)
+pub numbered_is : {A : Type 0} (xs : List A) (n : ℕ) → 1 ≤ n → n ≤ length xs → (x : A) × (numbered xs n ≡ Some x)
 numbered_is xs zero p l = absurd (omega arith)
 numbered_is xs (suc n) p l = get_is xs n (omega arith)
 

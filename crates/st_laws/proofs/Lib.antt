@@ -9,4 +9,5 @@ pub mod Beginning
 pub mod Calmly
 pub mod Shown
 pub mod Promised
+pub mod Alone
 pub mod Runs

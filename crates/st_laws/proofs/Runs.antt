@@ -9,7 +9,7 @@ use Rattle.st_messages.specs.declared.event.Event.TheVariants as events
 use Rattle.st_rules.specs.declared.observation.WorldRefusal.{WorldRefusal}
 use Rattle.st_rules.specs.Events.{Scene, world_step}
 use Rattle.st_rules.specs.History.{Traced, traced, traced_after}
-use Rattle.st_rules.specs.Safety.{GraceWaits, IsHead, Promise, Step, TheftsComeLate, Throughout, is_event, is_increment, is_late, step, steps, steps_on}
+use Rattle.st_rules.specs.Safety.{DirtyPagesStandAlone, GraceWaits, IsHead, Promise, Step, TheftsComeLate, Throughout, is_event, is_increment, is_late, step, steps, steps_on}
 use Rattle.st_rules.specs.World.{World, fresh_world}
 use Rattle.st_lemmas.proofs.Steps.{step_happens}
 use Rattle.st_lemmas.proofs.Tables.{and_true}
@@ -20,6 +20,7 @@ use Rattle.st_laws.specs.World.{AllStand, Is_full}
 use Rattle.st_laws.proofs.Beginning.{begun}
 use Rattle.st_laws_history.proofs.RepliesLaw as replies
 use Rattle.st_laws.proofs.Everywhere.{stays}
+use Rattle.st_laws.proofs.Alone.{all_stand_alone}
 use Rattle.st_laws.proofs.Promised.{graces_wait, thefts_late}
 
 -- A promise holds throughout a run over events in their ranges, if a fact of the past and the state gives it at each step and stands
@@ -88,3 +89,11 @@ graces_wait_out k clients servers disks blocks form es head events =
     (λ past t e sc h b taken. let z = behind (terms_of k) (clients + servers) past t e sc h b taken in
     (graces_wait (terms_of k) (traced_after e t sc) (clients + servers) z.all (replies.dates_stand (past ++ step t e sc ∷ []) (traced_after e t sc) z.dates), z)) es events []
     (traced (fresh_world k clients servers disks blocks form)) (at_first k clients servers disks blocks form head)
+
+-- dirty pages stand alone, in every run
+pub pages_stand_alone : In_every_run DirtyPagesStandAlone
+pages_stand_alone k clients servers disks blocks form es head events =
+    throughout_events (clients + servers) DirtyPagesStandAlone (λ past t. AllStand (terms_of k) (clients + servers) t.world)
+    (λ past t e sc h s taken. let z = stays (terms_of k) (clients + servers) t.world e sc s (full (clients + servers) t.world e s.nodes h) taken in
+    (all_stand_alone (terms_of k) (clients + servers) sc.world z, z)) es events []
+    (traced (fresh_world k clients servers disks blocks form)) (begun k clients servers disks blocks form head)
