@@ -271,6 +271,21 @@ module _ (ask_of : ℕ → Option Ask) (c : ClientId) (lives : ServerId → Life
   all_logged os [] e v = record {}
   all_logged os (a ∷ xs) e v = record { one = lived_logged c lives a.server a.life os es e.one v.one; rest = all_logged os xs e.rest v.rest }
 
+-- the associations behind a step are with servers that differ, whatever stands of the copies
+pub step_apart : (ask_of : ℕ → Option Ask) (c : ClientId) (lives : ServerId → Life) (es : List LogEntry) (s : ClientState) (n : Stamp) (input : ClientInput) → Apart s.associations → Numbered ask_of input →
+    All_owed c lives es input (cl.losses (client_turn s []) n).state.associations → Apart (cl.client_step s n input).state.associations
+unfolding cl.client_step cl.work cl.losses at_each
+step_apart ask_of c lives es s n input h a o =
+    let T : ClientTurn = client_turn s [] in
+    let U : ClientTurn = cl.losses T n in
+    let V : ClientTurn = cl.take_input U n input in
+    let lost : Lost ask_of c lives es (with_associations [] T) s.associations U = losses_these ask_of c lives es n s.associations (with_associations [] T) in
+    let d : Apart U.state.associations = apart_same _ _ lost.servers h in
+    let taken : Made ask_of c lives es U [] V = made_input ask_of c lives es U n input d a (subst (λ l. All_owed c lives l input U.state.associations) (sym lost.log) o) in
+    let d2 : Apart V.state.associations = apart_same _ _ (servers_of _ _ taken.places) (subst (λ xs. Apart xs) (sym (nothing_more U.state.associations)) d) in
+    let worked : Made ask_of c lives es V [] (cl.client_step s n input) = made_free ask_of c lives es (cp.passes n (cl.is_tick input)) (k_passes ask_of c lives es n (cl.is_tick input)) V d2 in
+    apart_same _ _ (servers_of _ _ worked.places) (subst (λ xs. Apart xs) (sym (nothing_more V.state.associations)) d2)
+
 pub law : Steps_keep_copies
 unfolding cl.client_step cl.work cl.losses at_each
 law ask_of c lives es s n input h a o e =
