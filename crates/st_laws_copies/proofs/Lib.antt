@@ -14,3 +14,4 @@ pub mod Held
 pub mod Locked
 pub mod World
 pub mod Others
+pub mod Restarts

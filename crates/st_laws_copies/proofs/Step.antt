@@ -31,7 +31,7 @@ use Rattle.st_laws_client.specs.World.{logged}
 use Rattle.st_laws_client.proofs.Steps.{nothing_more}
 use Rattle.st_laws_copies.specs.Copies.{Right, Right_one, Fates_ok, Hard_on, Asked_so, Joined, All_of, Keeps, file_at}
 use Rattle.st_laws_copies.specs.Owed.{Message_owed, End_owed, Numbered}
-use Rattle.st_laws_copies.specs.Law.{Copies_at, All_copies, Apart, Lived, Stands_at, All_stand, All_owed, Lives_are, Steps_keep_copies, Joined_by}
+use Rattle.st_laws_copies.specs.Law.{Copies_at, All_copies, Apart, Lived, All_lived, Stands_at, All_stand, All_owed, Lives_are, Steps_keep_copies, Joined_by}
 use Rattle.st_laws_copies.proofs.Logs.{logged_both, right_both, still}
 use Rattle.st_laws_copies.proofs.Away.{joined_content}
 use Rattle.st_laws_copies.proofs.Copies.{k_same, k_then, k_if, k_aside, k_keep}
@@ -83,10 +83,6 @@ lives_same lives (a ∷ xs) [] s l = absurd s
 lives_at : (lives : ServerId → Life) (past rest : List Association) (a : Association) → Lives_are lives (past ++ a ∷ rest) → lives a.server ≡ a.life
 lives_at lives [] rest a l = l.one
 lives_at lives (x ∷ past) rest a l = lives_at lives past rest a l.rest
-
-abbrev All_lived : ClientId → List LogEntry → List Association → Type 0
-All_lived c es [] = Unit {0}
-All_lived c es (a ∷ rest) = record { one : Lived c a.server a.life es; rest : All_lived c es rest }
 
 lived_last : (c : ClientId) (es : List LogEntry) (xs : List Association) (a : Association) → All_lived c es xs → Lived c a.server a.life es → All_lived c es (xs ++ a ∷ [])
 lived_last c es [] a r l = record { one = l; rest = record {} }

@@ -26,7 +26,7 @@ use Rattle.st_views.specs.Halves.{held_in}
 use Rattle.st_laws_client.specs.World.{logged}
 use Rattle.st_laws_copies.specs.Copies.{Right}
 use Rattle.st_laws_copies.specs.Owed.{Numbered}
-use Rattle.st_laws_copies.specs.Law.{Client_stands, All_owed}
+use Rattle.st_laws_copies.specs.Law.{Apart, All_lived, Client_stands, All_owed}
 
 -- What a client takes at an event: in which world, which input, and where it stands then.
 pub record Taking : Type 0 where
@@ -118,3 +118,14 @@ abbrev pub Effects_keep_copies : Type 0
 Effects_keep_copies =
     (asked_as : ℕ → Option Ask) (c : ClientId) (es : List LogEntry) (s : ClientState) (x : Option Carried) → Client_stands asked_as c es s →
     Client_stands asked_as c (ev.log_hard es x) s
+
+-- What stands of a client that does not run: its servers differ, and no entry of it is of a life beyond its association's.
+pub record Client_rests (c : ClientId) (es : List LogEntry) (s : ClientState) : Type 0 where
+  pub apart : Apart s.associations
+  pub lived : All_lived c es s.associations
+
+-- A client that crashes rests, and one that starts has its copies, of which there are none.
+abbrev pub Restarts_keep_copies : Type 0
+Restarts_keep_copies =
+    (asked_as : ℕ → Option Ask) (c : ClientId) (es : List LogEntry) (s : ClientState) →
+    record { crashes : Client_stands asked_as c es s → Client_rests c es (cl.crash s); starts : Client_rests c es s → Client_stands asked_as c es (cl.start s) }
