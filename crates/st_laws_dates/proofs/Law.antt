@@ -122,7 +122,7 @@ module _ (past : List Step) (t : Traced) (d : Dated past t) where
   promised = all_true (all_dated past t) (all_clients t.world) (λ c h. all_true (is_dated past t c) (all_servers t.world) (λ s i. association_ok c s))
 
 -- One step.
-one : (past : List Step) (t : Traced) (e : Event) (sc : Scene) → Dated past t → world_step t.world e ≡ Ok sc → LeasesAreDatedFromRequests past (step t e sc) × Dated (past ++ step t e sc ∷ []) (traced_after e t sc)
+pub one : (past : List Step) (t : Traced) (e : Event) (sc : Scene) → Dated past t → world_step t.world e ≡ Ok sc → LeasesAreDatedFromRequests past (step t e sc) × Dated (past ++ step t e sc ∷ []) (traced_after e t sc)
 one past t e sc d h = let z = step_happens t.world e sc h in go (next_dated past t e sc d (subst (λ (x : Scene). Next t e x) (sym z.1) (happens past t d e z.0)))
   where
     go : Dated (past ++ step t e sc ∷ []) (traced_after e t sc) → LeasesAreDatedFromRequests past (step t e sc) × Dated (past ++ step t e sc ∷ []) (traced_after e t sc)
@@ -165,7 +165,7 @@ fresh_quiet k servers disks blocks s node e c z = none (subst (λ (n : ServerNod
     none : false ≡ true → ⊥
     none e = cc
 
-fresh_dated : (k : Config) (clients servers disks blocks form : ℕ) → IsHead k clients servers disks blocks form → Dated [] (traced (fresh_world k clients servers disks blocks form))
+pub fresh_dated : (k : Config) (clients servers disks blocks form : ℕ) → IsHead k clients servers disks blocks form → Dated [] (traced (fresh_world k clients servers disks blocks form))
 unfolding fresh_world
 fresh_dated k clients servers disks blocks form head =
     record {

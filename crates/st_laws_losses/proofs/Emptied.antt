@@ -24,7 +24,8 @@ use Rattle.st_rules.specs.ClientState.{ClientSession, Association, ClientState, 
 use Rattle.st_lemmas.specs.Lists.{Has}
 use Rattle.st_laws_pages.specs.Losses.{Fit, is_ended, Loses, Lasts, Is_lost}
 use Rattle.st_laws_pages.specs.Lives.{Life_next, Pairwise}
-use Rattle.st_laws_pages.proofs.Tables.{clash, some_is}
+use Rattle.st_lemmas.proofs.Lookups.{some_is}
+use Rattle.st_laws_pages.proofs.Clash.{clash}
 use Rattle.st_laws_pages.proofs.Losing.{lose_is}
 use Rattle.st_laws_pages.proofs.Stepping.{step_lives}
 
