@@ -10,7 +10,7 @@ sys.path.insert(0, sys.argv[1])
 sys.dont_write_bytecode = True
 from tank_oracle import base, client  # noqa: E402
 from tank_oracle.asks import ReadAsk, WriteAsk  # noqa: E402
-from tank_oracle.wire import Ack, KeepAlive, Message, Nack, Released, Welcome  # noqa: E402
+from tank_oracle.wire import Ack, Demand, Done, Granted, KeepAlive, Message, Nack, Named, Released, Welcome  # noqa: E402
 
 CONFIG = base.Config(100, 50, 70, 85, 10, 5, 3, 2, 2)
 SERVER, SUSPECT = 1, 1
@@ -151,6 +151,184 @@ REQUESTS = [
 PLAY |= {"Ask": ask, "Again": again, "Reply": reply, "Asked": asked, "Waiting": waiting, "NewEpoch": new_epoch}
 
 
+# Locks. Modes are numbers.
+def install(node, ino, g, mode):
+    at = peer(node)
+    before = at.greatest.get(ino)
+    node.granted(at, Granted(ino, g, mode))
+    return "passed over" if at.greatest.get(ino) == before else "taken"
+
+
+def demand(node, ino, g, to):
+    at = peer(node)
+    held, at.releases, node.out = ino in at.locks, [], []
+    node.demand(at, Demand(ino, g, to))
+    if node.out:
+        return "reduce"
+    return "stale" if held else "not held"
+
+
+def reduce(node, ino):
+    at = peer(node)
+    if ino not in at.demanded:
+        return "none"
+    others = {i: to for i, to in at.demanded.items() if i != ino}
+    at.demanded, at.releases = {ino: at.demanded[ino]}, []
+    node.reduce_demanded(at)
+    at.demanded |= others
+    return f"{at.releases[0].g} {at.releases[0].to}"
+
+
+def mode(node, ino):
+    return str(peer(node).mode(ino))
+
+
+def grant(node, ino):
+    lock = peer(node).locks.get(ino)
+    return "none" if lock is None else str(lock.g)
+
+
+def demanded(node, ino):
+    return "yes" if ino in peer(node).demanded else "no"
+
+
+def count(node):
+    return str(len(peer(node).locks))
+
+
+def every(node):
+    peer(node).reassert_due = True
+    body, _ = node.next_request(peer(node))
+    return " ".join(":".join(str(n) for n in row) for row in body.rows)
+
+
+def drop_lock(node, ino):
+    op = client.Operation(1, None, SERVER, ino)
+    node.operations.append(op)
+    node.named(peer(node), Named(0, ino), op)
+    return "done"
+
+
+def forget_demands(node):
+    node.follow_epoch(peer(node), peer(node).epoch + 1)
+    peer(node).reassert_due = False
+    return "done"
+
+
+def lose(node):
+    node.lose(peer(node))
+    return "done"
+
+
+LOCKS = [
+    ("Count",), ("All",), ("Mode", 2), ("Grant", 2), ("Demanded", 2), ("Reduce", 2), ("Install", 2, 5, 1), ("Mode", 2), ("Grant", 2), ("Install", 2, 5, 2),
+    ("Install", 2, 4, 2), ("Mode", 2), ("Install", 2, 6, 2), ("Mode", 2), ("Grant", 2), ("Demand", 3, 9, 0), ("Install", 3, 9, 1), ("Count",),
+    ("Install", 3, 10, 1), ("Demand", 3, 8, 0), ("Demand", 3, 9, 1), ("Demanded", 3), ("Demand", 3, 10, 1), ("Demanded", 3), ("Demand", 3, 12, 0),
+    ("Grant", 3), ("Demand", 3, 13, 1), ("Mode", 3), ("Install", 1, 7, 2), ("All",), ("Count",), ("Reduce", 3), ("Mode", 3), ("Demanded", 3), ("Reduce", 3),
+    ("Install", 3, 13, 2), ("Install", 3, 14, 2), ("Demand", 2, 6, 1), ("Demand", 1, 7, 1), ("Reduce", 2), ("Mode", 2), ("Grant", 2), ("Demanded", 1),
+    ("Install", 1, 8, 1), ("Demanded", 1), ("Reduce", 1), ("Demand", 1, 8, 0), ("ForgetDemands",), ("Demanded", 1), ("Reduce", 1), ("Demand", 3, 14, 0),
+    ("DropLock", 3), ("Demanded", 3), ("Mode", 3), ("All",), ("DropLock", 4), ("Install", 3, 14, 1), ("Install", 4, 1, 1), ("All",), ("Clear",), ("Count",),
+    ("All",), ("Install", 2, 1, 1), ("Grant", 2), ("All",),
+]
+PLAY |= {
+    "Install": install, "Demand": demand, "Reduce": reduce, "Mode": mode, "Grant": grant, "Demanded": demanded, "Count": count, "All": every,
+    "DropLock": drop_lock, "ForgetDemands": forget_demands, "Clear": lose,
+}
+
+
+# Disk commands. A kind is 0 for a read, and else the version that is written; `version` is that of the page now.
+def kind_of(command):
+    return 0 if command.version is None else command.version
+
+
+def of(node, number):
+    found = peer(node).commands.get(number)
+    return "none" if found is None else f"{found.ino} {found.page} {kind_of(found)}"
+
+
+def on(node, ino, page):
+    at = peer(node)
+    number = at.command_on(ino, page, True) or at.command_on(ino, page, False)
+    return "none" if number is None else f"{number} {kind_of(at.commands[number])}"
+
+
+def submit(node, number, ino, page, kind):
+    at = peer(node)
+    if on(node, ino, page) != "none" or number in at.commands:
+        return "no place"
+    node.next_command, node.out = number, []
+    at.extents[ino, page] = (base.Block(1, 0), 1)
+    node.submit(at, ino, page, client.Dirty(b"", kind) if kind else None)
+    return "done"
+
+
+def drain(node, many, first):
+    """The first writes of a list, numbered one after another."""
+    at = peer(node)
+    at.dirty = {(ino, page): client.Dirty(b"", kind) for ino, page, kind in DRAINED[:many]}
+    at.extents = {key: (base.Block(1, 0), 1) for key in at.dirty}
+    at.epoch, at.date, node.now, node.next_command, node.out = 1, 0, CONFIG.flush, first, []
+    node.submit_writes(at)
+    at.dirty = {}
+    return "done"
+
+
+def done(node, number, ok, version):
+    at = peer(node)
+    command = at.commands.get(number)
+    if command is None:
+        return "unknown"
+    key = (command.ino, command.page)
+    at.dirty = {key: client.Dirty(b"", version)} if version else {}
+    at.clean.clear()
+    read = command.version is None
+    tag = base.Tag(base.File(SERVER, command.ino), command.page, 1)
+    node.finish_command(Done(number, None if not ok else (tag, b"") if read else ()))
+    clean, at.dirty = key in at.clean, {}
+    if not ok:
+        return "failed"
+    return "filled" if read else "hard" if clean else "redirty"
+
+
+def forget_read(node, ino, page):
+    at = peer(node)
+    at.dirty = {}
+    op = client.Operation(1, WriteAsk(base.File(SERVER, ino), page, b""), SERVER, ino)
+    node.operations, node.out = [op], []
+    node.change_page(at, op, b"", None)
+    at.dirty = {}
+    return "done"
+
+
+def outstanding(node, ino):
+    return "yes" if any(c.ino == ino for c in peer(node).commands.values()) else "no"
+
+
+def write_on(node, ino):
+    return "yes" if peer(node).write_out(ino) else "no"
+
+
+def write_out(node):
+    return "yes" if node.has_write_out(SERVER) else "no"
+
+
+DRAINED = [(2, 0, 7), (2, 5, 8), (4, 1, 9)]
+COMMANDS = [
+    ("Of", 1), ("On", 2, 0), ("Outstanding", 2), ("WriteOn", 2), ("WriteOut",), ("Done", 1, True, 0), ("Submit", 1, 2, 0, 0), ("Of", 1), ("On", 2, 0),
+    ("Outstanding", 2), ("WriteOn", 2), ("WriteOut",), ("Submit", 2, 2, 0, 3), ("Submit", 1, 2, 1, 3), ("Submit", 2, 2, 1, 3), ("WriteOn", 2), ("WriteOut",),
+    ("WriteOn", 3), ("Outstanding", 3), ("ForgetRead", 2, 1), ("On", 2, 1), ("ForgetRead", 2, 0), ("On", 2, 0), ("Done", 1, True, 0), ("Done", 2, True, 3),
+    ("Done", 2, True, 3), ("Submit", 3, 2, 1, 4), ("Done", 3, True, 5), ("Submit", 4, 2, 1, 5), ("Done", 4, True, 0), ("Submit", 5, 2, 1, 6), ("Done", 5, False, 6),
+    ("On", 2, 1), ("Submit", 6, 2, 1, 0), ("Done", 6, True, 0), ("Submit", 7, 2, 1, 0), ("Done", 7, False, 0), ("Drain", 3, 10),
+    ("Of", 10), ("Of", 11), ("Of", 12), ("Of", 13), ("On", 4, 1), ("Outstanding", 4), ("WriteOut",), ("Done", 11, True, 8), ("Of", 10), ("Of", 11), ("Of", 12),
+    ("Drain", 0, 20), ("Of", 20), ("ForgetRead", 4, 1), ("Of", 12), ("Clear",), ("Of", 10), ("Of", 12), ("WriteOut",), ("Done", 12, True, 9),
+    ("Submit", 12, 4, 1, 9), ("Of", 12),
+]
+PLAY |= {
+    "Of": of, "On": on, "Submit": submit, "Drain": drain, "Done": done, "ForgetRead": forget_read, "Outstanding": outstanding, "WriteOn": write_on,
+    "WriteOut": write_out,
+}
+
+
 def word(value):
     return str(value).lower() if isinstance(value, bool) else str(value)
 
@@ -165,7 +343,7 @@ def table(name, calls):
     print("];\n")
 
 
-for name, calls in (("leases", LEASES), ("requests", REQUESTS)):
+for name, calls in (("leases", LEASES), ("requests", REQUESTS), ("locks", LOCKS), ("commands", COMMANDS)):
     table(name, calls)
 
 

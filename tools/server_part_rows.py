@@ -1,5 +1,5 @@
 #!/usr/bin/env python3
-"""Prints the tables of calls and answers in crates/st_server_parts_tests/src.
+"""Prints the tables of calls and answers in crates/st_server_parts_tests/src and crates/st_locks_tests/src.
 
 Run from the repository's top as `tools/server_part_rows.py ORACLE`, ORACLE being the folder that holds the package tank_oracle.
 The oracle's server plays each call, and its answer stands beside the call. No answer is typed by hand.
@@ -169,54 +169,182 @@ GRACE = [
 PLAY |= {"Begin": begin, "None": none, "IsOn": is_on, "Start": start}
 
 
-def accept(node, now, client, life, rows):
-    """The rows are written as a list of (ino, grant number, mode); what they leave of the node is kept."""
-    node.now = now
-    if now == 700 and node.epoch == 1:
-        node.start(now)
-    body = send(node, client, life, 2, 1, Reassert(tuple(rows)))[0]
-    if isinstance(body, Reasserted):
-        return "accepted"
-    return {GRACE_OVER: "grace over", CONFLICT: "conflict", NOT_HOLDER: "not holder"}[body.why] + f" {body.a} {body.b}"
+def released(node, client, life, ino, g, to):
+    row = node.row(client, ino)
+    found = row is not None and row.life == life and row.g == g
+    node.released(ask(node, client, life), wire.Released(ino, g, to))
+    return "yes" if found else "no"
 
 
 def forget(node, client):
-    for by in node.rows.values():
-        by.pop(client, None)
-    node.sessions.pop(client, None)
+    for ino, _ in node.rows_of(client):
+        node.drop_row(client, ino)
+    node.drop_waits(client)
     return "done"
 
 
-# Two rows are written side by side; a row of file 0 is none.
-G, NEW, NONE = 4294967297, 8589934592, (0, 0, 0)
+def of(node, client):
+    return ", ".join(f"{ino} {row.g} {row.mode}" for ino, row in node.rows_of(client))
+
+
+def ask(node, client, life):
+    return Message(client, node.node, life, node.epoch, 1, 0, None)
+
+
+def accept(node, now, client, life, first, second):
+    """Two rows, of which the first is of a lower file."""
+    session = node.sessions.get(client)
+    assert session is None or session.life < life or not session.live
+    node.now = now
+    body = send(node, client, life, node.epoch, 1, Reassert((first, second)))[0]
+    if isinstance(body, Reasserted):
+        return "done"
+    return {GRACE_OVER: "grace over", CONFLICT: "conflict", NOT_HOLDER: "not holder"}[body.why] + f" {body.a} {body.b}"
+
+
+def take_number(node, client, life, number):
+    return take(node, client, life, node.epoch, number)
+
+
+NEW = 3 * 2 ** 32
 ACCEPT = [
-    ("Accept", 700, 1, 1, [(2, NEW + 1, 2)]), ("Accept", 700, 1, 1, [(2, NEW, 2)]), ("Life", 1), ("Accept", 700, 1, 1, [(2, G, 2)]), ("Life", 1),
-    ("Accept", 701, 2, 1, [(2, G + 1, 1)]), ("Accept", 701, 2, 1, [(3, G + 2, 1)]), ("Accept", 702, 3, 4, [(3, G + 3, 1)]),
-    ("Accept", 703, 4, 1, [(2, G + 4, 1), (3, G + 5, 2)]), ("Accept", 703, 4, 1, [(3, G + 4, 2), (4, G + 5, 2)]),
-    ("Accept", 704, 4, 1, [(4, G + 4, 2), (5, NEW + 7, 2)]), ("Accept", 704, 4, 1, [(2, NEW + 8, 2), (5, NEW + 7, 2)]), ("Life", 4),
-    ("Accept", 705, 4, 1, [(4, G + 4, 2), (5, NEW - 1, 2)]), ("Life", 4), ("Accept", 705, 5, 1, []), ("Life", 5),
-    ("Accept", 706, 6, 1, [(5, G + 9, 1), (6, G + 9, 1)]), ("Forget", 4), ("Accept", 706, 6, 1, [(5, G + 9, 1), (6, G + 9, 1)]),
-    ("Accept", 851, 7, 2, [(3, G + 10, 1), (6, G + 11, 1)]), ("Accept", 851, 8, 2, [(6, G + 10, 2)]), ("Accept", 852, 8, 2, [(9, G + 10, 2)]),
-    ("Accept", 852, 8, 2, [(9, NEW + 10, 2)]), ("Accept", 851, 8, 2, [(9, G + 10, 2)]), ("Life", 8), ("Accept", 900, 9, 2, []), ("Life", 9),
-    ("Accept", 851, 16, 1, [(3, G + 12, 1), (9, G + 13, 1)]), ("Accept", 851, 16, 1, [(3, G + 12, 1), (10, G + 13, 1)]), ("Life", 16),
+    ("Accept", 0, 1, 1, (2, 7, 1), (3, 8, 2)), ("None",), ("Accept", 90, 1, 1, (2, 7, 1), (3, NEW, 2)), ("Begin", 100), ("Life", 1),
+    ("Accept", 252, 1, 1, (2, 7, 1), (3, 8, 2)), ("Accept", 253, 1, 1, (2, NEW, 1), (3, 8, 2)), ("Accept", 100, 1, 1, (2, NEW, 1), (3, 8, 2)),
+    ("Accept", 100, 1, 1, (2, 7, 1), (3, NEW + 1, 2)), ("Accept", 100, 1, 1, (2, NEW + 2, 1), (3, NEW, 2)), ("Of", 1), ("Life", 1),
+    ("Accept", 251, 1, 1, (2, 7, 1), (3, NEW - 1, 2)), ("Of", 1), ("Life", 1), ("Number", 1, 1, 1), ("Number", 1, 1, 2), ("Number", 1, 2, 1),
+    ("Accept", 100, 2, 4, (2, 9, 1), (3, 9, 1)), ("Accept", 100, 2, 4, (2, 9, 2), (4, 9, 1)), ("Accept", 100, 2, 4, (3, 9, 2), (4, 9, 1)),
+    ("Accept", 100, 2, 4, (2, 9, 1), (4, 9, 1)), ("Number", 2, 4, 1), ("Accept", 100, 3, 1, (2, 5, 2), (3, 5, 1)),
+    ("Accept", 100, 3, 1, (4, 5, 2), (5, 5, 1)), ("Accept", 100, 3, 1, (5, 5, 2), (6, 5, 1)), ("Accept", 100, 1, 2, (7, 7, 1), (8, 8, 2)),
+    ("Accept", 100, 1, 2, (7, NEW, 1), (8, 8, 2)), ("Accept", 300, 1, 2, (7, NEW, 1), (8, 8, 2)), ("Release", 1, 1, 2, 7, 0),
+    ("Accept", 100, 1, 2, (3, 7, 1), (8, 8, 2)), ("Release", 1, 1, 3, NEW - 1, 0), ("Accept", 100, 1, 2, (2, 7, 1), (8, 8, 2)), ("Of", 1),
+    ("Life", 1), ("End", 3), ("Forget", 3), ("Accept", 100, 3, 2, (5, 5, 2), (6, 5, 1)), ("Accept", 100, 4, 1, (5, 6, 1), (6, 6, 1)), ("Life", 4),
+    ("Accept", 100, 4, 1, (6, 6, 1), (9, 6, 2)), ("Number", 4, 1, 1),
 ]
-PLAY |= {"Accept": accept, "Forget": forget}
+PLAY |= {"Accept": accept, "Forget": forget, "Release": released, "Of": of, "Number": take_number}
+
+
+def in_the_way(node, client, ino, mode):
+    waits = {w.client for w in node.waiters.get(ino, ()) if w.client != client}
+    return sorted(waits | {holder for holder, _ in node.conflicting(client, ino, mode)})
+
+
+def acquire(node, client, life, ino, mode, grants):
+    others = " ".join(str(c) for c in in_the_way(node, client, ino, mode))
+    node.now, node.grace_start = 0, None if grants else 0
+    body = node.acquire(ask(node, client, life), wire.Acquire(ino, mode))
+    node.grace_start = None
+    if isinstance(body, wire.Granted):
+        return f"granted {body.g} {body.mode}"
+    return f"queued {others}".strip() if isinstance(body, wire.Queued) else "too many locks"
+
+
+def fill(node, client, first, count):
+    """Locks, shared, of so many files."""
+    return "done" if all(acquire(node, client, 1, first + i, 1, True).startswith("granted") for i in range(count)) else "stopped"
+
+
+def drop_waits(node, client):
+    node.drop_waits(client)
+    return "done"
+
+
+def drop_file_waits(node, ino):
+    node.waiters.pop(ino, None)
+    return "done"
+
+
+def install(node, client, life, *rows):
+    """Two rows, or one where the second is of file 0."""
+    node.now, node.grace_start = 0, 0
+    body = send(node, client, life, node.epoch, 1, Reassert(tuple(r for r in rows if r[0])))[0]
+    node.grace_start = None
+    node.sessions.pop(client, None)
+    return "done" if isinstance(body, Reasserted) else f"conflict {body.a} {body.b}"
+
+
+def holders(node, ino):
+    return ", ".join(f"{c} {row.g} {row.mode}" for c, row in sorted(node.rows.get(ino, {}).items()))
+
+
+def has_rows(node, client):
+    return "yes" if node.rows_of(client) else "no"
+
+
+def one_row(node, client, ino):
+    row = node.row(client, ino)
+    return f"{row.g} {row.mode}" if row else "none"
+
+
+def told(node):
+    """The grants or the demands that were sent."""
+    messages = [e.message for e in node.out]
+    return ", ".join(f"{m.receiver} {m.life} {m.body.ino} {m.body.g} {m.body.mode if isinstance(m.body, wire.Granted) else m.body.to}" for m in messages)
+
+
+def grants_now(node):
+    node.now, node.out = 0, []
+    node.grant_waiting()
+    return told(node)
+
+
+def demands(node, now, tick, suspect):
+    """With one suspect, or none where it is 0."""
+    node.now, node.out, node.suspects = now, [], {suspect: 0} if suspect else {}
+    node.demand_conflicting(tick=tick)
+    node.suspects = {}
+    return told(node)
+
+
+def answered(node, client, ino, g):
+    node.sessions[client] = server.Session(True, 1)
+    node.demand_seen(Message(client, node.node, 1, node.epoch, 0, 0, wire.DemandSeen(ino, g)))
+    return "done"
+
+
+def unanswered(node, now):
+    probe = copy.deepcopy(node)
+    probe.now, probe.out = now, []
+    probe.suspect_silent()
+    return " ".join(str(c) for c in sorted(probe.suspects))
+
+
+LOCKS = [
+    ("Acquire", 1, 1, 2, 1, True), ("Acquire", 2, 1, 2, 1, True), ("Acquire", 1, 1, 2, 1, True), ("Acquire", 1, 1, 2, 2, True),
+    ("Acquire", 3, 4, 2, 1, True), ("Holders", 2), ("Row", 3, 2), ("Grants",), ("Demands", 100, False, 0), ("Demands", 104, True, 0),
+    ("Demands", 105, True, 0), ("Unanswered", 109), ("Answered", 2, 2, NEW + 1), ("Unanswered", 110), ("Answered", 2, 2, NEW + 2),
+    ("Unanswered", 200), ("Release", 2, 2, 2, NEW + 2, 0), ("Release", 2, 1, 2, NEW + 1, 0), ("Release", 2, 1, 2, NEW + 2, 0), ("Grants",),
+    ("Demands", 120, False, 0), ("Release", 1, 1, 2, NEW + 3, 1), ("Grants",), ("Acquire", 4, 1, 2, 2, True), ("Acquire", 5, 1, 2, 1, True),
+    ("Demands", 130, False, 3), ("Demands", 141, True, 0), ("Unanswered", 141), ("Acquire", 6, 1, 9, 1, False), ("Acquire", 6, 7, 9, 2, False),
+    ("Acquire", 7, 1, 9, 1, True), ("DropWaits", 6), ("Acquire", 7, 1, 9, 1, True), ("DropFileWaits", 2), ("Demands", 150, True, 0),
+    ("Install", 8, 5, (2, 7, 1), (9, 8, 2)), ("Install", 8, 5, (2, 7, 2), (9, 8, 1)), ("Install", 8, 5, (2, 7, 1), (9, 8, 1)),
+    ("Install", 9, 5, (9, 3, 2), (0, 0, 0)), ("Of", 8), ("HasRows", 8), ("Forget", 8), ("HasRows", 8), ("Fill", 16, 1000, 1022),
+    ("Acquire", 16, 1, 2, 2, True), ("Acquire", 16, 1, 2022, 1, True), ("Acquire", 16, 1, 2023, 1, True), ("Acquire", 16, 1, 2, 1, True),
+    ("Acquire", 16, 1, 1000, 2, True), ("Release", 16, 1, 1001, NEW + 7, 0), ("Acquire", 16, 1, 2023, 1, True), ("Acquire", 16, 1, 2024, 1, False),
+    ("Forget", 16), ("Fill", 16, 1000, 1024), ("Acquire", 16, 1, 5, 1, True),
+]
+PLAY |= {
+    "Acquire": acquire, "Fill": fill, "DropWaits": drop_waits, "DropFileWaits": drop_file_waits, "Install": install, "Holders": holders,
+    "HasRows": has_rows, "Row": one_row, "Grants": grants_now, "Demands": demands, "Answered": answered, "Unanswered": unanswered,
+}
 
 
 def word(value):
-    if isinstance(value, list):
-        return "[" + ", ".join(str(tuple(row)) for row in (value + [NONE, NONE])[:2]) + "]"
     return str(value).lower() if isinstance(value, bool) else str(value)
 
 
-def table(calls):
+def table(calls, epoch):
     node = fresh()
+    node.epoch = epoch
+    node.names.is_file = lambda ino: True
     for name, *args in calls:
         answer = PLAY[name](node, *args)
         words = ", ".join(word(a) for a in args)
-        print(f'        (Call::{name}{"(" + words + ")" if args else ""}, "{answer}"),')
+        print(f'    (Call::{name}{"(" + words + ")" if args else ""}, "{answer}"),')
     print()
 
 
-for calls in (SESSIONS, AUTHORITY, GRACE, ACCEPT):
-    table(calls)
+for calls in (SESSIONS, AUTHORITY, GRACE):
+    table(calls, 1)
+# Its grace begins epoch 3.
+table(ACCEPT, 2)
+table(LOCKS, 3)

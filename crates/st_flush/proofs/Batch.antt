@@ -49,7 +49,7 @@ module _ (s : ClientSession) (now : Stamp) (tick : Bool) where
 -- Other pages, as one goes out.
 
 -- two places are one
-abbrev same_place : ℕ × PageNo → ℕ × PageNo → Bool
+abbrev pub same_place : ℕ × PageNo → ℕ × PageNo → Bool
 same_place x y = (x.0 == y.0) && same_page x.1 y.1
 
 or_false : (a b : Bool) → b ≡ false → (a || (b || false)) ≡ a
@@ -64,7 +64,7 @@ written_before cs n ino j p q v e =
     list_any-append (is_write_of j q) cs (page_command n ino p (Write v) ∷ []) ∙ or_false (list_any (is_write_of j q) cs) (same_place (ino, p) (j, q)) e
 
 -- the place of a dirty page
-abbrev place_of : DirtyPage → ℕ × PageNo
+abbrev pub place_of : DirtyPage → ℕ × PageNo
 place_of d = (d.ino, d.page)
 
 -- what is found at a place is of that place
@@ -103,7 +103,7 @@ module _ (st : Store) (n v : ℕ) (x : ℕ × PageNo) where
 -- Page by page.
 
 -- no place comes twice
-Apart : List (ℕ × PageNo) → Type 0
+unfoldable pub Apart : List (ℕ × PageNo) → Type 0
 Apart [] = Unit {0}
 Apart (x ∷ xs) = AllByRecursion (λ y. same_place x y ≡ false) xs × Apart xs
 
@@ -113,7 +113,7 @@ out_each [] t = t
 out_each (w ∷ ws) t = out_each ws (submit_write t w.page w.mapping)
 
 -- what goes out of a place is of that place
-draining_place : (st : Store) (x : ℕ × PageNo) (w : Draining) → drained_at st x ≡ Some w → place_of w.page ≡ x
+pub draining_place : (st : Store) (x : ℕ × PageNo) (w : Draining) → drained_at st x ≡ Some w → place_of w.page ≡ x
 draining_place st x w e = by (pages.dirty_of st.pages x.0 x.1) (λ d f. found_place x d st.pages.dirty f) e
   where
     to_is : (d : DirtyPage) (m : Option Mapping) → drained_to d m ≡ Some w → w.page ≡ d
@@ -200,7 +200,8 @@ apart_files ps (j ∷ js) r =
     apart_file j (rising (map pages.page_of_dirty (filter (pages.is_dirty_on j) ps.dirty))) (flat_map (pages.dirty_on ps) js)
     (rising_rises (map pages.page_of_dirty (filter (pages.is_dirty_on j) ps.dirty))) (above_all ps j js r.0) (apart_files ps js r.1)
 
-places_apart : (ps : Pages) → Apart (dirty_places ps)
+-- no dirty place comes twice
+pub places_apart : (ps : Pages) → Apart (dirty_places ps)
 unfolding dirty_places
 places_apart ps = apart_files ps (rising (map pages.ino_of_dirty ps.dirty)) (rising_rises (map pages.ino_of_dirty ps.dirty))
 

@@ -1,3 +1,4 @@
 pub mod Begun
 pub mod Picked
 pub mod Batch
+pub mod Places

@@ -267,7 +267,8 @@ impl Flusher {
     fn begin_all(&mut self, writes: &[(u32, PageNo, u64)], first: u64) -> Result<(), AllocError>
         requires may { may_begin self.old.commands writes.now first ≡ true }
         requires numbers { first + length writes.now ≤ 2 ^ 64 }
-        ensures { OnOk result (self.new ≡ with_commands (pages.begin_writes self.old.commands writes.now first) self.old) }
+        ensures server { self.new.server ≡ self.old.server }
+        ensures ok { OnOk result (self.new ≡ with_commands (pages.begin_writes self.old.commands writes.now first) self.old) }
     {
         for i in 0..writes.len() {
             let (ino, page, version) = writes[i];
@@ -294,6 +295,7 @@ impl Flusher {
         requires may { may_begin self.old.commands writes.now first ≡ true }
         requires numbers { first + length writes.now ≤ 2 ^ 64 }
         ensures receipt { result.0 ≡ permit }
+        ensures server { self.new.server ≡ self.old.server }
         ensures ok { OnOk result.1 (self.new ≡ with_commands (pages.begin_writes self.old.commands writes.now first) self.old) }
     {
         let begun = self.begin_all(writes, first);

@@ -1,5 +1,5 @@
-//! The outstanding disk commands of a client for one server's files. `docs/PROTOCOL.md`, "Leases, locks, pages
-//! and commands", has the rules.
+//! The outstanding disk commands of a client for one server's files.
+//! `docs/PROTOCOL.md`, "Leases, locks, pages and commands", has the rules.
 #![tactic(auto)]
 
 mod flusher;

@@ -1,7 +1,6 @@
 -- What stands in a world of all its servers and clients stands again after every event.
-use Rattle.std.proofs.Common.{◌≡◌, ◌≢◌, ℕ, zero, suc, ◌+◌, ◌<◌, ◌≤◌, ◌⊎◌, Bool, true, false, not, ◌&&◌, ◌==◌, List, [], ◌∷◌, Option, Some, None, Ok, refl, sym, ap, ◌∙◌, subst, inl, inr, arith}
-use Rattle.std.specs.Prelude.{find, length, slice_get, slice_index, get_or, pred, nat_le, unwrap_or}
-use Rattle.std.specs.List.{list_all}
+use Rattle.std.proofs.Common.{◌≡◌, ◌≢◌, ℕ, zero, suc, ◌+◌, ◌<◌, ◌≤◌, ◌⊎◌, true, false, ◌==◌, List, [], ◌∷◌, Option, Some, None, Ok, refl, sym, ap, ◌∙◌, subst, inl, inr, arith}
+use Rattle.std.specs.Prelude.{length, slice_get, slice_index, get_or, pred, nat_le}
 use Rattle.std.specs.Option.{option_or}
 use Rattle.std.proofs.lemmas.Bool.{eqb-true, leb-true}
 use Rattle.st_base.specs.declared.config.Config as base
@@ -24,13 +23,12 @@ use Rattle.st_rules.specs.declared.world.SentMessage.{SentMessage}
 use Rattle.st_rules.specs.Admissible as admissible
 use Rattle.st_rules.specs.Events as ev
 use Rattle.st_rules.specs.Events.{Scene, counted, happens, quiet, with_node, server_says_all, server_takes, world_step}
-use Rattle.st_rules.specs.Keys.{client, server_node}
-use Rattle.st_rules.specs.Safety.{is_no_conflict}
+use Rattle.st_rules.specs.Keys.{server_node}
 use Rattle.st_rules.specs.Server as sv
 use Rattle.st_rules.specs.Server.{ServerNode, crash_node, start_node, is_client_node}
 use Rattle.st_rules.specs.World as world
 use Rattle.st_rules.specs.World.{World, ClientSite, clock_of, ended_of, is_life_of, is_running, message_of, node_of, node_runs, numbered, receiver_of, server, site_of, with_numbered}
-use Rattle.st_assoc.specs.Assoc.{Config, Config_ok, In, Msg}
+use Rattle.st_assoc.specs.Assoc.{Config, In, Msg}
 use Rattle.st_lemmas.specs.Lists.{Has}
 use Rattle.st_lemmas.proofs.Lookups.{some_is}
 use Rattle.st_lemmas.proofs.Numbers.{numbered_below, numbered_other, numbered_own}
@@ -44,10 +42,10 @@ use Rattle.st_laws_client.proofs.Goes.{kept_any}
 use Rattle.st_laws_server.specs.Edits.{Wish_input}
 use Rattle.st_laws_server.specs.Law.{started_ghosts}
 use Rattle.st_laws_server.specs.Pair.{Ended_by, Timed, terms_of, drift_between, life_now}
-use Rattle.st_laws_server.specs.Stands.{Calm, Few, Settings, Stands}
+use Rattle.st_laws_server.specs.Stands.{Settings, Stands}
 use Rattle.st_laws_server.proofs.Calm.{calm_crash, calm_start}
 use Rattle.st_laws_server.proofs.Counts.{all_bytes, few_crash, few_more, few_start}
-use Rattle.st_laws_server.proofs.Delivery.{Clients_same, Same_parts, all_messages, all_parts, delivery_is, message_has, not_client, takes_is, tick_is, to_server}
+use Rattle.st_laws_server.proofs.Delivery.{Same_parts, all_messages, all_parts, delivery_is, message_has, not_client, takes_is, tick_is, to_server}
 use Rattle.st_laws_server.proofs.Fold.{crash_is, start_is}
 use Rattle.st_laws_server.proofs.Laws.{advances_keep, crashes_keep, starts_keep}
 use Rattle.st_laws_server.proofs.Outputs.{all_has, step_outs}
@@ -59,7 +57,7 @@ use Rattle.st_laws.specs.World.{AllStand, Is_full, Server_stands, There}
 use Rattle.st_laws.proofs.Clients.{fine_from}
 use Rattle.st_laws.proofs.Fold.{law, not_false, not_stands, second_none}
 use Rattle.st_laws.proofs.Pairs.{length_set}
-use Rattle.st_laws.proofs.Unseen.{other_server, unseen}
+use Rattle.st_laws.proofs.Unseen.{unseen}
 
 -- A number within a list has an item.
 get_is : {A : Type 0} (xs : List A) (n : ℕ) → n < length xs → (x : A) × (slice_get xs n ≡ Some x)
@@ -126,16 +124,16 @@ both_on k s w v node next ended G H clients over grows b st =
     }
 
 -- From a refusal that does not stand.
-first_none : (o p : Option WorldRefusal) → option_or o p ≡ None → o ≡ None
+pub first_none : (o p : Option WorldRefusal) → option_or o p ≡ None → o ≡ None
 first_none None p e = refl
 first_none (Some x) p e = cc
 
-running_node : (o : Option ServerNode) → node_runs o ≡ true → (node : ServerNode) × (o ≡ Some node) × (node.running ≡ true)
+pub running_node : (o : Option ServerNode) → node_runs o ≡ true → (node : ServerNode) × (o ≡ Some node) × (node.running ≡ true)
 running_node None e = cc
 running_node (Some node) e = (node, refl, e)
 
 -- a message that is delivered is there
-message_there : (w : World) (n : ℕ) → message_of w n ≡ None → admissible.refusal w (events.Deliver n) ≡ None → ⊥
+pub message_there : (w : World) (n : ℕ) → message_of w n ≡ None → admissible.refusal w (events.Deliver n) ≡ None → ⊥
 unfolding admissible.refusal admissible.refused_delivery
 message_there w n e r = no (sym (ap (admissible.refused_delivery w n) e) ∙ r)
   where
@@ -147,7 +145,7 @@ counted_refusal : (w : World) (e : Event) → admissible.refusal w e ≡ None �
 unfolding admissible.refusal admissible.refused_delivery admissible.clocks_refused admissible.flush_missed admissible.refused_effect admissible.refused_report world.node_of_place admissible.missed_by
 counted_refusal w e r = r
 
-module _ (k : Config) (w : World) (a : AllStand k w) where
+module _ (k : Config) (count : ℕ) (w : World) (a : AllStand k count w) where
   -- each grant has a mode
   modes : Grants_have_modes w
   modes m h x e =
@@ -156,7 +154,7 @@ module _ (k : Config) (w : World) (a : AllStand k w) where
       fine_from k x.0 w t.node z.ended z.ghosts m.message.header.to m a.sound z.both h e refl
 
   -- the settings are those of each client, and no life has ended of what is no client
-  settings : Settings k w
+  pub settings : Settings k w
   settings =
       record {
         lease = λ c site e. ap (λ (kb : base.Config). kb.lease) (a.lives.lives.sites c site e).config ∙ sym (ap (λ (z : Config). z.lease) a.terms);
@@ -173,11 +171,11 @@ module _ (k : Config) (w : World) (a : AllStand k w) where
           let y = a.lives.lives.ends x z.1 in
           absurd (no y.site (sym e ∙ ap (numbered w.clients) (sym (eqb-true x.client.0 c.0 (and_true (x.client.0 == c.0) _ z.0).0)) ∙ y.there))
 
-  positive : (s : ℕ) (node : ServerNode) → node_of w (server s) ≡ Some node → 1 ≤ s
+  pub positive : (s : ℕ) (node : ServerNode) → node_of w (server s) ≡ Some node → 1 ≤ s
   positive s node e = (numbered_below w.servers s node e).0
 
   -- An event of a client, or one that no node takes part in.
-  by_client : (e : Event) → Client_event w e → world_step w e ≡ Ok (happens (counted w) e) → LivesHold (happens (counted w) e).world → AllStand k (happens (counted w) e).world
+  by_client : (e : Event) → Client_event w e → world_step w e ≡ Ok (happens (counted w) e) → LivesHold (happens (counted w) e).world → AllStand k count (happens (counted w) e).world
   by_client e kind taken lives =
       record {
         terms = a.terms ∙ (λ j. terms_of (sym left.config j));
@@ -185,6 +183,7 @@ module _ (k : Config) (w : World) (a : AllStand k w) where
         waits = a.waits;
         lives = lives;
         clocks = (λ j. length (left.clocks j)) ∙ a.clocks ∙ (λ j. sym left.many j + length (sym left.servers j));
+        nodes = (λ j. length (left.clocks j)) ∙ a.nodes;
         first = there (server 1) a.first;
         senders = λ m h x f. sender m x f (left.messages m h);
         servers = λ s node f. one s node (ap (λ xs. numbered xs s) (sym left.servers) ∙ f);
@@ -234,7 +233,7 @@ module _ (k : Config) (w : World) (a : AllStand k w) where
     pub messages : (m : SentMessage) → Has m v.net.messages → Has m w.net.messages ⊎ (m.message.header.from ≡ 32768 + t)
     pub own : Server_stands k v t next
 
-  by_server : (t : ℕ) (v : World) → LivesHold v → Server_event t v → AllStand k v
+  by_server : (t : ℕ) (v : World) → LivesHold v → Server_event t v → AllStand k count v
   by_server t v lives q =
       record {
         terms = a.terms ∙ (λ j. terms_of (sym q.config j));
@@ -242,6 +241,7 @@ module _ (k : Config) (w : World) (a : AllStand k w) where
         waits = a.waits;
         lives = lives;
         clocks = (λ j. length (q.clocks j)) ∙ a.clocks ∙ (λ j. length (sym q.clients j) + sym many j);
+        nodes = (λ j. length (q.clocks j)) ∙ a.nodes;
         first = there (server 1) a.first;
         senders = λ m h x f. sender m x f (q.messages m h);
         servers = λ s node f. each s node f (same_or_not s t);
@@ -363,7 +363,7 @@ module _ (k : Config) (w : World) (a : AllStand k w) where
 
   -- a tick of a server
   server_ticks : (t : ℕ) (sc : Scene) → LivesHold sc.world → admissible.refusal w (events.Tick (nodes.Server (server t))) ≡ None → sc ≡ happens (counted w) (events.Tick (nodes.Server (server t))) →
-      world_step w (events.Tick (nodes.Server (server t))) ≡ Ok sc → AllStand k sc.world
+      world_step w (events.Tick (nodes.Server (server t))) ≡ Ok sc → AllStand k count sc.world
   unfolding admissible.refusal
   server_ticks t sc lives r is e =
       let n = running_node (node_of w (server t)) (not_false _ (not_stands _ _ (first_none _ _ (second_none _ _ r)))) in
@@ -374,7 +374,7 @@ module _ (k : Config) (w : World) (a : AllStand k w) where
 
   -- a message that is delivered to a server
   server_hears : (n t : ℕ) (m : SentMessage) (sc : Scene) → LivesHold sc.world → admissible.refusal w (events.Deliver n) ≡ None → message_of w n ≡ Some m → receiver_of m ≡ nodes.Server (server t) → sc ≡ happens (counted w) (events.Deliver n) →
-      world_step w (events.Deliver n) ≡ Ok sc → AllStand k sc.world
+      world_step w (events.Deliver n) ≡ Ok sc → AllStand k count sc.world
   unfolding admissible.refusal admissible.refused_delivery
   server_hears n t m sc lives r em er is e =
       let q = subst (λ o. admissible.refused_delivery w n o ≡ None) em r in
@@ -408,17 +408,17 @@ module _ (k : Config) (w : World) (a : AllStand k w) where
   many_placed t next = length_set w.servers (pred t) next
 
   server_stops : (t : ℕ) (sc : Scene) → LivesHold sc.world → admissible.refusal w (events.Crash (nodes.Server (server t))) ≡ None → sc ≡ happens (counted w) (events.Crash (nodes.Server (server t))) →
-      world_step w (events.Crash (nodes.Server (server t))) ≡ Ok sc → AllStand k sc.world
+      world_step w (events.Crash (nodes.Server (server t))) ≡ Ok sc → AllStand k count sc.world
   unfolding admissible.refusal
   server_stops t sc lives r is e = go (running_node (node_of w (server t)) (not_false _ (not_stands _ _ (second_none _ _ r))))
     where
-      go : (node : ServerNode) × (node_of w (server t) ≡ Some node) × (node.running ≡ true) → AllStand k sc.world
+      go : (node : ServerNode) × (node_of w (server t) ≡ Some node) × (node.running ≡ true) → AllStand k count sc.world
       go (node, at, runs) =
           let z = a.servers t node at in
           let now : sc ≡ quiet (with_node (server t) (crash_node node) (counted w)) = is ∙ crash_is w t node at in
           let st : Stands k t z.ended sc.world (crash_node node) z.ghosts = crashes_keep k t z.ended w sc node z.ghosts runs z.few e z.both.stands in
           let v : World = with_node (server t) (crash_node node) (counted w) in
-          subst (λ (x : Scene). AllStand k x.world) (sym now)
+          subst (λ (x : Scene). AllStand k count x.world) (sym now)
           (by_server t v (subst (λ (x : Scene). LivesHold x.world) now lives)
           (placed t node (crash_node node) at
           (record {
@@ -431,7 +431,7 @@ module _ (k : Config) (w : World) (a : AllStand k w) where
           })))
 
   server_starts : (t : ℕ) (sc : Scene) → LivesHold sc.world → admissible.refusal w (events.Start (nodes.Server (server t))) ≡ None → sc ≡ happens (counted w) (events.Start (nodes.Server (server t))) →
-      world_step w (events.Start (nodes.Server (server t))) ≡ Ok sc → AllStand k sc.world
+      world_step w (events.Start (nodes.Server (server t))) ≡ Ok sc → AllStand k count sc.world
   unfolding admissible.refusal
   server_starts t sc lives r is e =
       let known = not_false _ (not_stands _ _ (first_none _ _ r)) in
@@ -439,7 +439,7 @@ module _ (k : Config) (w : World) (a : AllStand k w) where
       let n = numbered_is w.servers t (leb-true 1 t y.0) (leb-true t (length w.servers) y.1) in
       go n.0 n.1 (not_stands _ _ (second_none _ _ r))
     where
-      go : (node : ServerNode) → node_of w (server t) ≡ Some node → is_running w (nodes.Server (server t)) ≡ false → AllStand k sc.world
+      go : (node : ServerNode) → node_of w (server t) ≡ Some node → is_running w (nodes.Server (server t)) ≡ false → AllStand k count sc.world
       go node at off =
           let z = a.servers t node at in
           let now_ : Stamp = clock_of w (nodes.Server (server t)) in
@@ -449,7 +449,7 @@ module _ (k : Config) (w : World) (a : AllStand k w) where
           let H : ℕ → Ghost = started_ghosts t z.ended w z.ghosts in
           let st : Stands k t z.ended sc.world next H = starts_keep k t z.ended w sc node z.ghosts a.waits down e z.both.stands in
           let v : World = with_node (server t) next (counted w) in
-          subst (λ (x : Scene). AllStand k x.world) (sym now)
+          subst (λ (x : Scene). AllStand k count x.world) (sym now)
           (by_server t v (subst (λ (x : Scene). LivesHold x.world) now lives)
           (placed t node next at
           (record {
@@ -463,7 +463,7 @@ module _ (k : Config) (w : World) (a : AllStand k w) where
 
   -- time passes
   passes : (steps : List ℕ) → length steps ≡ length w.clocks → LivesHold (happens (counted w) (events.Advance steps)).world → world_step w (events.Advance steps) ≡ Ok (happens (counted w) (events.Advance steps)) →
-      AllStand k (happens (counted w) (events.Advance steps)).world
+      AllStand k count (happens (counted w) (events.Advance steps)).world
   unfolding happens ev.advances ev.marks
   passes steps full lives e =
       record {
@@ -472,6 +472,7 @@ module _ (k : Config) (w : World) (a : AllStand k w) where
         waits = a.waits;
         lives = lives;
         clocks = (each 1 a.first.node a.first.is).timed.count;
+        nodes = (each 1 a.first.node a.first.is).timed.count ∙ sym a.clocks ∙ a.nodes;
         first = record { node = a.first.node; is = a.first.is };
         senders = λ m h x f. let t = a.senders m h x f in record { node = t.node; is = t.is };
         servers = each;
@@ -494,17 +495,17 @@ module _ (k : Config) (w : World) (a : AllStand k w) where
           }
 
   -- Every event.
-  pub happens_all : (e : Event) → Is_full w e → admissible.refusal w e ≡ None → LivesHold (happens (counted w) e).world → world_step w e ≡ Ok (happens (counted w) e) → AllStand k (happens (counted w) e).world
+  pub happens_all : (e : Event) → Is_full w e → admissible.refusal w e ≡ None → LivesHold (happens (counted w) e).world → world_step w e ≡ Ok (happens (counted w) e) → AllStand k count (happens (counted w) e).world
   happens_all (events.Tick (nodes.Client c)) full r lives e = by_client _ (By_tick c.0 refl) e lives
   happens_all (events.Tick (nodes.Server s)) full r lives e = server_ticks s.0 _ lives r refl e
   happens_all (events.App c ask) full r lives e = by_client _ (By_ask c.0 ask refl) e lives
   happens_all (events.Deliver n) full r lives e = go (message_of w n) refl
     where
-      to : (m : SentMessage) → message_of w n ≡ Some m → (d : NodeId) → receiver_of m ≡ d → AllStand k (happens (counted w) (events.Deliver n)).world
+      to : (m : SentMessage) → message_of w n ≡ Some m → (d : NodeId) → receiver_of m ≡ d → AllStand k count (happens (counted w) (events.Deliver n)).world
       to m q (nodes.Client c) f = by_client _ (By_message c.0 n m refl q f) e lives
       to m q (nodes.Server s) f = server_hears n s.0 m _ lives r q f refl e
 
-      go : (o : Option SentMessage) → message_of w n ≡ o → AllStand k (happens (counted w) (events.Deliver n)).world
+      go : (o : Option SentMessage) → message_of w n ≡ o → AllStand k count (happens (counted w) (events.Deliver n)).world
       go None q = absurd (message_there w n q r)
       go (Some m) q = to m q (receiver_of m) refl
   happens_all (events.Lose n) full r lives e = by_client _ (By_loss n refl) e lives
@@ -523,9 +524,9 @@ counted_lives : (w : World) → LivesHold w → LivesHold (counted w)
 counted_lives w h = record { lives = h.lives; known = h.known }
 
 -- all stands after an event that the world takes
-pub stays : (k : Config) (w : World) (e : Event) (sc : Scene) → AllStand k w → Is_full w e → world_step w e ≡ Ok sc → AllStand k sc.world
-stays k w e sc a full h =
+pub stays : (k : Config) (count : ℕ) (w : World) (e : Event) (sc : Scene) → AllStand k count w → Is_full w e → world_step w e ≡ Ok sc → AllStand k count sc.world
+stays k count w e sc a full h =
     let p = step_happens w e sc h in
     let e1 : world_step w e ≡ Ok (happens (counted w) e) = h ∙ ap (λ (x : Scene). Ok x) p.1 in
     let refused : admissible.refusal (counted w) e ≡ None = counted_refusal w e p.0 in
-    subst (λ (x : Scene). AllStand k x.world) (sym p.1) (happens_all k w a e full p.0 (happens_lives (counted w) e refused (counted_lives w a.lives)) e1)
+    subst (λ (x : Scene). AllStand k count x.world) (sym p.1) (happens_all k count w a e full p.0 (happens_lives (counted w) e refused (counted_lives w a.lives)) e1)

@@ -1,5 +1,5 @@
 -- The client's half of the fold over events.
-use Rattle.std.proofs.Common.{◌≡◌, ℕ, ◌≤◌, arith, Bool, true, false, not, Option, Some, None, Ok, Err, refl, sym, ap, ◌∙◌, subst, inl, if◌then◌else◌}
+use Rattle.std.proofs.Common.{◌≡◌, ℕ, arith, Bool, true, false, not, Option, Some, None, Ok, Err, refl, sym, ap, ◌∙◌, subst, inl, if◌then◌else◌}
 use Rattle.st_base.specs.declared.ids.NodeId.TheVariants as nodes
 use Rattle.st_messages.specs.declared.ask.Ask.{Ask}
 use Rattle.st_rules.specs.declared.client.ClientInput.{ClientInput}

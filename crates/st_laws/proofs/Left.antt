@@ -1,5 +1,5 @@
 -- What a client's outputs and its flush steps leave of the world: how far the clocks drifted; and no byte of the messages goes.
-use Rattle.std.proofs.Common.{◌≡◌, ℕ, ◌+◌, ◌≤◌, ◌⊎◌, List, [], ◌∷◌, Option, Some, None, refl, ◌∙◌, subst, inl, inr, arith}
+use Rattle.std.proofs.Common.{◌≡◌, ◌≤◌, ◌⊎◌, List, [], ◌∷◌, Option, Some, None, refl, ◌∙◌, subst, inl, inr, arith}
 use Rattle.std.specs.Prelude.{length, pred}
 use Rattle.st_base.specs.declared.ids.ClientId.{ClientId}
 use Rattle.st_base.specs.declared.ids.ServerId.{ServerId}

@@ -5,3 +5,7 @@ pub mod Unseen
 pub mod Crashes
 pub mod Fold
 pub mod Everywhere
+pub mod Beginning
+pub mod Calmly
+pub mod Promised
+pub mod Runs

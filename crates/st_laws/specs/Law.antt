@@ -1,5 +1,7 @@
--- The client's half of the fold over events: what stands of a server and all its clients stands again after each event of a client.
-use Rattle.std.specs.Prelude.{◌≡◌, Bool, ℕ, Some, Ok}
+-- The fold over events: what stands of a server and all its clients stands again after each event of a client, and all stands in every run.
+use Rattle.std.specs.Prelude.{◌≡◌, ◌+◌, Bool, true, ℕ, List, [], Some, Ok}
+use Rattle.std.specs.List.{list_all}
+use Rattle.st_base.specs.declared.config.Config as base
 use Rattle.st_base.specs.declared.ids.NodeId.{NodeId}
 use Rattle.st_base.specs.declared.ids.NodeId.TheVariants as nodes
 use Rattle.st_messages.specs.declared.ask.Ask.{Ask}
@@ -8,11 +10,15 @@ use Rattle.st_messages.specs.declared.event.Event.TheVariants as events
 use Rattle.st_rules.specs.declared.world.SentMessage.{SentMessage}
 use Rattle.st_rules.specs.Keys.{client}
 use Rattle.st_rules.specs.Server.{ServerNode}
-use Rattle.st_rules.specs.World.{World, message_of, receiver_of}
+use Rattle.st_rules.specs.World.{World, fresh_world, message_of, receiver_of}
 use Rattle.st_rules.specs.Events.{Scene, world_step}
+use Rattle.st_rules.specs.History.{traced}
+use Rattle.st_rules.specs.Safety.{IsHead, Throughout, is_event, steps}
 use Rattle.st_assoc.specs.Assoc.{Config}
+use Rattle.st_laws_server.specs.Pair.{terms_of}
 use Rattle.st_views.specs.Halves.{Ghost}
 use Rattle.st_laws.specs.Stands.{Both, Both_after, Grants_have_modes}
+use Rattle.st_laws.specs.World.{AllStand}
 
 -- an event of a client, or one that no node takes part in
 pub data Client_event (w : World) (e : Event) : Type 0 where
@@ -32,3 +38,10 @@ abbrev pub Client_events_keep : Type 0
 Client_events_keep =
     (k : Config) (s : ℕ) (w : World) (node : ServerNode) (ended : ℕ → ℕ → ℕ) (G : ℕ → Ghost) (e : Event) (sc : Scene) →
     Both k s w node ended G → Grants_have_modes w → Client_event w e → world_step w e ≡ Ok sc → Both_after k s w sc.world node G
+
+-- All stands behind every event of every run from the world of a head.
+abbrev pub Runs_stand : Type 0
+Runs_stand =
+    (k : base.Config) (clients servers disks blocks form : ℕ) (es : List Event) → IsHead k clients servers disks blocks form →
+    list_all (is_event (clients + servers)) es ≡ true →
+    Throughout (λ past x. AllStand (terms_of k) (clients + servers) x.after.world) [] (steps es (traced (fresh_world k clients servers disks blocks form)))

@@ -1,3 +1,3 @@
 pub mod Stands
-pub mod Law
 pub mod World
+pub mod Law

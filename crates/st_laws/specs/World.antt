@@ -30,14 +30,15 @@ pub record There (w : World) (s : ServerId) : Type 0 where
   pub node : ServerNode
   pub is : node_of w s ≡ Some node
 
--- What stands in a world: the settings are the machine's, the lives are as they are to be, a message of a server is of one that is
+-- What stands in a world of this number of nodes: the settings are the machine's, the lives are as they are to be, a message of a server is of one that is
 -- there, and all stands of each server.
-pub record AllStand (k : Config) (w : World) : Type 0 where
+pub record AllStand (k : Config) (count : ℕ) (w : World) : Type 0 where
   pub terms : k ≡ terms_of w.config
   pub sound : Config_ok k
   pub waits : 0 < k.wait
   pub lives : LivesHold w
   pub clocks : length w.clocks ≡ length w.clients + length w.servers
+  pub nodes : length w.clocks ≡ count
   pub first : There w (server 1)
   pub senders : (m : SentMessage) → Has m w.net.messages → (x : ServerId) → m.message.header.from ≡ server_node x → There w x
   pub servers : (s : ℕ) (node : ServerNode) → node_of w (server s) ≡ Some node → Server_stands k w s node

@@ -14,7 +14,6 @@ use Rattle.st_lemmas.specs.Lists.{Has}
 use Rattle.st_lemmas.proofs.Lookups.{some_is}
 use Rattle.st_laws_pages.specs.Losses.{is_ended}
 use Rattle.st_laws_pages.specs.Lives.{lost_row, row_lost, rows_lost, Pairwise, Once, server_number}
-use Rattle.st_laws_pages.proofs.Clash.{clash}
 
 pub has_number : (al : List Association) (a : Association) → Has a al → Has (server_number a) (map server_number al)
 has_number [] a h = h

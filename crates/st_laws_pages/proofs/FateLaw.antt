@@ -1,6 +1,6 @@
--- What is pending is of a life before its lease end: every event keeps it, with no premise.
-use Rattle.std.proofs.Common.{◌≡◌, ◌≢◌, ℕ, ◌+◌, ◌⊎◌, Bool, true, false, ◌&&◌, List, [], ◌∷◌, ◌++◌, ◌==◌, Option, Some, None, Ok, Err, refl, sym, ap, ◌∙◌, subst, inl, inr, if◌then◌else◌}
-use Rattle.std.specs.Prelude.{Result, find, map, nat_le, zero, suc, slice_get, option_map}
+-- What is pending is of a life before its lease end: through a step of a client, marks of the log, a crash and a start.
+use Rattle.std.proofs.Common.{◌≡◌, ◌≢◌, ℕ, ◌+◌, ◌⊎◌, Bool, true, false, ◌&&◌, List, [], ◌∷◌, ◌++◌, ◌==◌, Option, Some, None, Ok, refl, sym, ap, ◌∙◌, subst, inl, inr, if◌then◌else◌}
+use Rattle.std.specs.Prelude.{find, map, nat_le, zero, suc, slice_get, option_map}
 use Rattle.std.proofs.lemmas.Bool.{eq-eqb, ne_eqb}
 use Rattle.st_base.specs.declared.ids.ClientId.{ClientId}
 use Rattle.st_base.specs.declared.ids.FileId.{FileId}
@@ -8,41 +8,22 @@ use Rattle.st_base.specs.declared.ids.PageNo.{PageNo}
 use Rattle.st_base.specs.declared.ids.ServerId.{ServerId}
 use Rattle.st_base.specs.declared.ids.Life.{Life}
 use Rattle.st_base.specs.declared.ids.Stamp.{Stamp}
-use Rattle.st_base.specs.declared.ids.NodeId.{NodeId}
 use Rattle.st_base.specs.declared.ids.NodeId.TheVariants as nodes
-use Rattle.st_messages.specs.declared.message.Message.{Message}
-use Rattle.st_messages.specs.declared.event.Event.{Event}
-use Rattle.st_messages.specs.declared.event.Event.TheVariants as events
-use Rattle.st_messages.specs.declared.output.Note.{Note}
-use Rattle.st_messages.specs.declared.output.Note.TheVariants as notes
-use Rattle.st_messages.specs.declared.output.Output.{Output}
-use Rattle.st_messages.specs.declared.output.Output.TheVariants as outputs
 use Rattle.st_rules.specs.declared.client.ClientInput.{ClientInput}
-use Rattle.st_rules.specs.declared.client.ClientInput.TheVariants as inputs
-use Rattle.st_rules.specs.declared.input.ServerInput.{ServerInput}
 use Rattle.st_rules.specs.declared.log.Cause.{Cause}
-use Rattle.st_rules.specs.declared.log.Cause.TheVariants as causes
 use Rattle.st_rules.specs.declared.log.Fate.{Fate}
 use Rattle.st_rules.specs.declared.log.Fate.TheVariants as fates
 use Rattle.st_rules.specs.declared.log.LogEntry.{LogEntry}
 use Rattle.st_rules.specs.declared.log.LogOwner.{LogOwner}
-use Rattle.st_rules.specs.declared.node.StepRefusal.{StepRefusal}
-use Rattle.st_rules.specs.declared.node.StepRefusal.TheVariants.{Crashed}
 use Rattle.st_rules.specs.declared.world.Carried.{Carried}
-use Rattle.st_rules.specs.declared.world.IssuedCommand.{IssuedCommand}
 use Rattle.st_rules.specs.declared.world.LeaseLife.{LeaseLife}
-use Rattle.st_rules.specs.declared.world.SentMessage.{SentMessage}
 use Rattle.st_rules.specs.Keys.{same_client, same_server}
 use Rattle.st_rules.specs.FlatLog as log
-use Rattle.st_rules.specs.Disks as disks
-use Rattle.st_rules.specs.Server as server
-use Rattle.st_rules.specs.Server.{ServerNode}
 use Rattle.st_rules.specs.Client as cl
 use Rattle.st_rules.specs.ClientLease as lease
 use Rattle.st_rules.specs.ClientState.{Association, is_at}
 use Rattle.st_rules.specs.World as world
 use Rattle.st_rules.specs.World.{World, ClientSite, numbered, with_numbered, site_of, node_of, issued_of, clock_of, is_life_of, ended_of, end_or_present, lease_end_of, life_of_association, lives_of}
-use Rattle.st_rules.specs.Admissible as adm
 use Rattle.st_rules.specs.Events as ev
 use Rattle.st_rules.specs.Events.{Scene, client_says_all, present_lives}
 use Rattle.st_lemmas.specs.Lists.{Has}
@@ -53,18 +34,18 @@ use Rattle.st_laws_pages.specs.Fates.{Pending_all, Before_end, Fates_hold, Row_o
 use Rattle.st_laws_pages.specs.Lives.{ended_rows, Stepped, clock_in, Is_known, Node_holds, owner_of, LivesHold}
 use Rattle.st_laws_pages.specs.Notes.{Notes_all, Is_changed_at}
 use Rattle.st_laws_pages.proofs.Lives.{find_front, find_back, rows_own, rows_other}
-use Rattle.st_laws_pages.proofs.Fates.{pending_map, advance_fates}
+use Rattle.st_laws_pages.proofs.Fates.{pending_map}
 use Rattle.st_laws_pages.proofs.Associations.{found_has}
 use Rattle.st_laws_pages.proofs.Living.{row_is}
 use Rattle.st_laws_pages.proofs.Dirtying.{notes_map}
 use Rattle.st_laws_pages.proofs.Noting.{step_notes}
 use Rattle.st_laws_pages.proofs.Turning.{Said, says_lives, client_lives}
 use Rattle.st_laws_pages.proofs.Lasting.{Flushed, flush_parts, no_option}
-use Rattle.st_laws_pages.proofs.LifeSteps.{steps_so, stopped_is}
-use Rattle.st_laws_pages.proofs.FateSteps.{still_before, changed_before, pending_more, says_pending}
+use Rattle.st_laws_pages.proofs.LifeSteps.{steps_so}
+use Rattle.st_laws_pages.proofs.FateSteps.{still_before, changed_before, says_pending}
 
 -- A client's step.
-client_fates : (w : World) (c : ClientId) (old site : ClientSite) (input : ClientInput) → site_of w c ≡ Some old → old.node ≡ site.node → site.node.running ≡ true → LivesHold w → Fates_hold w →
+pub client_fates : (w : World) (c : ClientId) (old site : ClientSite) (input : ClientInput) → site_of w c ≡ Some old → old.node ≡ site.node → site.node.running ≡ true → LivesHold w → Fates_hold w →
     Fates_hold (ev.client_took w c site (Ok (cl.node_turn site.node (cl.client_step site.node.state (clock_of w (nodes.Client c)) input)))).world
 unfolding ev.client_took
 client_fates w c old site input there same r h fh = subst (Pending_all (Before_end v)) (sym fl.log) (says_pending (Before_end v) c site.node.state (λ s. ev.present_life v0 c s) t.out (ev.quiet v0) (λ s. refl) new (pending_map (Before_end w) (Before_end v) w.log old_ones fh))
@@ -119,48 +100,6 @@ client_fates w c old site input there same r h fh = subst (Pending_all (Before_e
         (changed_before v c now_site now own r lives (ap (λ x. clock_in x c) (fl.clocks ∙ said.clocks)) f p (subst (λ k. Is_changed_at k now t.node.state.associations f p) config z))) t.out
         (step_notes c site.node.state now input (subst (λ (n : cl.ClientNode). (a : Association) → Has a n.state.associations → Rattle.st_laws_pages.specs.Losses.Fit a) same (h.lives.sites c old there).fit))
 
-takes_fates : (w : World) (c : ClientId) (input : ClientInput) (old site : ClientSite) → site_of w c ≡ Some old → old.node ≡ site.node → LivesHold w → Fates_hold w → Fates_hold (ev.client_takes w c input site).world
-unfolding cl.node_step ev.client_takes ev.client_took
-takes_fates w c input old site there same h f = go site.node.running refl
-  where
-    t : cl.NodeTurn
-    t = cl.node_turn site.node (cl.client_step site.node.state (clock_of w (nodes.Client c)) input)
-
-    go : (b : Bool) → site.node.running ≡ b → Fates_hold (ev.client_took w c site (if b then Ok t else Err Crashed)).world
-    go true r = client_fates w c old site input there same r h f
-    go false r = f
-
-at_client_fates : (w : World) (c : ClientId) (input : ClientInput) (o : Option ClientSite) → site_of w c ≡ o → LivesHold w → Fates_hold w → Fates_hold (ev.at_client w c input o).world
-unfolding ev.at_client
-at_client_fates w c input None e h f = f
-at_client_fates w c input (Some site) e h f = takes_fates w c input site site e refl h f
-
--- A server's step: a cut is hard.
-server_one : (s : ServerId) (o : Output) (sc : Scene) → Fates_hold sc.world → Fates_hold (ev.server_says sc s o).world
-unfolding ev.server_says ev.server_notes ev.cuts ev.sends log.cut
-server_one s (outputs.Note n) sc h = noted n
-  where
-    noted : (n : Note) → Fates_hold (ev.server_notes sc s n).world
-    noted (notes.CutDone f p) = pending_more (Before_end _) sc.world.log _ (λ q. cc q) (pending_map (Before_end sc.world) (Before_end _) sc.world.log (λ o b. record { end = b.end; is = b.is; before = b.before }) h)
-    noted (notes.Stolen c life) = pending_map (Before_end sc.world) (Before_end _) sc.world.log (λ o b. record { end = b.end; is = b.is; before = b.before }) h
-    noted n = h
-server_one s (outputs.Send m) sc h = pending_map (Before_end sc.world) (Before_end _) sc.world.log (λ o b. record { end = b.end; is = b.is; before = b.before }) h
-server_one s o sc h = h
-
-server_says_fates : (s : ServerId) (os : List Output) (sc : Scene) → Fates_hold sc.world → Fates_hold (ev.server_says_all s os sc).world
-unfolding ev.server_says_all
-server_says_fates s [] sc h = h
-server_says_fates s (o ∷ os) sc h = server_says_fates s os (ev.server_says sc s o) (server_one s o sc h)
-
-at_server_fates : (w : World) (s : ServerId) (input : ServerInput) (o : Option ServerNode) → Fates_hold w → Fates_hold (ev.at_server w s input o).world
-unfolding ev.at_server ev.server_takes ev.server_took
-at_server_fates w s input None h = h
-at_server_fates w s input (Some node) h = go (server.node_step node (clock_of w (nodes.Server s)) input)
-  where
-    go : (r : Result server.NodeTurn StepRefusal) → Fates_hold (ev.server_took w s r).world
-    go (Err e) = h
-    go (Ok t) = server_says_fates s t.out (ev.quiet (ev.with_node s t.node w)) (pending_map (Before_end w) (Before_end (ev.with_node s t.node w)) w.log (λ o b. record { end = b.end; is = b.is; before = b.before }) h)
-
 -- Effects: what becomes hard is pending no more.
 pub pending_harden : (P : LogOwner → Type 0) (n i : ℕ) (o : LogOwner) (es : List LogEntry) → Pending_all P es → Pending_all P (log.harden_from n i o es)
 unfolding log.harden_from log.hardened log.harder_entry
@@ -201,7 +140,7 @@ pending_fewer P n picked cause (e ∷ es) h = go (picked n e.of) (pending_fewer 
     go false r = record { one = h.one; rest = r }
 
 -- Crash: the client's lives end with the ends that they had.
-crash_before : (w : World) (c : ClientId) (site : ClientSite) → site_of w c ≡ Some site → LivesHold w → (o : LogOwner) → Is_known w.clients w.ended o.client o.file.server o.life → Before_end w o → Before_end (ev.with_site c (ev.stopped_site site) (ev.with_crashed_lives site w)) o
+pub crash_before : (w : World) (c : ClientId) (site : ClientSite) → site_of w c ≡ Some site → LivesHold w → (o : LogOwner) → Is_known w.clients w.ended o.client o.file.server o.life → Before_end w o → Before_end (ev.with_site c (ev.stopped_site site) (ev.with_crashed_lives site w)) o
 crash_before w c site there h o kn b = go (ended_of w o.client o.file.server o.life) refl (same_or_not o.client.0 c.0)
   where
     v : World
@@ -252,7 +191,7 @@ crash_before w c site there h o kn b = go (ended_of w o.client o.file.server o.l
         }
 
 -- Start: what is pending of a client that does not run is of lives that ended.
-start_before : (w : World) (c : ClientId) (site : ClientSite) → site_of w c ≡ Some site → site.node.running ≡ false → LivesHold w → (o : LogOwner) → Before_end w o → Before_end (ev.with_site c (ev.started_site site) w) o
+pub start_before : (w : World) (c : ClientId) (site : ClientSite) → site_of w c ≡ Some site → site.node.running ≡ false → LivesHold w → (o : LogOwner) → Before_end w o → Before_end (ev.with_site c (ev.started_site site) w) o
 start_before w c site there r h o b = go (ended_of w o.client o.file.server o.life) refl (same_or_not o.client.0 c.0)
   where
     v : World
@@ -295,7 +234,7 @@ present_in (x ∷ sites) (suc n) site e q i = back (lives_of x.node.state) (pres
     back [] ys i = i
     back (x ∷ xs) ys i = inr (back xs ys i)
 
-row_of : (w : World) → LivesHold w → (o : LogOwner) → Has o (map owner_of w.log) → Before_end w o → Row_of w o
+pub row_of : (w : World) → LivesHold w → (o : LogOwner) → Has o (map owner_of w.log) → Before_end w o → Row_of w o
 row_of w h o i b = go (h.known.owners o i) (ended_of w o.client o.file.server o.life) refl
   where
     in_front : (xs ys : List LeaseLife) (e : LeaseLife) → Rattle.st_laws_pages.specs.Fates.Has e xs → Rattle.st_laws_pages.specs.Fates.Has e (xs ++ ys)
@@ -367,77 +306,3 @@ row_of w h o i b = go (h.known.owners o i) (ended_of w o.client o.file.server o.
     go k (Some e) q = ended e q
     go (inl (e, z)) None q = absurd (no_option e (sym q ∙ z))
     go (inr z) None q = present z q
-
--- Every event.
-pub happens_fates : (w : World) (e : Event) → adm.refusal w e ≡ None → LivesHold w → Fates_hold w → Fates_hold (ev.happens w e).world
-unfolding ev.happens ev.ticks ev.asks_at ev.delivers ev.delivers_to ev.loses_message ev.marks ev.effects ev.reports_of ev.tells ev.tells_client ev.tells_site ev.crashes ev.crashes_client ev.crashes_server ev.starts ev.starts_client ev.starts_server ev.log_crashed log.drop_picked
-happens_fates w (events.Tick (nodes.Client c)) r l h = at_client_fates w c inputs.Tick (site_of w c) refl l h
-happens_fates w (events.Tick (nodes.Server s)) r l h = at_server_fates w s _ (node_of w s) h
-happens_fates w (events.App c ask) r l h = go (site_of w c) refl
-  where
-    go : (o : Option ClientSite) → site_of w c ≡ o → Fates_hold (ev.asks_at w c ask o).world
-    go None e = h
-    go (Some site) e = takes_fates w c (inputs.App (site.asks + 1) ask) site (ev.asked_once_more site) e refl l h
-happens_fates w (events.Deliver k) r l h = go (world.message_of w k)
-  where
-    to : (m : Message) (n : NodeId) → Fates_hold (ev.delivers_to w m n).world
-    to m (nodes.Client c) = at_client_fates w c (inputs.Control m) (site_of w c) refl l h
-    to m (nodes.Server s) = at_server_fates w s _ (node_of w s) h
-
-    go : (m : Option SentMessage) → Fates_hold (ev.delivers w m).world
-    go None = h
-    go (Some m) = to m.message (world.receiver_of m)
-happens_fates w (events.Lose k) r l h = go (world.message_of w k)
-  where
-    go : (m : Option SentMessage) → Fates_hold (ev.loses_message w k m)
-    go None = h
-    go (Some m) = pending_map (Before_end w) (Before_end _) w.log (λ o b. record { end = b.end; is = b.is; before = b.before }) h
-happens_fates w (events.Cut from to) r l h = pending_map (Before_end w) (Before_end _) w.log (λ o b. record { end = b.end; is = b.is; before = b.before }) h
-happens_fates w (events.Heal from to) r l h = pending_map (Before_end w) (Before_end _) w.log (λ o b. record { end = b.end; is = b.is; before = b.before }) h
-happens_fates w (events.Advance steps) r l h = advance_fates w steps (pending_known (Before_end w) (Row_of w) w.log (row_of w l) h) h
-happens_fates w (events.Effect k) r l h = pending_hard (Before_end _) w.log (ev.carried_by (issued_of w k)) (pending_map (Before_end w) (Before_end _) w.log (λ o b. record { end = b.end; is = b.is; before = b.before }) h)
-happens_fates w (events.Report k ok) r l h = go (issued_of w k)
-  where
-    v : World
-    v = ev.with_disks (ev.disks_after w.disks (disks.done w.disks k ok)) w
-
-    g : LivesHold v
-    g = record { lives = l.lives; known = l.known }
-
-    i : Fates_hold v
-    i = pending_map (Before_end w) (Before_end v) w.log (λ o b. record { end = b.end; is = b.is; before = b.before }) h
-
-    same : (x : IssuedCommand) (site : ClientSite) → site_of v x.client ≡ Some site → (b : Bool) → Fates_hold (if b then ev.client_takes v x.client (ev.end_told v k ok x) site else ev.quiet v).world
-    same x site e true = takes_fates v x.client (ev.end_told v k ok x) site site e refl g i
-    same x site e false = i
-
-    told : (x : IssuedCommand) (o : Option ClientSite) → site_of v x.client ≡ o → Fates_hold (ev.tells_client v k ok x o).world
-    told x None e = i
-    told x (Some site) e = same x site e (ev.is_same_instance x site)
-
-    go : (o : Option IssuedCommand) → Fates_hold (ev.tells v k ok o).world
-    go None = i
-    go (Some x) = told x (site_of v x.client) refl
-happens_fates w (events.Crash (nodes.Client c)) r l h = go (site_of w c) refl
-  where
-    go : (o : Option ClientSite) → site_of w c ≡ o → Fates_hold (ev.crashes_client w c o).world
-    go None e = h
-    go (Some site) e =
-        pending_map (Before_end (ev.with_site c (ev.stopped_site site) (ev.with_crashed_lives site w))) (Before_end _) _ (λ o b. record { end = b.end; is = b.is; before = b.before })
-        (pending_fewer (Before_end (ev.with_site c (ev.stopped_site site) (ev.with_crashed_lives site w))) 1 (ev.is_of_crashed w c) (log.always causes.Crash) w.log
-        (pending_known (Before_end w) (Before_end (ev.with_site c (ev.stopped_site site) (ev.with_crashed_lives site w))) w.log (λ o i b. crash_before w c site e l o (l.known.owners o i) b) h))
-happens_fates w (events.Crash (nodes.Server s)) r l h = go (node_of w s)
-  where
-    go : (o : Option ServerNode) → Fates_hold (ev.crashes_server w s o)
-    go None = h
-    go (Some node) = pending_map (Before_end w) (Before_end _) w.log (λ o b. record { end = b.end; is = b.is; before = b.before }) h
-happens_fates w (events.Start (nodes.Client c)) r l h = go (site_of w c) refl
-  where
-    go : (o : Option ClientSite) → site_of w c ≡ o → Fates_hold (ev.starts_client w c o)
-    go None e = h
-    go (Some site) e = pending_map (Before_end w) (Before_end _) w.log (start_before w c site e (stopped_is w c site e r) l) h
-happens_fates w (events.Start (nodes.Server s)) r l h = go (node_of w s)
-  where
-    go : (o : Option ServerNode) → Fates_hold (ev.starts_server w s o)
-    go None = h
-    go (Some node) = pending_map (Before_end w) (Before_end _) w.log (λ o b. record { end = b.end; is = b.is; before = b.before }) h

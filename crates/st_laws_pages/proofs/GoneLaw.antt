@@ -1,5 +1,5 @@
--- What is gone is of a life that a crash ended, or whose lease is over: every event keeps it, with no premise.
-use Rattle.std.proofs.Common.{◌≡◌, ◌≢◌, ℕ, ◌+◌, ◌≤◌, ◌⊎◌, Bool, true, false, ◌&&◌, not, List, [], ◌∷◌, ◌++◌, ◌==◌, Option, Some, None, Ok, Err, refl, sym, ap, ◌∙◌, subst, inl, inr, arith, if◌then◌else◌, leb-true}
+-- What is gone is of a life that a crash ended, or whose lease is over: through a step of a client, marks of the log, a crash and a start.
+use Rattle.std.proofs.Common.{◌≡◌, ◌≢◌, ℕ, ◌+◌, ◌≤◌, ◌⊎◌, Bool, true, false, ◌&&◌, not, List, [], ◌∷◌, ◌++◌, ◌==◌, Option, Some, None, Ok, refl, sym, ap, ◌∙◌, subst, inl, inr, arith, if◌then◌else◌, leb-true}
 use Rattle.std.specs.Prelude.{Result, find, filter, map, nat_le, unwrap_or, zero, suc, slice_get, option_map}
 use Rattle.std.proofs.lemmas.Bool.{eqb-true, ne_eqb, le-leb}
 use Rattle.st_base.specs.declared.ids.ClientId.{ClientId}
@@ -8,35 +8,22 @@ use Rattle.st_base.specs.declared.ids.PageNo.{PageNo}
 use Rattle.st_base.specs.declared.ids.ServerId.{ServerId}
 use Rattle.st_base.specs.declared.ids.Life.{Life}
 use Rattle.st_base.specs.declared.ids.Stamp.{Stamp}
-use Rattle.st_base.specs.declared.ids.NodeId.{NodeId}
 use Rattle.st_base.specs.declared.ids.NodeId.TheVariants as nodes
-use Rattle.st_messages.specs.declared.message.Message.{Message}
-use Rattle.st_messages.specs.declared.event.Event.{Event}
-use Rattle.st_messages.specs.declared.event.Event.TheVariants as events
 use Rattle.st_messages.specs.declared.output.Note.{Note}
 use Rattle.st_messages.specs.declared.output.Note.TheVariants as notes
 use Rattle.st_messages.specs.declared.output.Output.{Output}
 use Rattle.st_messages.specs.declared.output.Output.TheVariants as outputs
-use Rattle.st_rules.specs.declared.client.ClientInput.{ClientInput}
-use Rattle.st_rules.specs.declared.client.ClientInput.TheVariants as inputs
-use Rattle.st_rules.specs.declared.input.ServerInput.{ServerInput}
 use Rattle.st_rules.specs.declared.log.Cause.{Cause}
 use Rattle.st_rules.specs.declared.log.Cause.TheVariants as causes
 use Rattle.st_rules.specs.declared.log.Fate.{Fate}
 use Rattle.st_rules.specs.declared.log.Fate.TheVariants as fates
 use Rattle.st_rules.specs.declared.log.LogEntry.{LogEntry}
 use Rattle.st_rules.specs.declared.log.LogOwner.{LogOwner}
-use Rattle.st_rules.specs.declared.node.StepRefusal.{StepRefusal}
-use Rattle.st_rules.specs.declared.node.StepRefusal.TheVariants.{Crashed}
 use Rattle.st_rules.specs.declared.world.Carried.{Carried}
 use Rattle.st_rules.specs.declared.world.IssuedCommand.{IssuedCommand}
 use Rattle.st_rules.specs.declared.world.LeaseLife.{LeaseLife}
-use Rattle.st_rules.specs.declared.world.SentMessage.{SentMessage}
 use Rattle.st_rules.specs.Keys.{same_client, same_server}
 use Rattle.st_rules.specs.FlatLog as log
-use Rattle.st_rules.specs.Disks as disks
-use Rattle.st_rules.specs.Server as server
-use Rattle.st_rules.specs.Server.{ServerNode}
 use Rattle.st_rules.specs.Client as cl
 use Rattle.st_rules.specs.ClientLease as lease
 use Rattle.st_rules.specs.ClientState.{Association, ClientState, ClientSession, is_at}
@@ -58,7 +45,6 @@ use Rattle.st_laws_pages.proofs.Associations.{found_has, lost_found, lost_other}
 use Rattle.st_laws_pages.proofs.Living.{row_is}
 use Rattle.st_laws_pages.proofs.Turning.{Said, says_lives}
 use Rattle.st_laws_pages.proofs.Lasting.{Flushed, flush_parts, no_option, end_one}
-use Rattle.st_laws_pages.proofs.LifeSteps.{steps_so, stopped_is}
 use Rattle.st_laws_pages.proofs.Clash.{clash}
 
 -- a crash ended the life, or its lease is over
@@ -69,7 +55,7 @@ pub gone_known : (P Q : LogOwner → Type 0) (es : List LogEntry) → ((o : LogO
 gone_known P Q [] f h = h
 gone_known P Q (e ∷ es) f h = record { one = λ q. f e.of (inl refl) (h.one q); rest = gone_known P Q es (λ o i. f o (inr i)) h.rest }
 
-gone_more : (P : LogOwner → Type 0) (es : List LogEntry) (e : LogEntry) → log.counts e.fate ≡ true → Gone_all P es → Gone_all P (es ++ e ∷ [])
+pub gone_more : (P : LogOwner → Type 0) (es : List LogEntry) (e : LogEntry) → log.counts e.fate ≡ true → Gone_all P es → Gone_all P (es ++ e ∷ [])
 gone_more P [] e t h = record { one = λ q. absurd (clash (log.counts e.fate) t q); rest = record {} }
 gone_more P (x ∷ es) e t h = record { one = h.one; rest = gone_more P es e t h.rest }
 
@@ -172,7 +158,7 @@ module _ (w v : World) (c : ClientId) (old site : ClientSite) (there : site_of w
             late = late_now o.client x.end x.late;
           }
 
-client_gone : (w : World) (c : ClientId) (old site : ClientSite) (t : cl.NodeTurn) → site_of w c ≡ Some old → old.node ≡ site.node → Stepped (clock_of w (nodes.Client c)) c old.node.state t.node.state t.out → LivesHold w → Gone_hold w → Gone_hold (ev.client_took w c site (Ok t)).world
+pub client_gone : (w : World) (c : ClientId) (old site : ClientSite) (t : cl.NodeTurn) → site_of w c ≡ Some old → old.node ≡ site.node → Stepped (clock_of w (nodes.Client c)) c old.node.state t.node.state t.out → LivesHold w → Gone_hold w → Gone_hold (ev.client_took w c site (Ok t)).world
 unfolding ev.client_took
 client_gone w c old site t there same st h g =
     subst (Gone_all (Over v)) (sym fl.log)
@@ -195,54 +181,10 @@ client_gone w c old site t there same st h g =
     fl : Flushed u v
     fl = flush_parts c t.node.state (world.all_servers u) u
 
-takes_gone : (w : World) (c : ClientId) (input : ClientInput) (old site : ClientSite) → site_of w c ≡ Some old → old.node ≡ site.node → LivesHold w → Gone_hold w → Gone_hold (ev.client_takes w c input site).world
-unfolding cl.node_step ev.client_takes ev.client_took
-takes_gone w c input old site there same h f = go site.node.running
-  where
-    t : cl.NodeTurn
-    t = cl.node_turn site.node (cl.client_step site.node.state (clock_of w (nodes.Client c)) input)
-
-    go : (b : Bool) → Gone_hold (ev.client_took w c site (if b then Ok t else Err Crashed)).world
-    go true = client_gone w c old site t there same (steps_so w c old site input there same h) h f
-    go false = f
-
-at_client_gone : (w : World) (c : ClientId) (input : ClientInput) (o : Option ClientSite) → site_of w c ≡ o → LivesHold w → Gone_hold w → Gone_hold (ev.at_client w c input o).world
-unfolding ev.at_client
-at_client_gone w c input None e h f = f
-at_client_gone w c input (Some site) e h f = takes_gone w c input site site e refl h f
-
 -- the same parts, by computation
 pub kept : (w : World) (o : LogOwner) (v : World) → (Is_crashed w o → Is_crashed v o) → (Is_late w o → Is_late v o) → Over w o → Over v o
 kept w o v f g (inl x) = inl (f x)
 kept w o v f g (inr x) = inr (g x)
-
--- A server's step.
-server_one : (s : ServerId) (o : Output) (sc : Scene) → Gone_hold sc.world → Gone_hold (ev.server_says sc s o).world
-unfolding ev.server_says ev.server_notes ev.cuts ev.sends log.cut
-server_one s (outputs.Note n) sc h = noted n
-  where
-    noted : (n : Note) → Gone_hold (ev.server_notes sc s n).world
-    noted (notes.CutDone f p) =
-        gone_more (Over (ev.with_log (sc.world.log ++ log.hard_cut f p ∷ []) sc.world)) sc.world.log (log.hard_cut f p) refl
-        (gone_known (Over sc.world) (Over (ev.with_log (sc.world.log ++ log.hard_cut f p ∷ []) sc.world)) sc.world.log (λ o i z. kept sc.world o _ (λ x. record { row = x.row; is = x.is; crashed = x.crashed }) (λ x. record { end = x.end; is = x.is; late = x.late }) z) h)
-    noted (notes.Stolen c life) = gone_known (Over sc.world) (Over (ev.with_theft sc.world)) sc.world.log (λ o i z. kept sc.world o _ (λ x. record { row = x.row; is = x.is; crashed = x.crashed }) (λ x. record { end = x.end; is = x.is; late = x.late }) z) h
-    noted n = h
-server_one s (outputs.Send m) sc h = gone_known (Over sc.world) (Over (ev.with_message m sc.world)) sc.world.log (λ o i z. kept sc.world o _ (λ x. record { row = x.row; is = x.is; crashed = x.crashed }) (λ x. record { end = x.end; is = x.is; late = x.late }) z) h
-server_one s o sc h = h
-
-server_says_gone : (s : ServerId) (os : List Output) (sc : Scene) → Gone_hold sc.world → Gone_hold (ev.server_says_all s os sc).world
-unfolding ev.server_says_all
-server_says_gone s [] sc h = h
-server_says_gone s (o ∷ os) sc h = server_says_gone s os (ev.server_says sc s o) (server_one s o sc h)
-
-at_server_gone : (w : World) (s : ServerId) (input : ServerInput) (o : Option ServerNode) → Gone_hold w → Gone_hold (ev.at_server w s input o).world
-unfolding ev.at_server ev.server_takes ev.server_took
-at_server_gone w s input None h = h
-at_server_gone w s input (Some node) h = go (server.node_step node (clock_of w (nodes.Server s)) input)
-  where
-    go : (r : Result server.NodeTurn StepRefusal) → Gone_hold (ev.server_took w s r).world
-    go (Err e) = h
-    go (Ok t) = server_says_gone s t.out (ev.quiet (ev.with_node s t.node w)) (gone_known (Over w) (Over (ev.with_node s t.node w)) w.log (λ o i z. kept w o _ (λ x. record { row = x.row; is = x.is; crashed = x.crashed }) (λ x. record { end = x.end; is = x.is; late = x.late }) z) h)
 
 -- Fates that change.
 gone_harden : (P : LogOwner → Type 0) (n i : ℕ) (o : LogOwner) (es : List LogEntry) → Gone_all P es → Gone_all P (log.harden_from n i o es)
@@ -259,7 +201,7 @@ gone_harden P n i o (e ∷ es) h = go (nat_le n i && log.same_owner e.of o) (gon
     go true r = record { one = λ q. h.one (sym (same e.fate) ∙ q); rest = r }
     go false r = record { one = h.one; rest = r }
 
-gone_hard : (P : LogOwner → Type 0) (es : List LogEntry) (x : Option Carried) → Gone_all P es → Gone_all P (ev.log_hard es x)
+pub gone_hard : (P : LogOwner → Type 0) (es : List LogEntry) (x : Option Carried) → Gone_all P es → Gone_all P (ev.log_hard es x)
 unfolding log.harden log.harden_at
 gone_hard P es None h = h
 gone_hard P es (Some x) h = go (log.entry_at es x.index)
@@ -289,7 +231,7 @@ unfolding ev.log_ended_all ev.log_ended log.drop_picked
 gone_ended P cs [] es f h = h
 gone_ended P cs (l ∷ ls) es f h = gone_ended P cs ls (ev.log_ended cs l es) (λ x o i. f x o (inr i)) (gone_drop P 1 (ev.is_of_life_over l) (ev.cause_at_end cs l) es (λ m e i q b. f l e.of (inl refl) b) h)
 
-advance_gone : (w : World) (steps : List ℕ) → LivesHold w → Gone_hold w → Gone_hold (ev.advances w steps).world
+pub advance_gone : (w : World) (steps : List ℕ) → LivesHold w → Gone_hold w → Gone_hold (ev.advances w steps).world
 unfolding ev.advances ev.marks ev.lives_reached
 advance_gone w steps h g =
     gone_ended (Over v) w.commands (filter (ev.is_reached w steps) (present_lives w.clients ++ w.ended)) w.log reached
@@ -402,7 +344,7 @@ crash_over w c site there h o kn x = go (ended_of w o.client o.file.server o.lif
     go None q (inr (i, b)) = present i q b.end b.is
 
 -- Start.
-start_over : (w : World) (c : ClientId) (site : ClientSite) → site_of w c ≡ Some site → site.node.running ≡ false → LivesHold w → (o : LogOwner) → Over w o → Over (ev.with_site c (ev.started_site site) w) o
+pub start_over : (w : World) (c : ClientId) (site : ClientSite) → site_of w c ≡ Some site → site.node.running ≡ false → LivesHold w → (o : LogOwner) → Over w o → Over (ev.with_site c (ev.started_site site) w) o
 start_over w c site there r h o (inl z) = inl (record { row = z.row; is = z.is; crashed = z.crashed })
 start_over w c site there r h o (inr b) = inr (go (ended_of w o.client o.file.server o.life) refl (same_or_not o.client.0 c.0))
   where
@@ -437,7 +379,7 @@ owner_has [] e i = absurd i
 owner_has (x ∷ es) e (inl q) = inl (ap owner_of q)
 owner_has (x ∷ es) e (inr i) = inr (owner_has es e i)
 
-crash_gone : (w : World) (c : ClientId) (site : ClientSite) → site_of w c ≡ Some site → LivesHold w → Fates_hold w → Gone_hold w → Gone_hold (ev.crashes_client w c (Some site)).world
+pub crash_gone : (w : World) (c : ClientId) (site : ClientSite) → site_of w c ≡ Some site → LivesHold w → Fates_hold w → Gone_hold w → Gone_hold (ev.crashes_client w c (Some site)).world
 unfolding ev.crashes_client ev.marks ev.log_crashed log.drop_picked
 crash_gone w c site e l f h =
     gone_known (Over v) (Over (ev.with_log (log.drop_from 1 (ev.is_of_crashed w c) (log.always causes.Crash) w.log) v)) (log.drop_from 1 (ev.is_of_crashed w c) (log.always causes.Crash) w.log)
@@ -448,78 +390,3 @@ crash_gone w c site e l f h =
   where
     v : World
     v = ev.with_site c (ev.stopped_site site) (ev.with_crashed_lives site w)
-
--- Every event.
-pub happens_gone : (w : World) (e : Event) → adm.refusal w e ≡ None → LivesHold w → Fates_hold w → Gone_hold w → Gone_hold (ev.happens w e).world
-unfolding ev.happens ev.ticks ev.asks_at ev.delivers ev.delivers_to ev.loses_message ev.marks ev.effects ev.reports_of ev.tells ev.tells_client ev.tells_site ev.crashes ev.crashes_client ev.crashes_server ev.starts ev.starts_client ev.starts_server
-happens_gone w (events.Tick (nodes.Client c)) r l f h = at_client_gone w c inputs.Tick (site_of w c) refl l h
-happens_gone w (events.Tick (nodes.Server s)) r l f h = at_server_gone w s _ (node_of w s) h
-happens_gone w (events.App c ask) r l f h = go (site_of w c) refl
-  where
-    go : (o : Option ClientSite) → site_of w c ≡ o → Gone_hold (ev.asks_at w c ask o).world
-    go None e = h
-    go (Some site) e = takes_gone w c (inputs.App (site.asks + 1) ask) site (ev.asked_once_more site) e refl l h
-happens_gone w (events.Deliver k) r l f h = go (world.message_of w k)
-  where
-    to : (m : Message) (n : NodeId) → Gone_hold (ev.delivers_to w m n).world
-    to m (nodes.Client c) = at_client_gone w c (inputs.Control m) (site_of w c) refl l h
-    to m (nodes.Server s) = at_server_gone w s _ (node_of w s) h
-
-    go : (m : Option SentMessage) → Gone_hold (ev.delivers w m).world
-    go None = h
-    go (Some m) = to m.message (world.receiver_of m)
-happens_gone w (events.Lose k) r l f h = go (world.message_of w k)
-  where
-    go : (m : Option SentMessage) → Gone_hold (ev.loses_message w k m)
-    go None = h
-    go (Some m) = gone_known (Over w) (Over (ev.with_lost k m w)) w.log (λ o i z. kept w o _ (λ x. record { row = x.row; is = x.is; crashed = x.crashed }) (λ x. record { end = x.end; is = x.is; late = x.late }) z) h
-happens_gone w (events.Cut from to) r l f h = gone_known (Over w) (Over (ev.with_cut from to w)) w.log (λ o i z. kept w o _ (λ x. record { row = x.row; is = x.is; crashed = x.crashed }) (λ x. record { end = x.end; is = x.is; late = x.late }) z) h
-happens_gone w (events.Heal from to) r l f h = gone_known (Over w) (Over (ev.without_cut from to w)) w.log (λ o i z. kept w o _ (λ x. record { row = x.row; is = x.is; crashed = x.crashed }) (λ x. record { end = x.end; is = x.is; late = x.late }) z) h
-happens_gone w (events.Advance steps) r l f h = advance_gone w steps l h
-happens_gone w (events.Effect k) r l f h =
-    gone_hard (Over v) w.log (ev.carried_by (issued_of w k)) (gone_known (Over w) (Over v) w.log (λ o i z. kept w o v (λ x. record { row = x.row; is = x.is; crashed = x.crashed }) (λ x. record { end = x.end; is = x.is; late = x.late }) z) h)
-  where
-    v : World
-    v = ev.with_log (ev.log_hard w.log (ev.carried_by (issued_of w k))) (ev.with_disks (ev.disks_after w.disks (disks.effect w.disks k)) w)
-happens_gone w (events.Report k ok) r l f h = go (issued_of w k)
-  where
-    v : World
-    v = ev.with_disks (ev.disks_after w.disks (disks.done w.disks k ok)) w
-
-    g : LivesHold v
-    g = record { lives = l.lives; known = l.known }
-
-    i : Gone_hold v
-    i = gone_known (Over w) (Over v) w.log (λ o i z. kept w o v (λ x. record { row = x.row; is = x.is; crashed = x.crashed }) (λ x. record { end = x.end; is = x.is; late = x.late }) z) h
-
-    same : (x : IssuedCommand) (site : ClientSite) → site_of v x.client ≡ Some site → (b : Bool) → Gone_hold (if b then ev.client_takes v x.client (ev.end_told v k ok x) site else ev.quiet v).world
-    same x site e true = takes_gone v x.client (ev.end_told v k ok x) site site e refl g i
-    same x site e false = i
-
-    told : (x : IssuedCommand) (o : Option ClientSite) → site_of v x.client ≡ o → Gone_hold (ev.tells_client v k ok x o).world
-    told x None e = i
-    told x (Some site) e = same x site e (ev.is_same_instance x site)
-
-    go : (o : Option IssuedCommand) → Gone_hold (ev.tells v k ok o).world
-    go None = i
-    go (Some x) = told x (site_of v x.client) refl
-happens_gone w (events.Crash (nodes.Client c)) r l f h = go (site_of w c) refl
-  where
-    go : (o : Option ClientSite) → site_of w c ≡ o → Gone_hold (ev.crashes_client w c o).world
-    go None e = h
-    go (Some site) e = crash_gone w c site e l f h
-happens_gone w (events.Crash (nodes.Server s)) r l f h = go (node_of w s)
-  where
-    go : (o : Option ServerNode) → Gone_hold (ev.crashes_server w s o)
-    go None = h
-    go (Some node) = gone_known (Over w) (Over (ev.with_node s (server.crash_node node) w)) w.log (λ o i z. kept w o _ (λ x. record { row = x.row; is = x.is; crashed = x.crashed }) (λ x. record { end = x.end; is = x.is; late = x.late }) z) h
-happens_gone w (events.Start (nodes.Client c)) r l f h = go (site_of w c) refl
-  where
-    go : (o : Option ClientSite) → site_of w c ≡ o → Gone_hold (ev.starts_client w c o)
-    go None e = h
-    go (Some site) e = gone_known (Over w) (Over (ev.with_site c (ev.started_site site) w)) w.log (λ o i z. start_over w c site e (stopped_is w c site e r) l o z) h
-happens_gone w (events.Start (nodes.Server s)) r l f h = go (node_of w s)
-  where
-    go : (o : Option ServerNode) → Gone_hold (ev.starts_server w s o)
-    go None = h
-    go (Some node) = gone_known (Over w) (Over (ev.with_node s (server.start_node node (clock_of w (nodes.Server s))) w)) w.log (λ o i z. kept w o _ (λ x. record { row = x.row; is = x.is; crashed = x.crashed }) (λ x. record { end = x.end; is = x.is; late = x.late }) z) h

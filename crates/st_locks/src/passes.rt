@@ -1,5 +1,5 @@
 // The passes of a server's step: grants to those who wait, demands, and demands that went unanswered.
-ghost use Rattle.std.specs.Prelude.{◌≡◌, ◌≤◌, ◌<◌, ◌+◌, ◌^◌, ◌++◌, ◌∷◌, ◌&&◌, [], IfOk, IfSome, OnOk, OnErr, Some, find, filter, map, not, length, slice_get, None, false, true, nat_lt, nat_le, ◌==◌, if◌then◌else◌};
+ghost use Rattle.std.specs.Prelude.{◌≡◌, ◌≤◌, ◌<◌, ◌+◌, ◌-◌, ◌^◌, ◌++◌, ◌∷◌, ◌&&◌, [], IfOk, IfSome, OnOk, OnErr, Some, find, filter, map, not, length, slice_get, None, false, true, nat_lt, nat_le, ◌==◌, if◌then◌else◌};
 ghost use Rattle.std.specs.List.{IsDistinct, list_any};
 ghost use Rattle.std.specs.Option.{option_copied, option_map, option_to_list};
 ghost use Rattle.st_rules.specs.Keys as keys;
@@ -289,11 +289,11 @@ impl LockTable {
         Ok(due)
     }
 
-    /// Whether all waiters may be granted in this epoch.
+    /// Whether one request more and all waiters may be granted in this epoch.
     pub fn has_room_for_waiters(&self) -> bool
-        ensures { result ≡ nat_lt (self.now.grants + length self.now.waiters) (2 ^ 32) }
+        ensures { result ≡ nat_lt (self.now.grants + length self.now.waiters) (2 ^ 32 - 1) }
     {
-        self.grants + (self.waits.len() as u64) < 4294967296
+        self.grants + (self.waits.len() as u64) < 4294967295
     }
 
     /// The clients that left a demand unanswered for the time that the settings give, in rising order. It looks at the rows of

@@ -22,7 +22,7 @@ pub below_first_ends : (a b : List ℕ) (i : ℕ) → length a ≤ i → i < len
 unfolding name_below
 below_first_ends a b i l m = rw (drop_all i a l, drop_more b i 0 m) refl
 
-nothing_below : (a : List ℕ) → name_below a [] ≡ false
+pub nothing_below : (a : List ℕ) → name_below a [] ≡ false
 unfolding name_below
 nothing_below [] = refl
 nothing_below (x ∷ a) = refl

@@ -1,20 +1,20 @@
 -- The order of names stays: when an entry is added, when one goes, and when one moves.
-use Rattle.std.proofs.Common.{◌≡◌, ℕ, zero, suc, ◌+◌, ◌<◌, ◌≤◌, Bool, true, false, List, [], ◌∷◌, ◌++◌, length, get_or, set, take, arith, rules, refl, sym, ap, ◌∙◌, ⊎_elim, true≢false, map}
+use Rattle.std.proofs.Common.{◌≡◌, ℕ, ◌+◌, ◌<◌, ◌≤◌, Bool, true, false, List, [], ◌∷◌, ◌++◌, length, arith, rules, refl, sym, ap, ◌∙◌, ⊎_elim, true≢false, map}
 use Rattle.std.specs.Prelude.{◌&&◌, not, ◌==◌, find, filter, is_some, bytes_eq}
 use Rattle.std.specs.List.{IsDistinct, AllByRecursion, list_any}
 use Rattle.std.specs.Cmp.{IsEquivalence, both_ways}
 use Rattle.std.proofs.lemmas.Slice.Eq.{bytes_eq-Decides}
 use Rattle.std.proofs.lemmas.Bool.{cases_Bool, and_parts, or_parts}
 use Rattle.std.proofs.lemmas.Map.Keys.{IsDistinct-head, IsDistinct-tail, IsDistinct-cons, IsDistinct-push}
-use Rattle.std.proofs.lemmas.List.Folds.{list_any_none, list_any_at}
+use Rattle.std.proofs.lemmas.List.Folds.{list_any_none}
 use Rattle.std.proofs.lemmas.List.Elements.{All-from_recursion, recursion_from_All, All-push, All-filter, All-weaker, All-map}
-use Rattle.std.proofs.lemmas.List.{length_push, length-map, take_all}
+use Rattle.std.proofs.lemmas.List.{length_push, length-map}
 use Rattle.st_rules.specs.declared.names.NameEntry.{NameEntry}
-use Rattle.st_rules.specs.Names as rules
+use Rattle.st_rules.specs.Names as names
 use Rattle.st_namespace.specs.Order.{IsInOrder, IsRising, of_one_name, of_one_inode}
 
 -- Lists.
-every_filter : {K : Type 0} (P : K → Type 0) (p : K → Bool) (xs : List K) → AllByRecursion P xs → AllByRecursion P (filter p xs)
+pub every_filter : {K : Type 0} (P : K → Type 0) (p : K → Bool) (xs : List K) → AllByRecursion P xs → AllByRecursion P (filter p xs)
 every_filter P p [] a = a
 every_filter P p (x ∷ xs) a = ⊎_elim
     (λ t. rw t (a.0, every_filter P p xs a.1))
@@ -72,18 +72,18 @@ inodes_equiv : IsEquivalence of_one_inode
 inodes_equiv = number_equiv (λ (e : NameEntry). e.ino)
 
 -- A fresh server.
-pub fresh_in_order : IsInOrder rules.fresh_names
-unfolding rules.fresh_names IsDistinct
+pub fresh_in_order : IsInOrder names.fresh_names
+unfolding names.fresh_names IsDistinct
 fresh_in_order = record {
   names = ((refl, (refl, (refl, (refl, (refl, (refl, (refl, tt))))))), ((refl, (refl, (refl, (refl, (refl, (refl, tt)))))), ((refl, (refl, (refl, (refl, (refl, tt))))), ((refl, (refl, (refl, (refl, tt)))), ((refl, (refl, (refl, tt))), ((refl, (refl, tt)), ((refl, tt), (tt, tt))))))));
   inodes = ((refl, (refl, (refl, (refl, (refl, (refl, (refl, tt))))))), ((refl, (refl, (refl, (refl, (refl, (refl, tt)))))), ((refl, (refl, (refl, (refl, (refl, tt))))), ((refl, (refl, (refl, (refl, tt)))), ((refl, (refl, (refl, tt))), ((refl, (refl, tt)), ((refl, tt), (tt, tt))))))));
   rising = ((omega arith, (omega arith, (omega arith, (omega arith, (omega arith, (omega arith, (omega arith, tt))))))), ((omega arith, (omega arith, (omega arith, (omega arith, (omega arith, (omega arith, tt)))))), ((omega arith, (omega arith, (omega arith, (omega arith, (omega arith, tt))))), ((omega arith, (omega arith, (omega arith, (omega arith, tt)))), ((omega arith, (omega arith, (omega arith, tt))), ((omega arith, (omega arith, tt)), ((omega arith, tt), (tt, tt))))))));
-  used = All-from_recursion (λ (e : NameEntry). e.ino < 10) rules.fresh_names.entries (omega arith, (omega arith, (omega arith, (omega arith, (omega arith, (omega arith, (omega arith, (omega arith, tt))))))));
+  used = All-from_recursion (λ (e : NameEntry). e.ino < 10) names.fresh_names.entries (omega arith, (omega arith, (omega arith, (omega arith, (omega arith, (omega arith, (omega arith, (omega arith, tt))))))));
   few = omega arith;
 }
 
 -- Entries by rising inode.
-rising_push : (es : List NameEntry) (e : NameEntry) → IsRising es → AllByRecursion (λ (d : NameEntry). d.ino < e.ino) es → IsRising (es ++ e ∷ [])
+pub rising_push : (es : List NameEntry) (e : NameEntry) → IsRising es → AllByRecursion (λ (d : NameEntry). d.ino < e.ino) es → IsRising (es ++ e ∷ [])
 rising_push [] e r a = (tt, tt)
 rising_push (d ∷ es) e r a = (every_push (λ (x : NameEntry). d.ino < x.ino) es e r.0 a.0, rising_push es e r.1 a.1)
   where
@@ -91,7 +91,7 @@ rising_push (d ∷ es) e r a = (every_push (λ (x : NameEntry). d.ino < x.ino) e
     every_push P [] e a p = (p, tt)
     every_push P (x ∷ es) e a p = (a.0, every_push P es e a.1 p)
 
-rising_filter : (p : NameEntry → Bool) (es : List NameEntry) → IsRising es → IsRising (filter p es)
+pub rising_filter : (p : NameEntry → Bool) (es : List NameEntry) → IsRising es → IsRising (filter p es)
 rising_filter p [] r = r
 rising_filter p (e ∷ es) r =
     let rest = rising_filter p es r.1 in
@@ -101,12 +101,12 @@ rising_filter p (e ∷ es) r =
     (cases_Bool (p e))
 
 -- An entry is added.
-pub added_in_order : (n : rules.Names) (dir : ℕ) (name : List ℕ) (directory : Bool) → IsInOrder n → is_some (rules.entry_at n dir name) ≡ false → length n.entries < 4095 → IsInOrder (rules.added n dir name directory).names
-unfolding rules.added
+pub added_in_order : (n : names.Names) (dir : ℕ) (name : List ℕ) (directory : Bool) → IsInOrder n → is_some (names.entry_at n dir name) ≡ false → length n.entries < 4095 → IsInOrder (names.added n dir name directory).names
+unfolding names.added
 added_in_order n dir name directory o new few =
-    let e = rules.new_entry n dir name directory in
+    let e = names.new_entry n dir name directory in
     record {
-      names = IsDistinct-push names_equiv n.entries e o.names (sym (found_is_any (rules.is_entry_at dir name) n.entries) ∙ new);
+      names = IsDistinct-push names_equiv n.entries e o.names (sym (found_is_any (names.is_entry_at dir name) n.entries) ∙ new);
       inodes = IsDistinct-push inodes_equiv n.entries e o.inodes (list_any_none (of_one_inode e) n.entries (All-weaker (λ (d : NameEntry). d.ino < n.next) (λ (d : NameEntry). of_one_inode e d ≡ false) (λ d l. grind arith) n.entries o.used));
       rising = rising_push n.entries e o.rising (recursion_from_All (λ (d : NameEntry). d.ino < n.next) n.entries o.used);
       used = All-push (λ (d : NameEntry). d.ino < n.next + 1) n.entries e (All-weaker (λ (d : NameEntry). d.ino < n.next) (λ (d : NameEntry). d.ino < n.next + 1) (λ d l. omega (arith, l)) n.entries o.used) (omega arith);
@@ -114,9 +114,9 @@ added_in_order n dir name directory o new few =
     }
 
 -- An entry goes.
-pub gone_in_order : (n : rules.Names) (dir : ℕ) (name : List ℕ) → IsInOrder n → IsInOrder (record { entries = filter (λ d. not (rules.is_entry_at dir name d)) n.entries; next = n.next })
+pub gone_in_order : (n : names.Names) (dir : ℕ) (name : List ℕ) → IsInOrder n → IsInOrder (record { entries = filter (λ d. not (names.is_entry_at dir name d)) n.entries; next = n.next })
 gone_in_order n dir name o =
-    let keep = λ (d : NameEntry). not (rules.is_entry_at dir name d) in
+    let keep = λ (d : NameEntry). not (names.is_entry_at dir name d) in
     record {
       names = distinct_filter of_one_name keep n.entries o.names;
       inodes = distinct_filter of_one_inode keep n.entries o.inodes;
@@ -128,13 +128,13 @@ gone_in_order n dir name o =
 -- An entry moves.
 module _ (dir : ℕ) (name : List ℕ) (dir2 : ℕ) (name2 : List ℕ) where
   abbrev is_old : NameEntry → Bool
-  is_old e = rules.is_entry_at dir name e
+  is_old e = names.is_entry_at dir name e
 
   abbrev is_new : NameEntry → Bool
-  is_new e = rules.is_entry_at dir2 name2 e
+  is_new e = names.is_entry_at dir2 name2 e
 
   abbrev move : NameEntry → NameEntry
-  move e = rules.move_entry dir name dir2 name2 e
+  move e = names.move_entry dir name dir2 name2 e
 
   -- an entry of that name, to compare with
   abbrev old_one : NameEntry
@@ -143,50 +143,24 @@ module _ (dir : ℕ) (name : List ℕ) (dir2 : ℕ) (name2 : List ℕ) where
   abbrev new_one : NameEntry
   new_one = record { dir = dir2; name = name2; ino = 0; directory = false }
 
-  pub stays : (es : List NameEntry) → list_any (rules.is_entry_at dir name) es ≡ false → map (rules.move_entry dir name dir2 name2) es ≡ es
+  stays : (es : List NameEntry) → list_any (names.is_entry_at dir name) es ≡ false → map (names.move_entry dir name dir2 name2) es ≡ es
   stays [] h = refl
   stays (e ∷ es) h =
       let p = or_parts (is_old e) (list_any is_old es) h in
       rw p.0 (ap (λ l. e ∷ l) (stays es p.1))
 
-  -- behind an entry of that name there is none
-  none_behind : (e : NameEntry) (es : List NameEntry) → is_old e ≡ true → AllByRecursion (λ d. of_one_name e d ≡ false) es → list_any is_old es ≡ false
-  none_behind e [] t a = refl
-  none_behind e (d ∷ es) t a = rw (names_equiv.congr old_one e d t, a.0, none_behind e es t a.1) refl
-
-  -- the one entry of that name moves
-  pub moves : (es : List NameEntry) (i : ℕ) (e : NameEntry) → IsDistinct of_one_name es → i < length es → e ≡ get_or es i e → rules.is_entry_at dir name e ≡ true → set es i (rules.moved dir2 name2 e) ≡ map (rules.move_entry dir name dir2 name2) es
-  moves [] i e d l is t = let no : ⊥ = omega arith in absurd no
-  moves (x ∷ es) zero e d l is t =
-      let none = none_behind e es t (rw (← is) at (IsDistinct-head of_one_name x es d)) in
-      rw (← is, t) (ap (λ r. rules.moved dir2 name2 e ∷ r) (sym (stays es none)))
-  moves (x ∷ es) (suc i) e d l is t = ⊎_elim
-      (λ h. let some : list_any is_old es ≡ true = list_any_at is_old es i e (omega arith) (rw (← is) t) in
-      absurd (true≢false (sym some ∙ none_behind x es h (IsDistinct-head of_one_name x es d))))
-      (λ h. rw h (ap (λ r. x ∷ r) (moves es i e (IsDistinct-tail of_one_name x es d) (omega arith) is t)))
-      (cases_Bool (is_old x))
-
-  same_at : (es : List NameEntry) (i : ℕ) (a b : NameEntry) → i < length es → a ≡ get_or es i a → b ≡ get_or es i b → a ≡ b
-  same_at [] i a b l g h = let no : ⊥ = omega arith in absurd no
-  same_at (x ∷ es) zero a b l g h = g ∙ sym h
-  same_at (x ∷ es) (suc i) a b l g h = same_at es i a b (omega arith) g h
-
-  -- the same, where the entry is read twice
-  pub moves_read : (es fresh : List NameEntry) (i : ℕ) (a b c : NameEntry) → fresh ≡ es → IsDistinct of_one_name es → i < length es → a ≡ get_or es i a → rules.is_entry_at dir name a ≡ true → b ≡ get_or es i b → c ≡ rules.moved dir2 name2 b → set fresh i c ≡ map (rules.move_entry dir name dir2 name2) es
-  moves_read es fresh i a b c f d l g t h m = rw (f, m) (moves es i b d l h (rw (sym (same_at es i a b l g h)) t))
-
-  move_old : (e : NameEntry) → is_old e ≡ true → move e ≡ rules.moved dir2 name2 e
+  pub move_old : (e : NameEntry) → is_old e ≡ true → move e ≡ names.moved dir2 name2 e
   move_old e t = rw t refl
 
-  move_other : (e : NameEntry) → is_old e ≡ false → move e ≡ e
+  pub move_other : (e : NameEntry) → is_old e ≡ false → move e ≡ e
   move_other e t = rw t refl
 
-  ino_stays : (e : NameEntry) → (move e).ino ≡ e.ino
-  unfolding rules.moved
+  pub ino_stays : (e : NameEntry) → (move e).ino ≡ e.ino
+  unfolding names.moved
   ino_stays e = ⊎_elim (λ t. rw (move_old e t) refl) (λ t. rw (move_other e t) refl) (cases_Bool (is_old e))
 
   apart_after : (x y : NameEntry) → of_one_name x y ≡ false → is_new x ≡ false → is_new y ≡ false → of_one_name (move x) (move y) ≡ false
-  unfolding rules.moved
+  unfolding names.moved
   apart_after x y a nx ny = ⊎_elim
       (λ s. ⊎_elim
       (λ t. absurd (true≢false (sym t ∙ names_equiv.congr old_one x y s ∙ a)))
@@ -222,11 +196,11 @@ module _ (dir : ℕ) (name : List ℕ) (dir2 : ℕ) (name2 : List ℕ) where
   above_after x [] a = tt
   above_after x (e ∷ es) a = (rw (ino_stays x, ino_stays e) a.0, above_after x es a.1)
 
-  rising_after : (es : List NameEntry) → IsRising es → IsRising (map move es)
+  pub rising_after : (es : List NameEntry) → IsRising es → IsRising (map move es)
   rising_after [] r = r
   rising_after (e ∷ es) r = (above_after e es r.0, rising_after es r.1)
 
-  pub renamed_in_order : (n : rules.Names) → IsInOrder n → is_some (rules.entry_at n dir2 name2) ≡ false → IsInOrder (record { entries = map (rules.move_entry dir name dir2 name2) n.entries; next = n.next })
+  pub renamed_in_order : (n : names.Names) → IsInOrder n → is_some (names.entry_at n dir2 name2) ≡ false → IsInOrder (record { entries = map (names.move_entry dir name dir2 name2) n.entries; next = n.next })
   renamed_in_order n o new = record {
     names = names_after n.entries o.names (sym (found_is_any is_new n.entries) ∙ new);
     inodes = inodes_after n.entries o.inodes;
@@ -234,8 +208,3 @@ module _ (dir : ℕ) (name : List ℕ) (dir2 : ℕ) (name2 : List ℕ) where
     used = All-map (λ (e : NameEntry). e.ino < n.next) move n.entries (All-weaker (λ (e : NameEntry). e.ino < n.next) (λ (e : NameEntry). (move e).ino < n.next) (λ e l. rw (ino_stays e) l) n.entries o.used);
     few = rw (length-map n.entries move) o.few;
   }
-
-  pub stays_past : (es fresh : List NameEntry) (i : ℕ) → fresh ≡ es → list_any (rules.is_entry_at dir name) (take i fresh) ≡ false → length es ≤ i → fresh ≡ map (rules.move_entry dir name dir2 name2) es
-  stays_past es fresh i f h l =
-      let whole : take i fresh ≡ es = rw f (take_all i es l) in
-      f ∙ sym (stays es (rw whole at h))

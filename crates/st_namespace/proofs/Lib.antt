@@ -1,7 +1,10 @@
 pub mod Bytes
+pub mod ByName
+pub mod Climbs
+pub mod FreshFiles
+pub mod Keeps
+pub mod Kept
 pub mod Ordered
 pub mod Rows
-pub mod Kept
-pub mod Climbs
 pub mod Rules
 pub mod Searches

@@ -4,19 +4,19 @@ use Rattle.st_base.specs.declared.names.NameRefusal.{NameRefusal}
 use Rattle.st_base.specs.declared.names.NameRefusal.TheVariants as told
 use Rattle.st_rules.specs.declared.names.NameEntry.{NameEntry}
 use Rattle.st_rules.specs.declared.names.EntryRefusal.{EntryRefusal}
-use Rattle.st_rules.specs.declared.names.EntryRefusal.TheVariants as rules
+use Rattle.st_rules.specs.declared.names.EntryRefusal.TheVariants as refusals
 use Rattle.st_rules.specs.Names.{Names, Changed}
 
 -- the calls have the rules' refusals, and run out of memory besides
 abbrev pub as_told : EntryRefusal → NameRefusal
-as_told rules.NoEntry = told.NoEntry
-as_told rules.Exists = told.Exists
-as_told rules.NotDir = told.NotDir
-as_told rules.IsDir = told.IsDir
-as_told rules.NotEmpty = told.NotEmpty
-as_told rules.Cycle = told.Cycle
-as_told rules.BadName = told.BadName
-as_told rules.TooMany = told.TooMany
+as_told refusals.NoEntry = told.NoEntry
+as_told refusals.Exists = told.Exists
+as_told refusals.NotDir = told.NotDir
+as_told refusals.IsDir = told.IsDir
+as_told refusals.NotEmpty = told.NotEmpty
+as_told refusals.Cycle = told.Cycle
+as_told refusals.BadName = told.BadName
+as_told refusals.TooMany = told.TooMany
 
 -- what a call answers where it does not run out of memory
 abbrev pub answer : {A : Type 0} → Result A EntryRefusal → Result A NameRefusal

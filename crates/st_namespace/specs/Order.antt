@@ -1,9 +1,8 @@
 -- What always holds of the names of a server.
-use Rattle.std.specs.Prelude.{◌≡◌, ◌≤◌, ◌<◌, Bool, false, ◌==◌, All, List, [], ◌∷◌, length, ⊤}
+use Rattle.std.specs.Prelude.{◌≤◌, ◌<◌, Bool, ◌==◌, All, List, [], ◌∷◌, length, ⊤}
 use Rattle.std.specs.List.{AllByRecursion, IsDistinct}
-use Rattle.st_base.specs.declared.names.NameRow.{NameRow}
 use Rattle.st_rules.specs.declared.names.NameEntry.{NameEntry}
-use Rattle.st_rules.specs.Names.{Names, is_entry_at, name_below}
+use Rattle.st_rules.specs.Names.{Names, is_entry_at}
 
 -- two entries have one name in one directory
 abbrev pub of_one_name : NameEntry → NameEntry → Bool
@@ -26,8 +25,3 @@ pub record IsInOrder (n : Names) : Type 0 where
   pub rising : IsRising n.entries
   pub used : All (λ e. e.ino < n.next) n.entries
   pub few : length n.entries ≤ 4095
-
--- rows in the order of their names: no later one has a name below that of an earlier one
-abbrev pub AreOrdered : List NameRow → Type 0
-AreOrdered [] = ⊤
-AreOrdered (r ∷ rows) = AllByRecursion (λ s. name_below s.name r.name ≡ false) rows × AreOrdered rows

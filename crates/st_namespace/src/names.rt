@@ -4,9 +4,9 @@ ghost use Rattle.st_base.specs.declared.names.NameRefusal.TheVariants as refusal
 ghost use Rattle.st_rules.specs.Names as names;
 ghost use Rattle.st_namespace.specs.Answers.{Changes, ChangesInPlace, IsTold, answer, as_told, ino_and_mark, ino_told};
 ghost use Rattle.st_namespace.specs.Order.{IsInOrder};
+ghost use Rattle.st_namespace.specs.Stored.{dir_of};
 
-use crate::entries;
-use crate::listing::rows_above;
+use crate::entries::Entries;
 use crate::name_bytes::is_good;
 use st_base::{Name, NameRefusal, NameRow};
 use st_rules::{EntryRefusal, NameEntry};
@@ -18,7 +18,7 @@ const ROOT: u32 = 1;
 /// The names of one server. Contracts see them as the list of their entries and the next inode number.
 #[derive(Drop)]
 pub struct Names {
-    entries: Vec<NameEntry>,
+    entries: Entries,
     next: u32,
 }
 
@@ -28,9 +28,9 @@ impl Model for Names {
 
     ghost Value = { names.Names };
 
-    ghost view = { λ n. record { entries = n.entries.items; next = n.next } };
+    ghost view = { λ n. record { entries = n.entries; next = n.next } };
 
-    ghost invariant = { λ n. IsInOrder (record { entries = n.entries.items; next = n.next }) };
+    ghost invariant = { λ n. IsInOrder (record { entries = n.entries; next = n.next }) };
 }
 
 /// A refusal of the rules, as the calls tell it.
@@ -64,18 +64,13 @@ fn fresh_file(alloc: Global, ino: u8) -> Result<NameEntry, AllocError>
 
 /// The files of a fresh server.
 #[tactic(auto, unfolding(st_rules::specs::Names::fresh_names))]
-fn fresh_files(alloc: Global) -> Result<Vec<NameEntry>, AllocError>
-    ensures { IfOk result (λ v. v.items ≡ names.fresh_names.entries) }
+fn fresh_files(alloc: Global) -> Result<Entries, AllocError>
+    ensures { IfOk result (λ es. es ≡ names.fresh_names.entries) }
 {
-    let mut entries = Vec::new(alloc);
-    entries.push(fresh_file(alloc, 2)?)?;
-    entries.push(fresh_file(alloc, 3)?)?;
-    entries.push(fresh_file(alloc, 4)?)?;
-    entries.push(fresh_file(alloc, 5)?)?;
-    entries.push(fresh_file(alloc, 6)?)?;
-    entries.push(fresh_file(alloc, 7)?)?;
-    entries.push(fresh_file(alloc, 8)?)?;
-    entries.push(fresh_file(alloc, 9)?)?;
+    let mut entries = Entries::new(alloc);
+    for ino in 2..10u8 {
+        entries.push(fresh_file(alloc, ino)?)?;
+    }
     Ok(entries)
 }
 
@@ -90,16 +85,17 @@ impl Names {
         Ok(Names { entries, next: 10 })
     }
 
-    fn entry_of_ino(&self, ino: u32) -> Option<&NameEntry>
-        ensures { option_copied result ≡ names.entry_of_ino self.now ino }
+    /// The directory of the entry of an inode, if there is one.
+    fn dir_above(&self, ino: u32) -> Option<u32>
+        ensures { result ≡ option_map dir_of (names.entry_of_ino self.now ino) }
     {
-        entries::entry_of_ino(self.entries.as_slice(), ino)
+        self.entries.dir_of(ino)
     }
 
     fn entry_at(&self, dir: u32, name: &[u8]) -> Option<&NameEntry>
         ensures { option_copied result ≡ names.entry_at self.now dir name.now }
     {
-        entries::entry_at(self.entries.as_slice(), dir, name)
+        self.entries.get(dir, name)
     }
 
     fn has_entry(&self, dir: u32, name: &[u8]) -> bool
@@ -115,10 +111,7 @@ impl Names {
         if ino == ROOT {
             return Some(true);
         }
-        match self.entry_of_ino(ino) {
-            None => None,
-            Some(entry) => Some(entry.directory),
-        }
+        self.entries.kind_of(ino)
     }
 
     fn dir_refusal(&self, dir: u32) -> Option<EntryRefusal>
@@ -180,10 +173,10 @@ impl Names {
             if at == top {
                 return true;
             }
-            let Some(entry) = self.entry_of_ino(at) else {
+            let Some(above) = self.dir_above(at) else {
                 return false;
             };
-            at = entry.dir;
+            at = above;
         }
         at == top
     }
@@ -228,7 +221,7 @@ impl Names {
         if self.entries.len() >= 4095 {
             return Err(NameRefusal::TooMany);
         }
-        let alloc = *self.entries.allocator();
+        let alloc = self.entries.alloc();
         let Ok(name) = Name::from_slice(alloc, name) else {
             return Err(NameRefusal::Memory);
         };
@@ -268,7 +261,7 @@ impl Names {
     fn is_full(&self, ino: u32, directory: bool) -> bool
         ensures { result ≡ (directory && names.has_entries self.now ino) }
     {
-        directory && entries::has_entries(self.entries.as_slice(), ino)
+        directory && self.entries.has_entries(ino)
     }
 
     /// Removes an entry, and returns its inode; a directory must be empty. It takes no memory.
@@ -285,7 +278,7 @@ impl Names {
         if self.is_full(ino, directory) {
             return Err(NameRefusal::NotEmpty);
         }
-        entries::drop_entry(&mut self.entries, dir, name);
+        self.entries.remove(dir, name);
         Ok(ino)
     }
 
@@ -330,11 +323,11 @@ impl Names {
             return Err(told(refusal));
         }
         let ino = self.moved(dir, name, dir2, name2)?;
-        let alloc = *self.entries.allocator();
+        let alloc = self.entries.alloc();
         let Ok(name2) = Name::from_slice(alloc, name2) else {
             return Err(NameRefusal::Memory);
         };
-        entries::move_entry(&mut self.entries, dir, name, dir2, name2);
+        self.entries.rename(dir, name, dir2, name2);
         Ok(ino)
     }
 
@@ -348,13 +341,10 @@ impl Names {
         if let Some(refusal) = self.dir_refusal(dir) {
             return Err(told(refusal));
         }
-        let alloc = *self.entries.allocator();
-        match rows_above(alloc, self.entries.as_slice(), dir, after) {
+        let alloc = self.entries.alloc();
+        match self.entries.rows_above(alloc, dir, after) {
             Err(_) => Err(NameRefusal::Memory),
-            Ok(mut rows) => {
-                rows.truncate(256);
-                Ok(rows)
-            }
+            Ok(rows) => Ok(rows),
         }
     }
 

@@ -1,11 +1,13 @@
--- The rows of a reassertion are of different files.
-use Rattle.std.proofs.Common.{◌≡◌, ℕ, ◌+◌, ◌<◌, ◌≤◌, true, false, ◌==◌, List, [], ◌∷◌, arith}
-use Rattle.std.specs.List.{AllByRecursion, IsDistinct}
-use Rattle.std.proofs.lemmas.Bool.{leb-true, and_parts, ne_eqb}
+-- The rows of a reassertion are locks of different files.
+use Rattle.std.proofs.Common.{◌≡◌, ℕ, ◌+◌, ◌<◌, ◌≤◌, true, false, ◌==◌, List, [], ◌∷◌, refl, arith}
+use Rattle.std.specs.List.{AllByRecursion, IsDistinct, list_all}
+use Rattle.std.proofs.lemmas.Bool.{leb-true, and_parts, and_from, ne_eqb}
 use Rattle.st_base.specs.declared.ids.GrantNo.{GrantNo}
 use Rattle.st_base.specs.declared.mode.Mode.{Mode}
-use Rattle.st_messages.specs.Fits.{are_locks, are_rows, after_lock, is_lock_row}
-use Rattle.st_locks.specs.Calls.{same_file}
+use Rattle.st_base.specs.declared.mode.Mode.TheVariants as modes
+use Rattle.st_messages.specs.Fits.{are_locks, are_rows, after_lock, is_lock_row, is_mode}
+use Rattle.st_locks.specs.Calls.{is_lock, same_file}
+use Rattle.st_locks.specs.Calls as locks
 
 low : (least : ℕ) (r : ℕ × GrantNo × Mode) → is_lock_row least r ≡ true → least ≤ r.0
 low least r e = leb-true least r.0 (and_parts _ _ (and_parts _ _ e).0).0
@@ -27,3 +29,20 @@ apart least (r ∷ rs) e =
 pub distinct : (rs : List (ℕ × GrantNo × Mode)) → are_locks rs ≡ true → IsDistinct same_file rs
 unfolding are_locks
 distinct rs e = apart 1 rs (and_parts _ _ e).1
+
+-- a mode that is held is a lock's
+pub lock_mode : (m : Mode) → is_mode 1 2 m ≡ true → is_lock m ≡ true
+lock_mode modes.S e = refl
+lock_mode modes.X e = refl
+lock_mode modes.None e = cc
+
+modes_of : (least : ℕ) (rs : List (ℕ × GrantNo × Mode)) → are_rows is_lock_row after_lock least rs ≡ true → list_all locks.is_lock_row rs ≡ true
+modes_of least [] e = refl
+modes_of least (r ∷ rs) e =
+    let p = and_parts (is_lock_row least r) (are_rows is_lock_row after_lock (r.0 + 1) rs) e in
+    and_from (is_lock r.2) _ (lock_mode r.2 (and_parts _ (is_mode 1 2 r.2) (and_parts _ _ p.0).1).1) (modes_of (r.0 + 1) rs p.1)
+
+-- the rows of a reassertion are locks
+pub lock_modes : (rs : List (ℕ × GrantNo × Mode)) → are_locks rs ≡ true → list_all locks.is_lock_row rs ≡ true
+unfolding are_locks
+lock_modes rs e = modes_of 1 rs (and_parts _ _ e).1

@@ -16,3 +16,4 @@ pub mod Taking
 pub mod Hearing
 pub mod Begins
 pub mod Stepping
+pub mod Answering

@@ -1,5 +1,6 @@
 -- A whole step keeps a server sound, and sends what fits.
 use Rattle.std.proofs.Common.{◌≡◌, ℕ, ◌+◌, ◌-◌, ◌^◌, ◌<◌, ◌≤◌, ◌⊎◌, Bool, true, false, ◌&&◌, List, [], ◌∷◌, Option, Some, None, refl, sym, ap, subst, ◌∙◌, arith, inl, inr}
+use Rattle.std.specs.Prelude.{if◌then◌else◌, Result, Ok, Err, OnOk, IfErr}
 use Rattle.std.specs.List.{list_all}
 use Rattle.std.proofs.lemmas.Bool.{and_parts, lt-ltb}
 use Rattle.st_base.specs.declared.ids.ClientId.{ClientId}
@@ -14,12 +15,17 @@ use Rattle.st_rules.specs.Authority as authority
 use Rattle.st_rules.specs.Sessions as sessions
 use Rattle.st_rules.specs.Server as server
 use Rattle.st_messages.specs.declared.output.Output.{Output}
+use Rattle.st_messages.specs.declared.output.StepFault.{StepFault}
+use Rattle.st_messages.specs.declared.output.StepFault.TheVariants as faults
+use Rattle.st_rules.specs.declared.node.StepRefusal.TheVariants.{Crashed}
 use Rattle.st_rules.specs.Server.{ServerNode, ServerState, Stable, Turn, turn, crash}
 use Rattle.st_lemmas.proofs.Tables.{cond_either}
 use Rattle.st_server.specs.Ready.{AreServed, comes_fit, has_body, is_row_lived}
 use Rattle.st_server.specs.Room.{HasRoom, taken_locks}
 use Rattle.st_server.specs.Sound.{IsSound, IsSoundTo, is_good_row, is_sent, is_told, is_told_lock}
-use Rattle.st_server.specs.Steps.{Fails, Keeps, stepped}
+use Rattle.st_server.specs.Steps.{Fails, Keeps, Steps, stepped}
+use Rattle.st_server.specs.Answers.{Adds, AnswersAreNamed}
+use Rattle.st_server.proofs.Answering.{from_adds, nothing_added}
 use Rattle.st_server.proofs.Begins.{crash_sound}
 use Rattle.st_server.proofs.Crashes.{passes_crash}
 use Rattle.st_server.proofs.Every.{every_too}
@@ -191,3 +197,41 @@ crashed_is node t new left now i s e f (inr g) =
 pub either_back : {A : Type 0} {a b c : A} → (b ≡ a) ⊎ (c ≡ a) → (a ≡ b) ⊎ (a ≡ c)
 either_back (inl e) = inl (sym e)
 either_back (inr e) = inr (sym e)
+
+-- The rule for a message adds at most one answer, to the sender.
+message_adds : (t : Turn) (n : ℕ) (now : Stamp) (m : Message) → IsTurn n t → HasRoom t.state → n < 2 ^ 32 - 1 → fits m ≡ true → Adds m.header.from 1 t.out (server.receive t now m.header m.body).out
+unfolding server.receive fits
+message_adds t n now m p room few e =
+    let q = and_parts (is_header (kind_of_body m.body) m.header) (is_body m.body) e in
+    let a = nothing_added m.header.from t.out in
+    cond_either (λ (u : Turn). Adds m.header.from 1 t.out u.out) (server.is_for t.state m.header) (server.receive_from t now m.header m.body) t
+    (λ f. let k = message_is t.state m.header f m.body q.0 in from_adds m.header t.out n t p now k.asked room few a m.body q.1)
+    (λ f. record { added = a.added; is = a.is; few = omega arith; named = a.named })
+
+pub answers_named : (s : ServerState) (now : Stamp) (m : Message) → IsSound s → HasRoom s → now.0 ≤ 2 ^ 62 → fits m ≡ true → AnswersAreNamed s now m
+unfolding server.take_input
+answers_named s now m k r b e =
+    message_adds (server.thefts (turn s []) now) (taken_locks s.locks) now m (begun (turn s []) now refl k r (moment_word now.0 b))
+    (room_after_thefts (turn s []) now refl k r (moment_word now.0 b)) r.locks e
+
+-- A node that runs goes on running, or runs out of memory.
+ok_is : {A B : Type 0} (b : Bool) (x y : A) (z : B) → b ≡ true → (if b then Ok x else Err z) ≡ Ok y → x ≡ y
+ok_is true x y z e f = cc
+ok_is false x y z e f = cc
+
+no_err : {A B : Type 0} (b : Bool) (x : A) (z w : B) → b ≡ true → (if b then Ok x else Err z) ≡ Err w → ⊥
+no_err true x z w e f = cc
+no_err false x z w e f = cc
+
+pub goes_on : (old new : ServerNode) (r : Result (List Output) StepFault) (now : Stamp) (i : ServerInput) → old.running ≡ true → Steps old new r (server.node_step old now i) → OnOk r (new.running ≡ true)
+unfolding server.node_step
+goes_on old new (Ok out) now i e f =
+    let same = ok_is old.running (server.node_turn old (server.server_step old.state now i)) (record { node = new; out = out }) Crashed e f in
+    sym (ap (λ (t : server.NodeTurn). t.node.running) same) ∙ e
+goes_on old new (Err x) now i e f = tt
+
+pub only_memory : (old new : ServerNode) (r : Result (List Output) StepFault) (now : Stamp) (i : ServerInput) → old.running ≡ true → Steps old new r (server.node_step old now i) → IfErr r (λ x. x ≡ faults.Memory)
+unfolding server.node_step
+only_memory old new (Ok out) now i e f = tt
+only_memory old new (Err faults.Memory) now i e f = refl
+only_memory old new (Err faults.Crashed) now i e f = elim (no_err old.running (server.node_turn old (server.server_step old.state now i)) Crashed Crashed e f.0) [ ]

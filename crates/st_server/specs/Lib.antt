@@ -3,4 +3,5 @@ pub mod Steps
 pub mod Told
 pub mod Room
 pub mod Sound
+pub mod Answers
 pub mod Ready

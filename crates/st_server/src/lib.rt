@@ -15,5 +15,5 @@ mod stable;
 mod step;
 mod suspicion;
 
-pub use node::ServerNode;
+pub use node::{ServerNode, answers_are_named};
 pub use stable::ServerStable;

@@ -1,5 +1,6 @@
 // Requests on locks.
-ghost use Rattle.std.specs.Prelude.{◌≡◌, ◌+◌, ◌^◌, ◌<◌, IfOk, Some};
+ghost use Rattle.std.specs.Prelude.{true, ◌≡◌, ◌+◌, ◌^◌, ◌<◌, IfOk, Some};
+ghost use Rattle.st_locks.specs.Calls.{is_lock};
 ghost use Rattle.st_locks.specs.Since.{IsClient};
 ghost use Rattle.st_rules.specs.Server as server;
 ghost use Rattle.st_server.specs.Steps.{Keeps, answered};
@@ -33,6 +34,7 @@ impl Machine {
         mode: Mode,
     ) -> Result<Body, AllocError>
         requires client { IsClient (server.sender h) }
+        requires lock { is_lock mode ≡ true }
         requires room { self.old.state.locks.grants + 1 < 2 ^ 32 }
         ensures ok { IfOk result (λ body. answered self.new (Some body) ≡ server.acquire_lock self.old now h ino mode) }
         ensures kept { Keeps self.old self.new }
@@ -69,6 +71,7 @@ impl Machine {
         mode: Mode,
     ) -> Result<Body, AllocError>
         requires client { IsClient (server.sender h) }
+        requires lock { is_lock mode ≡ true }
         requires room { self.old.state.locks.grants + 1 < 2 ^ 32 }
         ensures ok { IfOk result (λ body. answered self.new (Some body) ≡ server.acquire self.old now h ino mode) }
         ensures kept { Keeps self.old self.new }

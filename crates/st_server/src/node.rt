@@ -1,12 +1,16 @@
-ghost use Rattle.std.specs.Prelude.{◌≡◌, ◌≤◌, ◌<◌, ◌+◌, ◌-◌, ◌^◌, true, false, IsOk, IfOk, OnOk};
+ghost use Rattle.std.specs.Prelude.{◌≡◌, ◌≤◌, ◌<◌, ◌+◌, ◌-◌, ◌^◌, true, false, IsOk, IfOk, IfErr, OnOk};
 ghost use Rattle.std.specs.List.{list_all};
 ghost use Rattle.st_base.specs.Config as settings;
 ghost use Rattle.st_extents.specs.Layout.{IsWithinLimits};
 ghost use Rattle.st_rules.specs.Server as server;
+ghost use Rattle.st_messages.specs.Fits.{fits};
+ghost use Rattle.st_messages.specs.declared.output.StepFault.TheVariants.{Memory};
+ghost use Rattle.st_rules.specs.declared.input.ServerInput.TheVariants.{Control};
+ghost use Rattle.st_server.specs.Answers.{AnswersAreNamed};
 ghost use Rattle.st_server.specs.Parts.{stable_of};
 ghost use Rattle.st_server.specs.Ready.{comes_fit};
 ghost use Rattle.st_server.specs.Room.{HasRoom};
-ghost use Rattle.st_server.specs.Sound.{is_sent};
+ghost use Rattle.st_server.specs.Sound.{IsSound, is_sent};
 ghost use Rattle.st_server.specs.Steps.{Runs, Steps};
 
 use crate::machine::Machine;
@@ -15,7 +19,7 @@ use st_base::{Config, Epoch, ServerId, Stamp};
 use st_extents::Extents;
 use st_lease_server::Authority;
 use st_locks::LockTable;
-use st_messages::{Outputs, StepFault};
+use st_messages::{Message, Outputs, StepFault};
 use st_namespace::Names;
 use st_reassert::Grace;
 use st_rules::ServerInput;
@@ -65,7 +69,8 @@ impl ServerNode {
 
     /// Whether the node runs.
     pub fn running(&self) -> bool
-        ensures { result ≡ self.now.running }
+        ensures running { result ≡ self.now.running }
+        ensures sound { IsSound self.now.state }
     {
         self.running
     }
@@ -135,4 +140,27 @@ impl ServerNode {
             Err(StepFault::Crashed)
         }
     }
+}
+
+/// Takes a step of a node that runs, for a message. The rule for it adds at most one message to the outputs: an answer to its
+/// sender, which is a reply or a refusal by name and never a demand.
+///
+/// # Errors
+/// `Memory` where memory runs out; then the node is crashed.
+pub fn answers_are_named(
+    node: &mut ServerNode,
+    now: Stamp,
+    message: Message,
+) -> Result<Outputs, StepFault>
+    requires time { now.0 ≤ 2 ^ 62 }
+    requires fits { fits message ≡ true }
+    requires room { HasRoom node.old.state }
+    requires running { node.old.running ≡ true }
+    ensures exact { Steps node.old node.new result (server.node_step node.old now (Control message)) }
+    ensures runs { OnOk result (node.new.running ≡ true) }
+    ensures named { AnswersAreNamed node.old.state now message }
+    ensures fault { IfErr result (λ f. f ≡ Memory) }
+{
+    let _running = node.running();
+    node.step(now, ServerInput::Control(message))
 }

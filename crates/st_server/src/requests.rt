@@ -18,7 +18,7 @@ use std::alloc::AllocError;
 
 impl Machine {
     /// The rule of a request whose number is the next one, and its reply.
-    #[tactic(auto, unfolding(st_rules::specs::Server::rule, st_rules::specs::Server::keep_alive, st_messages::specs::Fits::is_body))]
+    #[tactic(auto, using(crate::proofs::Distinct::lock_mode), unfolding(st_rules::specs::Server::rule, st_rules::specs::Server::keep_alive, st_messages::specs::Fits::is_body))]
     fn rule(&mut self, now: Stamp, h: Header, body: &Body) -> Result<Option<Body>, AllocError>
         requires client { IsClient (server.sender h) }
         requires fits { is_body body.now ≡ true }

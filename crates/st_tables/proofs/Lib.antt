@@ -9,3 +9,4 @@ pub mod RisingKeys
 pub mod InOrder
 pub mod FirstPlaces
 pub mod Puts
+pub mod Passing

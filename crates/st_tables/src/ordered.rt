@@ -1,15 +1,15 @@
 // Values of a slab in the order in which they came.
-ghost use Rattle.std.specs.Prelude.{◌≡◌, ◌<◌, ◌^◌, ◌++◌, ◌∷◌, [], IsTrue, OnOk, OnErr, Some, filter, length, remove, slice_get};
+ghost use Rattle.std.specs.Prelude.{◌≡◌, ◌<◌, ◌+◌, ◌^◌, ◌++◌, ◌∷◌, [], OnOk, OnErr, false, filter, if◌then◌else◌, length, remove, slice_get};
 ghost use Rattle.std.specs.List.{position};
-ghost use Rattle.std.specs.Option.{option_copied};
+ghost use Rattle.std.specs.Option.{option_copied, option_map_or};
 
 use crate::keys::Test;
 use slab::Slab;
 use std::alloc::{AllocError, Global};
 use std::marker::Model;
 
-/// Values in the order in which they came. They stay where they are in memory while others come and go. Contracts see the
-/// list of the values; a place is that of a value in the list, from 0 on.
+/// Values in the order in which they came: a slab, whose values are not moved when others go, and the order of its keys.
+/// Contracts see the list of the values; a place is that of a value in the list, from 0 on.
 #[derive(Drop)]
 pub struct Ordered<V: Drop> {
     slab: Slab<V>,
@@ -78,5 +78,61 @@ impl<V: Drop> Ordered<V> {
     {
         let key = self.order.remove(place);
         self.slab.try_remove(key)
+    }
+
+    /// Takes out all values. It does not allocate.
+    pub fn clear(&mut self)
+        ensures { self.new ≡ [] }
+    {
+        self.slab.clear();
+        self.order.clear();
+    }
+
+    /// Whether the value at a place passes the test.
+    fn passes<T: Test<V>>(&self, place: usize, test: &T) -> bool
+        ensures { result ≡ option_map_or (T.passes test.now) (slice_get self.now place) false }
+    {
+        match self.get(place) {
+            Some(value) => test.test(value),
+            None => false,
+        }
+    }
+
+    /// The place of the first value that passes the test.
+    pub fn place<T: Test<V>>(&self, test: &T) -> Option<usize>
+        ensures { result ≡ position (T.passes test.now) self.now }
+    {
+        for i in 0..self.len() {
+            if self.passes(i, test) {
+                return Some(i);
+            }
+        }
+        None
+    }
+
+    /// Keeps the value at a place where it passes the test, and else takes it out. Returns the place of the next value.
+    fn keep<T: Test<V>>(&mut self, place: usize, test: &T) -> usize
+        requires { place < length self.old }
+        ensures left { self.new ≡ (if option_map_or (T.passes test.now) (slice_get self.old place) false then self.old else remove self.old place) }
+        ensures next { result ≡ (if option_map_or (T.passes test.now) (slice_get self.old place) false then place + 1 else place) }
+    {
+        let _len = self.len();
+        if self.passes(place, test) {
+            place + 1
+        } else {
+            let _value = self.take(place);
+            place
+        }
+    }
+
+    /// Keeps the values that pass the test. It does not allocate.
+    pub fn retain<T: Test<V>>(&mut self, test: &T)
+        ensures { self.new ≡ filter (T.passes test.now) self.old }
+    {
+        let count = self.len();
+        let mut place = 0;
+        for _i in 0..count {
+            place = self.keep(place, test);
+        }
     }
 }

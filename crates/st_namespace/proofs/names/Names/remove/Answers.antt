@@ -14,10 +14,10 @@ pub returns-then-is_full-clause-exact : goal.returns-then-is_full-clause-exact
 returns-then-is_full-clause-exact c = (refuses _ NotEmpty (remove_full _ _ _ _ _ (sym c.in_default.is ∙ c.place_refusal.ensures) (sym c.in-Some-found.is ∙ c.found.ensures) (sym c.is_full.ensures ∙ c.if-is_full.true)), refl)
 
 pub returns-clause-exact : goal.returns-clause-exact
-returns-clause-exact c = rw (c.drop_entry.ensures, ← c.self.view_is) (rw (← c.self.view_is) at (remove_gives c.args.self.now c.args.dir c.args.name.now c.in-Some-found.ino c.in-Some-found.directory (sym c.in_default.is ∙ c.place_refusal.ensures) (sym c.in-Some-found.is ∙ c.found.ensures) (sym c.is_full.ensures ∙ c.if-is_full.false)))
+returns-clause-exact c = rw (c.remove.ensures, ← c.self.view_is) (rw (← c.self.view_is) at (remove_gives c.args.self.now c.args.dir c.args.name.now c.in-Some-found.ino c.in-Some-found.directory (sym c.in_default.is ∙ c.place_refusal.ensures) (sym c.in-Some-found.is ∙ c.found.ensures) (sym c.is_full.ensures ∙ c.if-is_full.false)))
 
 pub invariant_of-self : goal.invariant_of-self
-invariant_of-self c = rw c.drop_entry.ensures (gone_in_order (record { entries = c.self.inside.entries.items; next = c.self.inside.next }) c.args.dir c.args.name.now c.self.invariant)
+invariant_of-self c = rw c.remove.ensures (gone_in_order (record { entries = c.self.inside.entries; next = c.self.inside.next }) c.args.dir c.args.name.now c.self.invariant)
 
 pub returns-clause-order : goal.returns-clause-order
 returns-clause-order c = invariant_of-self c

@@ -17,10 +17,10 @@ returns-in_err-ino-clause-exact c =
     rw (p.1, p.2) (inl (rename_refused _ _ _ _ _ _ (sym c.in_default.is ∙ c.place_refusal.ensures) (sym c.in_default-place_refusal.is ∙ c.place_refusal-2.ensures) c.in_err-ino.ensures.told), refl)
 
 pub returns-clause-exact : goal.returns-clause-exact
-returns-clause-exact c = rw (c.move_entry.ensures, c.in-Ok.ensures, ← c.self.view_is) (rw (← c.self.view_is) at (rename_gives c.args.self.now c.args.dir c.args.name.now c.args.dir2 c.args.name2.now c.in_ok-ino.ino (sym c.in_default.is ∙ c.place_refusal.ensures) (sym c.in_default-place_refusal.is ∙ c.place_refusal-2.ensures) c.in_ok-ino.ensures.told))
+returns-clause-exact c = rw (c.rename.ensures, c.in-Ok.ensures, ← c.self.view_is) (rw (← c.self.view_is) at (rename_gives c.args.self.now c.args.dir c.args.name.now c.args.dir2 c.args.name2.now c.in_ok-ino.ino (sym c.in_default.is ∙ c.place_refusal.ensures) (sym c.in_default-place_refusal.is ∙ c.place_refusal-2.ensures) c.in_ok-ino.ensures.told))
 
 pub invariant_of-self : goal.invariant_of-self
-invariant_of-self c = rw (c.move_entry.ensures, c.in-Ok.ensures) (renamed_in_order c.args.dir c.args.name.now c.args.dir2 c.args.name2.now (record { entries = c.self.inside.entries.items; next = c.self.inside.next }) c.self.invariant (rw (← c.self.view_is) at c.in_ok-ino.ensures.free))
+invariant_of-self c = rw (c.rename.ensures, c.in-Ok.ensures) (renamed_in_order c.args.dir c.args.name.now c.args.dir2 c.args.name2.now (record { entries = c.self.inside.entries; next = c.self.inside.next }) c.self.invariant (rw (← c.self.view_is) at c.in_ok-ino.ensures.free))
 
 pub returns-clause-order : goal.returns-clause-order
 returns-clause-order c = invariant_of-self c

@@ -1,0 +1,79 @@
+-- The promises that follow from what stands of every server and client: thefts come late, graces wait, servers send no conflict.
+use Rattle.std.proofs.Common.{◌≡◌, ℕ, true, List, Option, Some, None, Ok, refl, sym, ap, ◌∙◌, subst}
+use Rattle.std.specs.List.{list_all}
+use Rattle.st_base.specs.declared.ids.NodeId.{NodeId}
+use Rattle.st_base.specs.declared.ids.NodeId.TheVariants as nodes
+use Rattle.st_messages.specs.declared.event.Event.{Event}
+use Rattle.st_messages.specs.declared.event.Event.TheVariants as events
+use Rattle.st_rules.specs.declared.observation.Observation.{Observation}
+use Rattle.st_rules.specs.declared.world.SentMessage.{SentMessage}
+use Rattle.st_rules.specs.Admissible as admissible
+use Rattle.st_rules.specs.Events.{counted, happens, world_step}
+use Rattle.st_rules.specs.History.{Traced}
+use Rattle.st_rules.specs.Safety.{is_late}
+use Rattle.st_rules.specs.Server.{ServerNode}
+use Rattle.st_rules.specs.World.{World, is_running, message_of, node_of, receiver_of, server}
+use Rattle.st_assoc.specs.Assoc.{Config}
+use Rattle.st_laws_dates.proofs.Said.{All_calm}
+use Rattle.st_laws_server.specs.Pair.{Dates_known, Dates_shown}
+use Rattle.st_laws_server.proofs.Runs.{delivered, ticked}
+use Rattle.st_laws.specs.World.{AllStand}
+use Rattle.st_laws.proofs.Calmly.{late_all, client_hears, calm_tick, calm_ask, calm_loss, calm_advance, calm_effect, calm_report, calm_link, calm_crash, calm_stop, calm_start}
+use Rattle.st_laws.proofs.Everywhere.{first_none, message_there, positive, running_node, settings}
+use Rattle.st_laws.proofs.Fold.{not_false, not_stands, second_none}
+
+-- the dates of the history are known, and each server showed its own
+pub record Dates_stand (k : Config) (t : Traced) (count : ℕ) (a : AllStand k count t.world) : Type 0 where
+  pub known : Dates_known t.world t.history.dates
+  pub shown : (s : ℕ) (node : ServerNode) (e : node_of t.world (server s) ≡ Some node) (c : ℕ) → Dates_shown k.lease c s t.history.dates ((a.servers s node e).ghosts c).net
+
+module _ (k : Config) (t : Traced) (count : ℕ) (a : AllStand k count t.world) (d : Dates_stand k t count a) where
+  abbrev w : World
+  w = t.world
+
+  -- a tick of a server
+  tick_late : (s : ℕ) → admissible.refusal w (events.Tick (nodes.Server (server s))) ≡ None → world_step w (events.Tick (nodes.Server (server s))) ≡ Ok (happens (counted w) (events.Tick (nodes.Server (server s)))) →
+      list_all (is_late t) (happens (counted w) (events.Tick (nodes.Server (server s)))).seen ≡ true
+  unfolding admissible.refusal
+  tick_late s r e =
+      let n = running_node (node_of w (server s)) (not_false _ (not_stands _ _ (first_none _ _ (second_none _ _ r)))) in
+      let z = a.servers s n.0 n.1 in
+      (ticked k s z.ended w (happens (counted w) (events.Tick (nodes.Server (server s)))) n.0 z.ghosts a.sound n.2 (settings k count w a) z.both.ends e z.both.stands).late t refl d.known (d.shown s n.0 n.1)
+
+  -- a message that is delivered to a server
+  message_late : (n s : ℕ) (m : SentMessage) → admissible.refusal w (events.Deliver n) ≡ None → message_of w n ≡ Some m → receiver_of m ≡ nodes.Server (server s) →
+      world_step w (events.Deliver n) ≡ Ok (happens (counted w) (events.Deliver n)) → list_all (is_late t) (happens (counted w) (events.Deliver n)).seen ≡ true
+  unfolding admissible.refusal admissible.refused_delivery
+  message_late n s m r em er e =
+      let q = subst (λ o. admissible.refused_delivery w n o ≡ None) em r in
+      let runs = not_false _ (not_stands _ _ (first_none _ _ (second_none _ _ (second_none _ _ q)))) in
+      let y = running_node (node_of w (server s)) (ap (is_running w) (sym er) ∙ runs) in
+      let z = a.servers s y.0 y.1 in
+      (delivered k s z.ended w n m (happens (counted w) (events.Deliver n)) y.0 z.ghosts a.sound (positive k count w a s y.0 y.1) y.2 (settings k count w a) z.both.ends e em er z.both.stands).late t refl d.known (d.shown s y.0 y.1)
+
+  calm : (os : List Observation) → All_calm os → list_all (is_late t) os ≡ true
+  calm os c = late_all t os c
+
+  -- every event
+  pub thefts_late : (e : Event) → admissible.refusal w e ≡ None → world_step w e ≡ Ok (happens (counted w) e) → list_all (is_late t) (happens (counted w) e).seen ≡ true
+  thefts_late (events.Tick (nodes.Client c)) r e = calm _ (calm_tick (counted w) c)
+  thefts_late (events.Tick (nodes.Server s)) r e = tick_late s.0 r e
+  thefts_late (events.App c ask) r e = calm _ (calm_ask (counted w) c ask)
+  thefts_late (events.Deliver n) r e = go (message_of w n) refl
+    where
+      to : (m : SentMessage) → message_of w n ≡ Some m → (x : NodeId) → receiver_of m ≡ x → list_all (is_late t) (happens (counted w) (events.Deliver n)).seen ≡ true
+      to m q (nodes.Client c) f = calm _ (client_hears w n m c q f)
+      to m q (nodes.Server s) f = message_late n s.0 m r q f e
+
+      go : (o : Option SentMessage) → message_of w n ≡ o → list_all (is_late t) (happens (counted w) (events.Deliver n)).seen ≡ true
+      go None q = absurd (message_there w n q r)
+      go (Some m) q = to m q (receiver_of m) refl
+  thefts_late (events.Lose n) r e = calm _ (calm_loss (counted w) n)
+  thefts_late (events.Cut x y) r e = calm _ (calm_link (counted w) x y).0
+  thefts_late (events.Heal x y) r e = calm _ (calm_link (counted w) x y).1
+  thefts_late (events.Advance steps) r e = calm _ (calm_advance (counted w) steps)
+  thefts_late (events.Effect n) r e = calm _ (calm_effect (counted w) n)
+  thefts_late (events.Report n ok) r e = calm _ (calm_report (counted w) n ok)
+  thefts_late (events.Crash (nodes.Client c)) r e = calm _ (calm_crash (counted w) c)
+  thefts_late (events.Crash (nodes.Server s)) r e = calm _ (calm_stop (counted w) s)
+  thefts_late (events.Start x) r e = calm _ (calm_start (counted w) x)
