@@ -1,5 +1,5 @@
 -- A client's step: what it asks has its clock's reading for a stamp, and its leases are dated by messages that came.
-use Rattle.std.proofs.Common.{◌≡◌, ℕ, ◌⊎◌, Bool, true, false, List, [], ◌∷◌, ◌++◌, Option, Some, None, Ok, Err, refl, sym, ap, subst, inl, inr, if◌then◌else◌}
+use Rattle.std.proofs.Common.{◌≡◌, ℕ, ◌⊎◌, Bool, true, false, List, [], ◌∷◌, ◌++◌, Option, Some, None, Ok, Err, refl, sym, ap, subst, inl, inr, if◌then◌else◌, ◌∙◌}
 use Rattle.std.specs.Prelude.{map, Result}
 use Rattle.st_base.specs.declared.ids.ClientId.{ClientId}
 use Rattle.st_base.specs.declared.ids.ServerId.{ServerId}
@@ -11,6 +11,7 @@ use Rattle.st_base.specs.declared.ids.Stamp.{Stamp}
 use Rattle.st_base.specs.declared.mode.Mode.{Mode}
 use Rattle.st_base.specs.declared.mode.Mode.TheVariants as modes
 use Rattle.st_base.specs.Page.{filled}
+use Rattle.st_base.specs.Mode.{covers}
 use Rattle.st_messages.specs.declared.ask.Ask.{Ask}
 use Rattle.st_messages.specs.declared.ask.Ask.TheVariants as asks
 use Rattle.st_messages.specs.declared.answer.AppAnswer.{AppAnswer}
@@ -22,6 +23,7 @@ use Rattle.st_messages.specs.declared.output.Note.{Note}
 use Rattle.st_messages.specs.declared.output.Note.TheVariants as notes
 use Rattle.st_messages.specs.declared.output.Output.{Output}
 use Rattle.st_messages.specs.declared.output.Output.TheVariants as outputs
+use Rattle.st_rules.specs.declared.client.HeldLock.{HeldLock}
 use Rattle.st_rules.specs.declared.pages.DirtyPage.{DirtyPage}
 use Rattle.st_rules.specs.declared.client.IoKind.TheVariants as io
 use Rattle.st_rules.specs.declared.client.KnownExtent.{KnownExtent}
@@ -40,15 +42,71 @@ use Rattle.st_rules.specs.ClientPasses as cp
 use Rattle.st_rules.specs.ClientState as cs
 use Rattle.st_rules.specs.ClientState.{ClientSession, Association, ClientState, ClientTurn, Turn, client_turn, enter, leave, at_these, at_each, with_associations, with_session, with_store, with_operations, with_cache, forget_wait, fits, is_asked, is_of, is_at, is_sent, only_at, is_serving, is_open_file, answer_each, send, say, new_operation}
 use Rattle.st_rules.specs.Dating as dating
+use Rattle.st_rules.specs.Keys.{page_no}
+use Rattle.st_rules.specs.Safety.{is_conflict}
 use Rattle.st_lemmas.specs.Lists.{Has}
+use Rattle.st_lemmas.proofs.Lookups.{some_is}
 use Rattle.st_lemmas.proofs.Tables.{has_append, has_map}
-use Rattle.st_laws_dates.specs.Dates.{Dates, Session_dated}
+use Rattle.st_laws_dates.specs.Dates.{Dates, Calm_request, Session_dated}
+
+-- What an operation asks is no refusal.
+abbrev Calm_wanted : Option cp.Wanted → Type 0
+Calm_wanted None = Unit {0}
+Calm_wanted (Some w) = is_conflict w.body ≡ false
+
+calm_if : (b : Bool) (x y : Option cp.Wanted) → Calm_wanted x → Calm_wanted y → Calm_wanted (if b then x else y)
+calm_if true x y p q = p
+calm_if false x y p q = q
+
+lock_calm : (t : Turn) (s : ClientSession) (now : Stamp) (ino : ℕ) (mode : Mode) → Calm_wanted (cp.want_lock t s now ino mode)
+unfolding cp.want_lock
+lock_calm t s now ino mode = calm_if (cp.is_wait_old t.config now mode (cs.wait_of s.waits ino)) (cp.wanted (bodies.Acquire ino mode)) None refl tt
+
+held_calm : (t : Turn) (a : Ask) (ino : ℕ) (g : GrantNo) → Calm_wanted (cp.want_held t a ino g)
+unfolding cp.want_held cp.want_map cp.want_block cp.want_cut
+held_calm t (asks.Read f p) ino g = calm_if (cp.is_at_hand t ino p) None (cp.wanted (bodies.Map ino g p)) tt refl
+held_calm t (asks.Write f p bytes) ino g = calm_if (pages.is_mapped t.here.store.extents ino p) None (cp.wanted (bodies.Allocate ino g p 1)) tt refl
+held_calm t (asks.Patch f p at bytes) ino g = calm_if (pages.is_mapped t.here.store.extents ino p) None (cp.wanted (bodies.Allocate ino g p 1)) tt refl
+held_calm t (asks.Cut f p) ino g = calm_if (pages.is_idle t.here.store ino) (cp.wanted_cut (bodies.Cut ino g p) ino p) None refl tt
+held_calm t (asks.Name server ask) ino g = calm_if (pages.is_idle t.here.store ino) (cp.wanted_cut (bodies.Name (cp.name_op ask g)) ino (page_no 0)) None refl tt
+held_calm t (asks.Sync f) ino g = tt
+
+by_calm : (t : Turn) (s : ClientSession) (now : Stamp) (a : Ask) (ino : ℕ) (l : Option HeldLock) → Calm_wanted (cp.want_by t s now a ino l)
+unfolding cp.want_by cp.want_under
+by_calm t s now a ino None = lock_calm t s now ino (cp.need a)
+by_calm t s now a ino (Some l) = calm_if (covers l.mode (cp.need a)) (cp.want_held t a ino l.g) (cp.want_lock t s now ino (cp.need a)) (held_calm t a ino l.g) (lock_calm t s now ino (cp.need a))
+
+name_calm : (a : Ask) → Calm_wanted (cp.want_name a)
+unfolding cp.want_name
+name_calm (asks.Name server ask) = refl
+name_calm a = tt
+
+at_calm : (t : Turn) (s : ClientSession) (now : Stamp) (a : Ask) (f : Option ℕ) → Calm_wanted (cp.want_at t s now a f)
+unfolding cp.want_at cp.want_on
+at_calm t s now a None = name_calm a
+at_calm t s now a (Some ino) = by_calm t s now a ino (locks.lock_of s.locks ino)
+
+want_calm : (t : Turn) (s : ClientSession) (now : Stamp) (a : Ask) → Calm_wanted (cp.want t s now a)
+unfolding cp.want
+want_calm t s now (asks.Sync f) = tt
+want_calm t s now a = at_calm t s now a (cs.file_of a)
+
+first_calm : (t : Turn) (s : ClientSession) (now : Stamp) (os : List Operation) (a : cp.Asking) → cp.first_asking t s now os ≡ Some a → is_conflict a.wanted.body ≡ false
+unfolding cp.first_asking cp.asks_or cp.asked_by
+first_calm t s now [] a e = cc
+first_calm t s now (o ∷ os) a e = go (cp.asked_by t s now o) (cp.first_asking t s now os) refl (calm_if (cp.may_ask t s o) (cp.want t s now o.ask) None (want_calm t s now o.ask) tt) e (λ b f. first_calm t s now os b f)
+  where
+    go : (x : Option cp.Wanted) (l : Option cp.Asking) → cp.first_asking t s now os ≡ l → Calm_wanted x → cp.asks_or o os l x ≡ Some a → ((b : cp.Asking) → cp.first_asking t s now os ≡ Some b → is_conflict b.wanted.body ≡ false) → is_conflict a.wanted.body ≡ false
+    go None None f q e r = cc
+    go None (Some b) f q e r = ap (λ (z : cp.Asking). is_conflict z.wanted.body) (sym (some_is e)) ∙ r b f
+    go (Some w) l f q e r = ap (λ (z : cp.Asking). is_conflict z.wanted.body) (sym (some_is e)) ∙ q
 
 module _ (ms : List Message) (c : ClientId) (now : Stamp) where
   -- a message is from this client, and where it is a request it has the clock's reading
   pub record Asks_now (m : Message) : Type 0 where
     pub from : m.header.from ≡ c.0
     pub stamp : dating.is_request m.body ≡ true → m.header.stamp ≡ now.0
+    pub calm : is_conflict m.body ≡ false
 
   abbrev pub Outs : List Output → Type 0
   Outs os = (m : Message) → Has (outputs.Send m) os → Asks_now m
@@ -84,7 +142,7 @@ module _ (ms : List Message) (c : ClientId) (now : Stamp) where
     G t = Good s life t
 
     abbrev D : ClientSession → Type 0
-    D x = Dates ms c s life x.lease.date
+    D x = Dates ms c s life x.lease.date × Calm_request x.requests.asked
 
     -- what is neither the session nor a message
     pub g_say : (t : Turn) (o : Output) → ((m : Message) → o ≡ outputs.Send m → ⊥) → G t → G (say t o)
@@ -114,15 +172,15 @@ module _ (ms : List Message) (c : ClientId) (now : Stamp) where
     g_session t x d p = record { id_ = p.id_; server_ = p.server_; life_ = p.life_; dated = d; outs = p.outs }
 
     -- a message
-    pub g_send : (t : Turn) (epoch number stamp : ℕ) (b : Body) → (dating.is_request b ≡ true → stamp ≡ now.0) → G t → G (send t epoch number stamp b)
+    pub g_send : (t : Turn) (epoch number stamp : ℕ) (b : Body) → (dating.is_request b ≡ true → stamp ≡ now.0) → is_conflict b ≡ false → G t → G (send t epoch number stamp b)
     unfolding send
-    g_send t epoch number stamp b f p =
+    g_send t epoch number stamp b f calm p =
         record {
           id_ = p.id_;
           server_ = p.server_;
           life_ = p.life_;
           dated = p.dated;
-          outs = outs_more t.out _ p.outs (λ m e. subst Asks_now (is m e) (record { from = ap (λ (x : ClientId). x.0) p.id_; stamp = f }));
+          outs = outs_more t.out _ p.outs (λ m e. subst Asks_now (is m e) (record { from = ap (λ (x : ClientId). x.0) p.id_; stamp = f; calm = calm }));
         }
       where
         is : (m : Message) → outputs.Send (record { header = cs.header_of t epoch number stamp; body = b }) ≡ outputs.Send m → record { header = cs.header_of t epoch number stamp; body = b } ≡ m
@@ -248,41 +306,47 @@ module _ (ms : List Message) (c : ClientId) (now : Stamp) where
     o_greeting tick t p = go t.here.session
       where
         go : (x : Option ClientSession) → G (cp.greeting_by t now tick x)
-        go None = g_if (cp.must_greet t now tick) _ _ (g_send (cp.with_greeting now t) 0 0 now.0 bodies.Hello (λ e. refl) (record { id_ = p.id_; server_ = p.server_; life_ = p.life_; dated = p.dated; outs = p.outs })) p
+        go None = g_if (cp.must_greet t now tick) _ _ (g_send (cp.with_greeting now t) 0 0 now.0 bodies.Hello (λ e. refl) refl (record { id_ = p.id_; server_ = p.server_; life_ = p.life_; dated = p.dated; outs = p.outs })) p
         go (Some x) = p
 
     -- Requests.
-    o_ask : (t : Turn) (x : ClientSession) (b : Body) (cut : Option ℕ) → D x → G t → G (cp.ask t x now b cut)
-    unfolding cp.ask
-    o_ask t x b cut d p = g_send (with_session (cp.asking_session x now b cut) t) _ _ now.0 b (λ e. refl) (g_session t (cp.asking_session x now b cut) d p)
+    o_ask : (t : Turn) (x : ClientSession) (b : Body) (cut : Option ℕ) → is_conflict b ≡ false → D x → G t → G (cp.ask t x now b cut)
+    unfolding cp.ask cs.asking
+    o_ask t x b cut calm d p = g_send (with_session (cp.asking_session x now b cut) t) _ _ now.0 b (λ e. refl) calm (g_session t (cp.asking_session x now b cut) (asked d) p)
+      where
+        asked : D x → D (cp.asking_session x now b cut)
+        asked (a, r) = (a, calm)
 
     o_alive : (t : Turn) (x : ClientSession) → D x → G t → G (cp.keep_alive t x now)
     unfolding cp.keep_alive
-    o_alive t x d p = g_if (lease.is_renewing (lease.phase_of t.config x.lease now)) _ _ (o_ask t x bodies.KeepAlive None d p) p
+    o_alive t x d p = g_if (lease.is_renewing (lease.phase_of t.config x.lease now)) _ _ (o_ask t x bodies.KeepAlive None refl d p) p
 
     o_ask_new : (t : Turn) (x : ClientSession) → D x → G t → G (cp.ask_new t x now)
     unfolding cp.ask_new cp.reassert cp.ask_by cp.ask_release cp.ask_next cp.ask_for_or cp.ask_for
-    o_ask_new t x d p = g_if x.due _ _ (o_ask t x _ None d p) (by x.releases)
+    o_ask_new t x d p = g_if x.due _ _ (o_ask t x _ None refl d p) (by x.releases)
       where
-        or : (a : Option cp.Asking) → G (cp.ask_for_or t x now a)
-        or None = o_alive t x d p
-        or (Some a) = o_ask _ x a.wanted.body _ d (g_store _ _ (g_ops t a.operations p))
+        or : (a : Option cp.Asking) → cp.first_asking t x now t.operations ≡ a → G (cp.ask_for_or t x now a)
+        or None e = o_alive t x d p
+        or (Some a) e = o_ask _ x a.wanted.body _ (first_calm t x now t.operations a e) d (g_store _ _ (g_ops t a.operations p))
 
         by : (rs : List Release) → G (cp.ask_by t x now rs)
-        by [] = g_if (is_serving t.config x now) _ _ (or (cp.first_asking t x now t.operations)) (o_alive t x d p)
-        by (r ∷ rs) = o_ask t (record x { releases = rs }) _ None d p
+        by [] = g_if (is_serving t.config x now) _ _ (or (cp.first_asking t x now t.operations) refl) (o_alive t x d p)
+        by (r ∷ rs) = o_ask t (record x { releases = rs }) _ None refl d p
 
     o_requests : (tick : Bool) (t : Turn) → G t → G (cp.requests now tick t)
     unfolding cp.requests cp.requests_by cp.requests_under cp.requests_at cp.repeat cp.ask_again
     o_requests tick t p = go t.here.session p.dated
       where
-        at : (x : ClientSession) (q : Option Request) → D x → G (cp.requests_at t x now tick q)
-        at x None d = o_ask_new t x d p
-        at x (Some q) d = g_if (cp.is_old t.config now tick q) _ _ (g_send (with_session (cp.again_session x now q) t) _ _ now.0 q.body (λ e. refl) (g_session t (cp.again_session x now q) d p)) p
+        again : (x : ClientSession) (q : Request) → D x → is_conflict q.body ≡ false → D (cp.again_session x now q)
+        again x q (a, r) calm = (a, calm)
+
+        at : (x : ClientSession) (q : Option Request) → Calm_request q → D x → G (cp.requests_at t x now tick q)
+        at x None r d = o_ask_new t x d p
+        at x (Some q) r d = g_if (cp.is_old t.config now tick q) _ _ (g_send (with_session (cp.again_session x now q) t) _ _ now.0 q.body (λ e. refl) r (g_session t (cp.again_session x now q) (again x q d r) p)) p
 
         go : (x : Option ClientSession) → Session_dated ms c s life x → G (cp.requests_by t now tick x)
         go None d = p
-        go (Some x) d = g_if x.lease.condemned _ _ p (at x x.requests.asked d)
+        go (Some x) d = g_if x.lease.condemned _ _ p (at x x.requests.asked d.1 d)
 
     pub o_passes : (tick : Bool) (t : Turn) → G t → G (cp.passes now tick t)
     unfolding cp.passes cp.operations cp.reductions

@@ -54,7 +54,7 @@ use Rattle.st_rules.specs.ClientState.{ClientSession, Association, ClientState, 
 use Rattle.st_rules.specs.Dating as dating
 use Rattle.st_lemmas.specs.Lists.{Has}
 use Rattle.st_lemmas.proofs.Tables.{cond_either, and_true, has_append}
-use Rattle.st_laws_dates.specs.Dates.{Dates, Session_dated, Association_dated, Client_dated}
+use Rattle.st_laws_dates.specs.Dates.{Dates, Calm_request, Session_dated, Association_dated, Client_dated}
 use Rattle.st_laws_dates.proofs.Asking.{Outs, Good, g_answer, g_note, g_store, g_lost, g_ops, g_each, g_session, g_send, g_if, outs_more, o_passes}
 
 module _ (ms : List Message) (c : ClientId) (now : Stamp) (s : ServerId) (life : Life) where
@@ -62,7 +62,7 @@ module _ (ms : List Message) (c : ClientId) (now : Stamp) (s : ServerId) (life :
   G t = Good ms c now s life t
 
   abbrev D : ClientSession → Type 0
-  D x = Dates ms c s life x.lease.date
+  D x = Dates ms c s life x.lease.date × Calm_request x.requests.asked
 
   g_with : (t : Turn) (x : ClientSession) → D x → G t → G (with_session x t)
   g_with t x d p = g_session ms c now s life t x d p
@@ -143,7 +143,7 @@ module _ (ms : List Message) (c : ClientId) (now : Stamp) (s : ServerId) (life :
     r_welcome t e p =
         g_if ms c now s life (cr.is_timely t now stamp) _ _
         (g_note ms c now s life (cr.begin_here (cr.new_session (record { 0 = h.epoch }) stamp) t) _
-        (record { id_ = p.id_; server_ = p.server_; life_ = p.life_; dated = date bodies.Welcome e refl; outs = p.outs })) p
+        (record { id_ = p.id_; server_ = p.server_; life_ = p.life_; dated = (date bodies.Welcome e refl, tt); outs = p.outs })) p
 
     r_without : (t : Turn) (b : Body) → m.body ≡ b → G t → G (cr.without_session t now h b)
     unfolding cr.without_session
@@ -155,7 +155,7 @@ module _ (ms : List Message) (c : ClientId) (now : Stamp) (s : ServerId) (life :
     r_other t x epoch (bodies.Nack w a b) d p = go w
       where
         go : (w : Why) → G (cr.refused_in t x epoch w)
-        go why.OtherEpoch = g_if ms c now s life (cr.is_newer x epoch) _ _ (g_each ms c now s life _ _ _ (g_with t (cr.in_epoch epoch x) d p)) p
+        go why.OtherEpoch = g_if ms c now s life (cr.is_newer x epoch) _ _ (g_each ms c now s life _ _ _ (g_with t (cr.in_epoch epoch x) (d.0, tt) p)) p
         go w = p
     r_other t x epoch b d p = p
 
@@ -241,7 +241,7 @@ module _ (ms : List Message) (c : ClientId) (now : Stamp) (s : ServerId) (life :
         (g_with _ (cr.ended_by stamp x) later (g_if ms c now s life (lease.is_renewal stamp x.lease) _ _ (g_note ms c now s life t _ p) p))
       where
         later : D (cr.ended_by stamp x)
-        later = cond_either (λ (l : ClientLease). Dates ms c s life l.date) (lease.is_renewal stamp x.lease) (lease.dated stamp x.lease) x.lease (λ e. new) (λ e. d)
+        later = (cond_either (λ (l : ClientLease). Dates ms c s life l.date) (lease.is_renewal stamp x.lease) (lease.dated stamp x.lease) x.lease (λ e. new) (λ e. d.0), tt)
 
     r_reply_of : (t : Turn) (x : ClientSession) (reply : Body) → m.body ≡ reply → dating.may_date h.number reply ≡ true → D x → G t → G (cr.reply_of t x now h reply)
     unfolding cr.reply_of cr.counted cr.by_request cr.count_reply
@@ -265,7 +265,7 @@ module _ (ms : List Message) (c : ClientId) (now : Stamp) (s : ServerId) (life :
     r_demand t x ino g md d p = go (with_cache (locks.demand x.locks ino g md).locks x) (locks.demand x.locks ino g md).asked d
       where
         go : (y : ClientSession) (a : Asked) → D y → G (cr.demand_as t y ino g a)
-        go y Reduce d = g_send ms c now s life (with_session y t) y.epoch.0 0 0 (bodies.DemandSeen ino g) (λ e. cc) (g_with t y d p)
+        go y Reduce d = g_send ms c now s life (with_session y t) y.epoch.0 0 0 (bodies.DemandSeen ino g) (λ e. cc) refl (g_with t y d p)
         go y NotHeld d = g_with t _ (cond_either D (cr.has_release y ino g) y (cs.with_release ino g modes.None y) (λ e. d) (λ e. d)) p
         go y Stale d = p
 

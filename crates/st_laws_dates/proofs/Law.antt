@@ -30,7 +30,8 @@ use Rattle.st_lemmas.proofs.Lookups.{some_is, or_left, or_right}
 use Rattle.st_lemmas.proofs.Numbers.{get_map}
 use Rattle.st_lemmas.proofs.Steps.{step_happens, throughout}
 use Rattle.st_laws_dates.specs.Dates.{message_in, messages, is_dating, is_from_client, Born, Answer, Dates, Session_dated, Client_dated, Runs, Server_known, Timer_quiet, Dated}
-use Rattle.st_laws_dates.specs.Law.{Leases_are_dated}
+use Rattle.st_laws_dates.specs.Law.{Leases_are_dated, Clients_send_no_conflict, ClientsSendNoConflict}
+use Rattle.st_laws_dates.proofs.Calm.{step_calm}
 use Rattle.st_laws_dates.proofs.Steps.{Next, next_dated, happens, from_server, has_numbered, length_map}
 
 all_true : {A : Type 0} (p : A → Bool) (xs : List A) → ((x : A) → Has x xs → p x ≡ true) → list_all p xs ≡ true
@@ -108,7 +109,7 @@ module _ (past : List Step) (t : Traced) (d : Dated past t) where
     where
       session : (a : Association) (x : Option ClientSession) → a.server.0 ≡ s.0 → Session_dated (messages t.world) c a.server a.life x → session_dated past t c s a.life x ≡ true
       session a None e z = refl
-      session a (Some x) e z = subst (λ n. session_dated past t c (record { 0 = n }) a.life (Some x) ≡ true) e (session_ok c a.server a.life x.lease.date z)
+      session a (Some x) e z = subst (λ n. session_dated past t c (record { 0 = n }) a.life (Some x) ≡ true) e (session_ok c a.server a.life x.lease.date z.0)
 
       found : (site : ClientSite) → Client_dated (messages t.world) c site.node.state → (o : Option Association) → find (is_at s) site.node.state.associations ≡ o → association_dated past t c s o ≡ true
       found site k None e = refl
@@ -180,3 +181,7 @@ fresh_dated k clients servers disks blocks form head =
 
 pub law : Leases_are_dated
 law k clients servers disks blocks form es head events = throughout LeasesAreDatedFromRequests Dated one es [] (traced (fresh_world k clients servers disks blocks form)) (fresh_dated k clients servers disks blocks form head)
+
+pub calm_law : Clients_send_no_conflict
+calm_law k clients servers disks blocks form es head =
+    throughout ClientsSendNoConflict Dated (λ past t e sc d q. (step_calm past t e sc d q, (one past t e sc d q).1)) es [] (traced (fresh_world k clients servers disks blocks form)) (fresh_dated k clients servers disks blocks form head)

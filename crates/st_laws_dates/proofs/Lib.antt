@@ -4,4 +4,5 @@ pub mod Asking
 pub mod Hearing
 pub mod Said
 pub mod Steps
+pub mod Calm
 pub mod Law

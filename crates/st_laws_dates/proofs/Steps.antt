@@ -69,7 +69,7 @@ dates_more ms ns f c x p = record { id = p.id; all = λ a h. go a.server a.life 
   where
     go : (s : ServerId) (life : Life) (o : Option Rattle.st_rules.specs.ClientState.ClientSession) → Session_dated ms c s life o → Session_dated ns c s life o
     go s life None d = tt
-    go s life (Some y) d = record { by = d.by; among = f d.by d.among; from = d.from; to = d.to; of_life = d.of_life; stamp = d.stamp; dating = d.dating }
+    go s life (Some y) (d, r) = (record { by = d.by; among = f d.by d.among; from = d.from; to = d.to; of_life = d.of_life; stamp = d.stamp; dating = d.dating }, r)
 
 -- servers and clients have other node numbers
 server_not_client : (c s : ℕ) → c ≤ 16 → c ≡ 32768 + s → ⊥

@@ -6,6 +6,7 @@ use Rattle.st_base.specs.declared.ids.Life.{Life}
 use Rattle.st_base.specs.declared.ids.Stamp.{Stamp}
 use Rattle.st_base.specs.declared.ids.NodeId.TheVariants as nodes
 use Rattle.st_messages.specs.declared.message.Message.{Message}
+use Rattle.st_rules.specs.declared.client.Request.{Request}
 use Rattle.st_rules.specs.declared.authority.Suspect.{Suspect}
 use Rattle.st_rules.specs.declared.locks.LockRow.{LockRow}
 use Rattle.st_rules.specs.declared.locks.Waiter.{Waiter}
@@ -21,7 +22,7 @@ use Rattle.st_rules.specs.Server.{ServerNode, ServerState, is_client_node}
 use Rattle.st_rules.specs.World.{World, ClientSite, clock_of, site_of, node_of, numbered}
 use Rattle.st_rules.specs.History.{Traced, TimerStart, is_timer_of}
 use Rattle.st_rules.specs.Dating as dating
-use Rattle.st_rules.specs.Safety.{Step}
+use Rattle.st_rules.specs.Safety.{Step, is_conflict}
 use Rattle.st_lemmas.specs.Lists.{Has}
 
 -- The messages.
@@ -74,10 +75,15 @@ pub record Dates (ms : List Message) (c : ClientId) (s : ServerId) (life : Life)
   pub stamp : by.header.stamp ≡ date.0
   pub dating : is_dating by ≡ true
 
--- a session's lease has the stamp of such a message for its date
+-- the outstanding request is no refusal because of a conflict
+abbrev pub Calm_request : Option Request → Type 0
+Calm_request None = Unit {0}
+Calm_request (Some q) = is_conflict q.body ≡ false
+
+-- a session's lease has the stamp of such a message for its date, and its outstanding request is no such refusal
 abbrev pub Session_dated : List Message → ClientId → ServerId → Life → Option ClientSession → Type 0
 Session_dated ms c s life None = Unit {0}
-Session_dated ms c s life (Some x) = Dates ms c s life x.lease.date
+Session_dated ms c s life (Some x) = Dates ms c s life x.lease.date × Calm_request x.requests.asked
 
 -- the lease of an association is dated
 abbrev pub Association_dated : List Message → ClientId → Association → Type 0
