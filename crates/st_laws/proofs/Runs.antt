@@ -9,7 +9,7 @@ use Rattle.st_messages.specs.declared.event.Event.TheVariants as events
 use Rattle.st_rules.specs.declared.observation.WorldRefusal.{WorldRefusal}
 use Rattle.st_rules.specs.Events.{Scene, world_step}
 use Rattle.st_rules.specs.History.{Traced, traced, traced_after}
-use Rattle.st_rules.specs.Safety.{DirtyPagesStandAlone, GraceWaits, IsHead, Promise, Step, TheftsComeLate, Throughout, is_event, is_increment, is_late, step, steps, steps_on}
+use Rattle.st_rules.specs.Safety.{DirtyPagesStandAlone, GraceWaits, NoConflictIsSent, IsHead, Promise, Step, TheftsComeLate, Throughout, is_event, is_increment, is_late, is_no_conflict, step, steps, steps_on}
 use Rattle.st_rules.specs.World.{World, fresh_world}
 use Rattle.st_lemmas.proofs.Steps.{step_happens}
 use Rattle.st_lemmas.proofs.Tables.{and_true}
@@ -18,10 +18,12 @@ use Rattle.st_assoc.specs.Assoc.{Config}
 use Rattle.st_laws.specs.Law.{In_every_run, Runs_stand}
 use Rattle.st_laws.specs.World.{AllStand, Is_full}
 use Rattle.st_laws.proofs.Beginning.{begun}
+use Rattle.st_laws_dates.specs.Dates.{Dated}
+use Rattle.st_laws_dates.proofs.Law as dated
 use Rattle.st_laws_history.proofs.RepliesLaw as replies
 use Rattle.st_laws.proofs.Everywhere.{stays}
 use Rattle.st_laws.proofs.Alone.{all_stand_alone}
-use Rattle.st_laws.proofs.Promised.{graces_wait, thefts_late}
+use Rattle.st_laws.proofs.Promised.{graces_wait, no_conflicts, thefts_late}
 
 -- A promise holds throughout a run over events in their ranges, if a fact of the past and the state gives it at each step and stands
 -- again after it.
@@ -97,3 +99,20 @@ pages_stand_alone k clients servers disks blocks form es head events =
     (λ past t e sc h s taken. let z = stays (terms_of k) (clients + servers) t.world e sc s (full (clients + servers) t.world e s.nodes h) taken in
     (all_stand_alone (terms_of k) (clients + servers) sc.world z, z)) es events []
     (traced (fresh_world k clients servers disks blocks form)) (begun k clients servers disks blocks form head)
+
+-- no conflict is sent, in every run
+pub no_conflict_sent : In_every_run NoConflictIsSent
+no_conflict_sent k clients servers disks blocks form es head events =
+    throughout_events (clients + servers) NoConflictIsSent Stand
+    (λ past t e sc h b taken. (quiet past t e sc b taken, record { behind = behind (terms_of k) (clients + servers) past t e sc h b.behind taken; dated = (dated.one past t e sc b.dated taken).1 })) es events []
+    (traced (fresh_world k clients servers disks blocks form))
+    (record { behind = at_first k clients servers disks blocks form head; dated = dated.fresh_dated k clients servers disks blocks form head })
+  where
+    Stand : List Step → Traced → Type 0
+    Stand past t = record { behind : Behind (terms_of k) (clients + servers) past t; dated : Dated past t }
+
+    quiet : (past : List Step) (t : Traced) (e : Event) (sc : Scene) → Stand past t → world_step t.world e ≡ Ok sc → NoConflictIsSent past (step t e sc)
+    quiet past t e sc b taken =
+        let p = step_happens t.world e sc taken in
+        subst (λ (x : Scene). list_all is_no_conflict x.seen ≡ true) (sym p.1)
+        (no_conflicts (terms_of k) t (clients + servers) b.behind.all (replies.dates_stand past t b.behind.dates) past b.dated e p.0 (taken ∙ ap (λ (x : Scene). Ok x) p.1))

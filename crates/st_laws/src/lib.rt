@@ -1,7 +1,7 @@
 //! Laws over the world: both sides of every association at once, through every event of every run.
 #![tactic(auto)]
 
-ghost use Rattle.st_rules.specs.Safety.{DirtyPagesStandAlone, GraceWaits, TheftsComeLate};
+ghost use Rattle.st_rules.specs.Safety.{DirtyPagesStandAlone, GraceWaits, NoConflictIsSent, TheftsComeLate};
 ghost use Rattle.st_laws.specs.Law.{Client_events_keep, In_every_run, Runs_stand};
 
 /// What stands of a server and all its clients stands again after each event of a client, and after each that no node takes part in.
@@ -28,4 +28,9 @@ pub fn graces_wait()
 /// In every run, while a page of a file is dirty at one client, no other client holds a lock on the file or has a row there.
 pub fn dirty_pages_stand_alone()
     ensures { In_every_run DirtyPagesStandAlone }
+{}
+
+/// In every run no server refuses a reassertion because another client's lock conflicts.
+pub fn no_conflict_is_sent()
+    ensures { In_every_run NoConflictIsSent }
 {}

@@ -1,5 +1,5 @@
 -- No client sends a refusal because of a conflict.
-use Rattle.std.proofs.Common.{◌≡◌, ◌+◌, Bool, true, false, not, ◌&&◌, List, [], ◌∷◌, ◌++◌, Option, Some, None, Ok, Err, refl, sym, ap, subst, inl, inr, if◌then◌else◌}
+use Rattle.std.proofs.Common.{◌≡◌, ℕ, ◌+◌, Bool, true, false, not, ◌&&◌, List, [], ◌∷◌, ◌++◌, Option, Some, None, Ok, Err, refl, sym, ap, subst, inl, inr, if◌then◌else◌}
 use Rattle.std.specs.List.{list_all}
 use Rattle.st_base.specs.declared.ids.ClientId.{ClientId}
 use Rattle.st_base.specs.declared.ids.NodeId.{NodeId}
@@ -87,6 +87,26 @@ module _ (past : List Step) (t : Traced) (d : Dated past t) where
   at_client c i None q k = refl
   at_client c i (Some site) q k = client_no_conflict (messages t.world) c w i site k (d.clients c site q)
 
+  -- a report, whether a client hears of it or not
+  pub report_calm : (k : ℕ) (ok : Bool) → list_all is_no_conflict (ev.happens w (events.Report k ok)).seen ≡ true
+  unfolding ev.happens ev.reports_of ev.tells ev.tells_client ev.tells_site
+  report_calm k ok = go (world.issued_of t.world k)
+    where
+      v : World
+      v = ev.with_disks (ev.disks_after w.disks (Rattle.st_rules.specs.Disks.done w.disks k ok)) w
+
+      at : (x : IssuedCommand) (o : Option ClientSite) → site_of t.world x.client ≡ o → list_all is_no_conflict (ev.tells_client v k ok x o).seen ≡ true
+      at x None q = refl
+      at x (Some site) q = pick (ev.is_same_instance x site)
+        where
+          pick : (b : Bool) → list_all is_no_conflict (if b then ev.client_takes v x.client (ev.end_told v k ok x) site else ev.quiet v).seen ≡ true
+          pick true = client_no_conflict (messages t.world) x.client v (ev.end_told v k ok x) site tt (d.clients x.client site q)
+          pick false = refl
+
+      go : (o : Option IssuedCommand) → list_all is_no_conflict (ev.tells v k ok o).seen ≡ true
+      go None = refl
+      go (Some x) = at x (site_of t.world x.client) refl
+
   pub happens_calm : (e : Event) (c : ClientId) → takes_step t.world c e ≡ true → list_all is_no_conflict (ev.happens w e).seen ≡ true
   unfolding ev.happens ev.ticks ev.asks_at ev.delivers ev.delivers_to ev.reports_of ev.tells ev.tells_client ev.tells_site
   happens_calm (events.Tick (nodes.Client b)) c y = at_client b inputs.Tick (site_of t.world b) refl tt
@@ -105,22 +125,7 @@ module _ (past : List Step) (t : Traced) (d : Dated past t) where
       go : (o : Option SentMessage) → world.message_of t.world k ≡ o → is_receiver c o ≡ true → list_all is_no_conflict (ev.delivers w o).seen ≡ true
       go None q z = cc z
       go (Some m) q z = to m (world.receiver_of m) (numbered_has t.world.net.messages k m q) z
-  happens_calm (events.Report k ok) c y = go (world.issued_of t.world k)
-    where
-      v : World
-      v = ev.with_disks (ev.disks_after w.disks (Rattle.st_rules.specs.Disks.done w.disks k ok)) w
-
-      at : (x : IssuedCommand) (o : Option ClientSite) → site_of t.world x.client ≡ o → list_all is_no_conflict (ev.tells_client v k ok x o).seen ≡ true
-      at x None q = refl
-      at x (Some site) q = pick (ev.is_same_instance x site)
-        where
-          pick : (b : Bool) → list_all is_no_conflict (if b then ev.client_takes v x.client (ev.end_told v k ok x) site else ev.quiet v).seen ≡ true
-          pick true = client_no_conflict (messages t.world) x.client v (ev.end_told v k ok x) site tt (d.clients x.client site q)
-          pick false = refl
-
-      go : (o : Option IssuedCommand) → list_all is_no_conflict (ev.tells v k ok o).seen ≡ true
-      go None = refl
-      go (Some x) = at x (site_of t.world x.client) refl
+  happens_calm (events.Report k ok) c y = report_calm k ok
   happens_calm e c y = cc y
 
 pub step_calm : (past : List Step) (t : Traced) (e : Event) (sc : Scene) → Dated past t → ev.world_step t.world e ≡ Ok sc → ClientsSendNoConflict past (step t e sc)
