@@ -12,3 +12,6 @@ pub mod Step
 pub mod Seen
 pub mod Held
 pub mod Locked
+pub mod World
+pub mod Others
+pub mod Restarts

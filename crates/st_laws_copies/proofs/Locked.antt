@@ -58,7 +58,7 @@ differs_from sv [] a d h = elim h [ ]
 differs_from sv (x ∷ xs) a d (inl e) = ap (λ (y : Association). same_server sv y.server) e ∙ d.one
 differs_from sv (x ∷ xs) a d (inr h) = differs_from sv xs a d.rest h
 
-found_there : (xs : List Association) (a : Association) → Apart xs → Has a xs → find (is_at a.server) xs ≡ Some a
+pub found_there : (xs : List Association) (a : Association) → Apart xs → Has a xs → find (is_at a.server) xs ≡ Some a
 found_there [] a d h = elim h [ ]
 found_there (x ∷ xs) a d (inl e) = ap (λ b. if b then Some x else find (is_at a.server) xs) (eq-eqb x.server.0 a.server.0 (ap (λ (y : Association). y.server.0) (sym e))) ∙ ap (λ y. Some y) (sym e)
 found_there (x ∷ xs) a d (inr h) = ap (λ b. if b then Some x else find (is_at a.server) xs) (differs_from x.server xs a d.one h) ∙ found_there xs a d.rest h

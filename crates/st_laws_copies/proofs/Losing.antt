@@ -114,7 +114,7 @@ module _ (ask_of : ℕ → Option Ask) (c : ClientId) (lives : ServerId → Life
       go true q = record { one = r.one; rest = q }
       go false q = q
 
-  lived_on : (sv : ServerId) (old life : Life) (l : List LogEntry) → old.0 ≤ life.0 → Lived c sv old l → Lived c sv life l
+  pub lived_on : (sv : ServerId) (old life : Life) (l : List LogEntry) → old.0 ≤ life.0 → Lived c sv old l → Lived c sv life l
   lived_on sv old life [] h r = record {}
   lived_on sv old life (e ∷ l) h r = record { one = λ o s. let z = r.one o s in omega (arith, z, h); rest = lived_on sv old life l h r.rest }
 

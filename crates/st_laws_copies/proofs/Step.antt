@@ -31,7 +31,7 @@ use Rattle.st_laws_client.specs.World.{logged}
 use Rattle.st_laws_client.proofs.Steps.{nothing_more}
 use Rattle.st_laws_copies.specs.Copies.{Right, Right_one, Fates_ok, Hard_on, Asked_so, Joined, All_of, Keeps, file_at}
 use Rattle.st_laws_copies.specs.Owed.{Message_owed, End_owed, Numbered}
-use Rattle.st_laws_copies.specs.Law.{Copies_at, All_copies, Apart, Lived, Stands_at, All_stand, All_owed, Lives_are, Steps_keep_copies, Joined_by}
+use Rattle.st_laws_copies.specs.Law.{Copies_at, All_copies, Apart, Lived, All_lived, Stands_at, All_stand, All_owed, Lives_are, Steps_keep_copies, Joined_by}
 use Rattle.st_laws_copies.proofs.Logs.{logged_both, right_both, still}
 use Rattle.st_laws_copies.proofs.Away.{joined_content}
 use Rattle.st_laws_copies.proofs.Copies.{k_same, k_then, k_if, k_aside, k_keep}
@@ -83,10 +83,6 @@ lives_same lives (a ∷ xs) [] s l = absurd s
 lives_at : (lives : ServerId → Life) (past rest : List Association) (a : Association) → Lives_are lives (past ++ a ∷ rest) → lives a.server ≡ a.life
 lives_at lives [] rest a l = l.one
 lives_at lives (x ∷ past) rest a l = lives_at lives past rest a l.rest
-
-abbrev All_lived : ClientId → List LogEntry → List Association → Type 0
-All_lived c es [] = Unit {0}
-All_lived c es (a ∷ rest) = record { one : Lived c a.server a.life es; rest : All_lived c es rest }
 
 lived_last : (c : ClientId) (es : List LogEntry) (xs : List Association) (a : Association) → All_lived c es xs → Lived c a.server a.life es → All_lived c es (xs ++ a ∷ [])
 lived_last c es [] a r l = record { one = l; rest = record {} }
@@ -270,6 +266,21 @@ module _ (ask_of : ℕ → Option Ask) (c : ClientId) (lives : ServerId → Life
   all_logged : (os : List Output) (xs : List Association) → Lives_are lives xs → All_lived c es xs → All_lived c (logged c lives os es) xs
   all_logged os [] e v = record {}
   all_logged os (a ∷ xs) e v = record { one = lived_logged c lives a.server a.life os es e.one v.one; rest = all_logged os xs e.rest v.rest }
+
+-- the associations behind a step are with servers that differ, whatever stands of the copies
+pub step_apart : (ask_of : ℕ → Option Ask) (c : ClientId) (lives : ServerId → Life) (es : List LogEntry) (s : ClientState) (n : Stamp) (input : ClientInput) → Apart s.associations → Numbered ask_of input →
+    All_owed c lives es input (cl.losses (client_turn s []) n).state.associations → Apart (cl.client_step s n input).state.associations
+unfolding cl.client_step cl.work cl.losses at_each
+step_apart ask_of c lives es s n input h a o =
+    let T : ClientTurn = client_turn s [] in
+    let U : ClientTurn = cl.losses T n in
+    let V : ClientTurn = cl.take_input U n input in
+    let lost : Lost ask_of c lives es (with_associations [] T) s.associations U = losses_these ask_of c lives es n s.associations (with_associations [] T) in
+    let d : Apart U.state.associations = apart_same _ _ lost.servers h in
+    let taken : Made ask_of c lives es U [] V = made_input ask_of c lives es U n input d a (subst (λ l. All_owed c lives l input U.state.associations) (sym lost.log) o) in
+    let d2 : Apart V.state.associations = apart_same _ _ (servers_of _ _ taken.places) (subst (λ xs. Apart xs) (sym (nothing_more U.state.associations)) d) in
+    let worked : Made ask_of c lives es V [] (cl.client_step s n input) = made_free ask_of c lives es (cp.passes n (cl.is_tick input)) (k_passes ask_of c lives es n (cl.is_tick input)) V d2 in
+    apart_same _ _ (servers_of _ _ worked.places) (subst (λ xs. Apart xs) (sym (nothing_more V.state.associations)) d2)
 
 pub law : Steps_keep_copies
 unfolding cl.client_step cl.work cl.losses at_each

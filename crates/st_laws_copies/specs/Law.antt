@@ -60,6 +60,11 @@ abbrev pub Lived : ClientId → ServerId → Life → List LogEntry → Type 0
 Lived c sv life [] = Unit {0}
 Lived c sv life (e ∷ es) = record { one : is_of_client c e.of ≡ true → e.of.file.server ≡ sv → e.of.life.0 ≤ life.0; rest : Lived c sv life es }
 
+-- at each server
+abbrev pub All_lived : ClientId → List LogEntry → List Association → Type 0
+All_lived c es [] = Unit {0}
+All_lived c es (a ∷ rest) = record { one : Lived c a.server a.life es; rest : All_lived c es rest }
+
 -- What stands between two steps at one server: the copies, by the association's own life, beyond which no entry is.
 pub record Stands_at (c : ClientId) (es : List LogEntry) (a : Association) : Type 0 where
   pub pages : (ino : ℕ) (p : PageNo) → Page_ok (held_in a.session ino).mode (content es (file_at a.server ino) p) a.store ino p

@@ -1,3 +1,4 @@
 pub mod Copies
 pub mod Owed
 pub mod Law
+pub mod World

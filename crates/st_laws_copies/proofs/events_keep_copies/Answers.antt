@@ -1,0 +1,16 @@
+use Rattle.st_laws_copies.proofs.World.{law}
+use Rattle.st_laws_copies.proofs.Others.{entries_law, effects_law}
+use Rattle.st_laws_copies.proofs.Restarts.{law as restarts_law}
+use Rattle.st_laws_copies.proofs.events_keep_copies.Goals as goal
+
+pub returns-clause-own : goal.returns-clause-own
+returns-clause-own c = law
+
+pub returns-clause-entries : goal.returns-clause-entries
+returns-clause-entries c = entries_law
+
+pub returns-clause-effects : goal.returns-clause-effects
+returns-clause-effects c = effects_law
+
+pub returns-clause-restarts : goal.returns-clause-restarts
+returns-clause-restarts c = restarts_law

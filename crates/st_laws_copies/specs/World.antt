@@ -1,0 +1,131 @@
+-- In the world: an event at which a client takes an input keeps its copies, by the log of the world that it leaves.
+use Rattle.std.specs.Prelude.{◌≡◌, ℕ, ◌+◌, Bool, true, false, List, [], ◌∷◌, ◌++◌, Option, Some, None, Ok, if◌then◌else◌}
+use Rattle.st_base.specs.declared.ids.ClientId.{ClientId}
+use Rattle.st_base.specs.declared.ids.FileId.{FileId}
+use Rattle.st_base.specs.declared.ids.Stamp.{Stamp}
+use Rattle.st_base.specs.declared.ids.NodeId.{NodeId}
+use Rattle.st_base.specs.declared.ids.NodeId.TheVariants as nodes
+use Rattle.st_messages.specs.declared.ask.Ask.{Ask}
+use Rattle.st_messages.specs.declared.event.Event.{Event}
+use Rattle.st_messages.specs.declared.event.Event.TheVariants as events
+use Rattle.st_messages.specs.declared.message.Message.{Message}
+use Rattle.st_rules.specs.declared.client.ClientInput.{ClientInput}
+use Rattle.st_rules.specs.declared.client.ClientInput.TheVariants as inputs
+use Rattle.st_rules.specs.declared.log.LogEntry.{LogEntry}
+use Rattle.st_rules.specs.declared.world.Carried.{Carried}
+use Rattle.st_rules.specs.declared.world.IssuedCommand.{IssuedCommand}
+use Rattle.st_rules.specs.declared.world.SentMessage.{SentMessage}
+use Rattle.st_rules.specs.Client as cl
+use Rattle.st_rules.specs.ClientState.{Association, ClientState, ClientTurn, client_turn}
+use Rattle.st_rules.specs.Disks as disks
+use Rattle.st_rules.specs.World.{World, ClientSite, site_of, clock_of, issued_of, life_with, message_of, receiver_of}
+use Rattle.st_rules.specs.FlatLog.{is_of_client}
+use Rattle.st_rules.specs.Events as ev
+use Rattle.st_rules.specs.Events.{Scene}
+use Rattle.st_views.specs.Halves.{held_in}
+use Rattle.st_laws_client.specs.World.{logged}
+use Rattle.st_laws_copies.specs.Copies.{Right}
+use Rattle.st_laws_copies.specs.Owed.{Numbered}
+use Rattle.st_laws_copies.specs.Law.{Apart, All_lived, Client_stands, All_owed}
+
+-- What a client takes at an event: in which world, which input, and where it stands then.
+pub record Taking : Type 0 where
+  pub world : World
+  pub client : ClientId
+  pub input : ClientInput
+  pub site : ClientSite
+
+-- a client that is there takes it
+abbrev pub taking : World → ClientId → ClientInput → Option ClientSite → Option Taking
+taking w c input None = None
+taking w c input (Some site) = Some (record { world = w; client = c; input = input; site = site })
+
+-- an ask is counted at its client
+abbrev pub asking : World → ClientId → Ask → Option ClientSite → Option Taking
+asking w c ask None = None
+asking w c ask (Some site) = Some (record { world = w; client = c; input = inputs.App (site.asks + 1) ask; site = ev.asked_once_more site })
+
+-- a message for a client
+abbrev pub hearing : World → Message → NodeId → Option Taking
+hearing w m (nodes.Client c) = taking w c (inputs.Control m) (site_of w c)
+hearing w m (nodes.Server s) = None
+
+-- the message of a number
+abbrev pub hearing_of : World → Option SentMessage → Option Taking
+hearing_of w None = None
+hearing_of w (Some m) = hearing w m.message (receiver_of m)
+
+-- a client is told the end of its command, where the instance that submitted it runs
+abbrev pub told_at : World → ℕ → Bool → IssuedCommand → Option ClientSite → Option Taking
+told_at w k ok x None = None
+told_at w k ok x (Some site) = if ev.is_same_instance x site then taking w x.client (ev.end_told w k ok x) (Some site) else None
+
+-- the client of a command
+abbrev pub told_of : World → ℕ → Bool → Option IssuedCommand → Option Taking
+told_of w k ok None = None
+told_of w k ok (Some x) = told_at w k ok x (site_of w x.client)
+
+-- What is taken at an event.
+abbrev pub taken : World → Event → Option Taking
+taken w (events.Tick (nodes.Client c)) = taking w c inputs.Tick (site_of w c)
+taken w (events.App c ask) = asking w c ask (site_of w c)
+taken w (events.Deliver k) = hearing_of w (message_of w k)
+taken w (events.Report k ok) = told_of (ev.with_disks (ev.disks_after w.disks (disks.done w.disks k ok)) w) k ok (issued_of w k)
+taken w e = None
+
+-- the step that it takes then, and the associations behind its losses
+abbrev pub now_at : Taking → Stamp
+now_at x = clock_of x.world (nodes.Client x.client)
+
+-- the step
+abbrev pub turn_of : Taking → ClientTurn
+turn_of x = cl.client_step x.site.node.state (now_at x) x.input
+
+-- What is owed of it: of the client behind its losses, under the lives behind its step.
+abbrev pub Owed_of : Taking → Type 0
+Owed_of x = All_owed x.client (life_with (turn_of x).state) x.world.log x.input (cl.losses (client_turn x.site.node.state []) (now_at x)).state.associations
+
+-- What it leaves: the copies stand by the log of the world left, each output is right by the log at it, and that log is the one before
+-- with what the outputs log.
+pub record World_keeps (asked_as : ℕ → Option Ask) (c : ClientId) (es fs : List LogEntry) (t : ClientTurn) : Type 0 where
+  pub stands : Client_stands asked_as c fs t.state
+  pub right : Right asked_as c (life_with t.state) es t.out
+  pub log : fs ≡ logged c (life_with t.state) t.out es
+
+-- An event at which a client that runs takes an input keeps its copies, under what other laws owe of it.
+abbrev pub Events_keep_copies : Type 0
+Events_keep_copies =
+    (asked_as : ℕ → Option Ask) (w : World) (e : Event) (sc : Scene) (x : Taking) → ev.world_step w e ≡ Ok sc → taken (ev.counted w) e ≡ Some x →
+    x.site.node.running ≡ true → Client_stands asked_as x.client x.world.log x.site.node.state → Numbered asked_as x.input → Owed_of x →
+    World_keeps asked_as x.client x.world.log sc.world.log (turn_of x)
+
+-- What joins and changes the log elsewhere.
+
+-- this client has no lock on the file
+abbrev pub Unheld : FileId → List Association → Type 0
+Unheld f [] = Unit {0}
+Unheld f (a ∷ xs) = record { one : f.server ≡ a.server → (held_in a.session f.ino).mode ≡ 0; rest : Unheld f xs }
+
+-- What stands of a client's copies stands by a log to which an entry of nobody or of another client joins, on a file of which this client
+-- has no lock.
+abbrev pub Entries_keep_copies : Type 0
+Entries_keep_copies =
+    (asked_as : ℕ → Option Ask) (c : ClientId) (es : List LogEntry) (s : ClientState) (e : LogEntry) → is_of_client c e.of ≡ false →
+    Unheld e.of.file s.associations → Client_stands asked_as c es s → Client_stands asked_as c (es ++ e ∷ []) s
+
+-- And it stands by a log in which what a disk command carries becomes hard.
+abbrev pub Effects_keep_copies : Type 0
+Effects_keep_copies =
+    (asked_as : ℕ → Option Ask) (c : ClientId) (es : List LogEntry) (s : ClientState) (x : Option Carried) → Client_stands asked_as c es s →
+    Client_stands asked_as c (ev.log_hard es x) s
+
+-- What stands of a client that does not run: its servers differ, and no entry of it is of a life beyond its association's.
+pub record Client_rests (c : ClientId) (es : List LogEntry) (s : ClientState) : Type 0 where
+  pub apart : Apart s.associations
+  pub lived : All_lived c es s.associations
+
+-- A client that crashes rests, and one that starts has its copies, of which there are none.
+abbrev pub Restarts_keep_copies : Type 0
+Restarts_keep_copies =
+    (asked_as : ℕ → Option Ask) (c : ClientId) (es : List LogEntry) (s : ClientState) →
+    record { crashes : Client_stands asked_as c es s → Client_rests c es (cl.crash s); starts : Client_rests c es s → Client_stands asked_as c es (cl.start s) }
