@@ -6,8 +6,8 @@ ghost use Rattle.st_rules.specs.ServerInvariants.{are_once};
 ghost use Rattle.st_flush.specs.Calls.{AreApart, Ends, is_taken_in, may_begin, no_commands_of, same_page_write, told, told_on, with_commands};
 
 use crate::picks::{
-    AnyWrite, InRange, Numbered, OfPage, OnFile, ReadOf, WriteOf, WriteOn, any_command,
-    drop_commands, find_command,
+    AnyWrite, InRange, NotNumbered, NotReadOf, Numbered, OfPage, OnFile, ReadOf, WriteOf, WriteOn,
+    any_command, find_command,
 };
 use st_base::{PageNo, ServerId};
 use st_lease_client::{CommandLoss, CommandsGone, DrainPermit, Receipt, SubmitPermit};
@@ -20,7 +20,6 @@ use std::marker::Model;
 /// commands in the order in which they were submitted.
 #[derive(Drop)]
 pub struct Flusher {
-    alloc: Global,
     server: ServerId,
     commands: Ordered<PageCommand>,
 }
@@ -107,7 +106,6 @@ impl Flusher {
         ensures { IfOk result (λ f. f ≡ no_commands_of server) }
     {
         Ok(Flusher {
-            alloc,
             server,
             commands: Ordered::new(alloc),
         })
@@ -184,7 +182,7 @@ impl Flusher {
         match find_command(&self.commands, &Numbered { number }) {
             None => Ended::Unknown,
             Some(command) => {
-                drop_commands(&mut self.commands, &Numbered { number });
+                self.commands.retain(&NotNumbered { number });
                 ended_as(command, ok, version)
             }
         }
@@ -195,7 +193,7 @@ impl Flusher {
     pub fn forget_read(&mut self, ino: u32, page: PageNo)
         ensures { self.new ≡ with_commands (pages.forget_read self.old.commands ino page) self.old }
     {
-        drop_commands(&mut self.commands, &ReadOf { ino, page });
+        self.commands.retain(&NotReadOf { ino, page });
     }
 
     /// A command becomes outstanding.
@@ -308,7 +306,7 @@ impl Flusher {
         ensures commands { self.new ≡ no_commands_of self.old.server }
         ensures gone { result ≡ loss }
     {
-        self.commands = Ordered::new(self.alloc);
+        self.commands.clear();
         loss.done()
     }
 }

@@ -1,7 +1,6 @@
 // Commands that a test picks, among those that are outstanding.
-ghost use Rattle.std.specs.Prelude.{◌≡◌, ◌<◌, Some, filter, find, not, length, remove, slice_get, if◌then◌else◌};
+ghost use Rattle.std.specs.Prelude.{◌≡◌, find};
 ghost use Rattle.std.specs.List.{list_any};
-ghost use Rattle.st_rules.specs.declared.client.PageCommand.{PageCommand};
 ghost use Rattle.st_rules.specs.ClientPages as pages;
 
 use st_base::PageNo;
@@ -31,6 +30,23 @@ impl Test<PageCommand> for Numbered {
 
     fn test(&self, command: &PageCommand) -> bool {
         command.number == self.number
+    }
+}
+
+/// The commands of other numbers.
+#[derive(Clone, Copy)]
+pub struct NotNumbered {
+    pub number: u64,
+}
+
+impl Test<PageCommand> for NotNumbered {
+    ghost use Rattle.std.specs.Prelude.{not};
+    ghost use Rattle.st_rules.specs.ClientPages.{is_numbered};
+
+    ghost passes = { λ t c. not (is_numbered t.number c) };
+
+    fn test(&self, command: &PageCommand) -> bool {
+        command.number != self.number
     }
 }
 
@@ -65,6 +81,24 @@ impl Test<PageCommand> for ReadOf {
 
     fn test(&self, command: &PageCommand) -> bool {
         !is_write(command.kind) && command.ino == self.ino && command.page.0 == self.page.0
+    }
+}
+
+/// All but the read of this page.
+#[derive(Clone, Copy)]
+pub struct NotReadOf {
+    pub ino: u32,
+    pub page: PageNo,
+}
+
+impl Test<PageCommand> for NotReadOf {
+    ghost use Rattle.std.specs.Prelude.{not};
+    ghost use Rattle.st_rules.specs.ClientPages.{is_read_of};
+
+    ghost passes = { λ t c. not (is_read_of t.ino t.page c) };
+
+    fn test(&self, command: &PageCommand) -> bool {
+        is_write(command.kind) || command.ino != self.ino || command.page.0 != self.page.0
     }
 }
 
@@ -169,28 +203,4 @@ pub fn any_command<T: Test<PageCommand>>(commands: &Ordered<PageCommand>, test: 
     ensures { result ≡ list_any (T.passes test.now) commands.now }
 {
     find_command(commands, test).is_some()
-}
-
-/// Takes out the command at a place, where the test picks it.
-fn drop_at<T: Test<PageCommand>>(commands: &mut Ordered<PageCommand>, test: &T, place: usize)
-    requires { place < length commands.old }
-    ensures { (c : PageCommand) → slice_get commands.old place ≡ Some c → commands.new ≡ (if T.passes test.now c then remove commands.old place else commands.old) }
-{
-    match commands.get(place).copied() {
-        None => {}
-        Some(command) => {
-            if test.test(&command) {
-                let _command = commands.take(place);
-            }
-        }
-    }
-}
-
-/// Takes out the commands that the test picks.
-pub fn drop_commands<T: Test<PageCommand>>(commands: &mut Ordered<PageCommand>, test: &T)
-    ensures { commands.new ≡ filter (λ c. not (T.passes test.now c)) commands.old }
-{
-    for i in (0..commands.len()).rev() {
-        drop_at(commands, test, i);
-    }
 }

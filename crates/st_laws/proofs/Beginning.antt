@@ -23,7 +23,7 @@ use Rattle.st_lemmas.specs.Lists.{Has}
 use Rattle.st_lemmas.proofs.Lookups.{some_is}
 use Rattle.st_lemmas.proofs.Numbers.{get_map, numbered_below}
 use Rattle.st_lemmas.proofs.Tables.{and_true}
-use Rattle.st_laws_pages.proofs.Whole.{fresh_lives}
+use Rattle.st_laws_pages.proofs.Whole.{fresh_fates}
 use Rattle.st_laws_client.specs.Law.{Apart, Place}
 use Rattle.st_laws_server.specs.Pair.{Served, Timed, client_in, client_at_site, client_view, idle_client, pair, terms_of}
 use Rattle.st_laws_server.specs.Stands.{Stands, pairs}
@@ -333,7 +333,7 @@ module _ (kb : Config) (clients servers disks blocks form : ℕ) (head : IsHead 
         terms = ap terms_of (sym settings_are);
         sound = sound.sound;
         waits = sound.waits;
-        lives = fresh_lives kb clients servers disks blocks form;
+        fates = fresh_fates kb clients servers disks blocks form;
         clocks = clocks_are ∙ (λ j. sym clients_are j + sym servers_are j);
         nodes = clocks_are;
         first = record { node = node_at_start kb servers disks blocks 1; is = first };

@@ -26,7 +26,6 @@ use Rattle.st_rules.specs.Events.{Scene, counted, happens, quiet, with_node, ser
 use Rattle.st_rules.specs.Keys.{server_node}
 use Rattle.st_rules.specs.Server as sv
 use Rattle.st_rules.specs.Server.{ServerNode, crash_node, start_node, is_client_node}
-use Rattle.st_rules.specs.World as world
 use Rattle.st_rules.specs.World.{World, ClientSite, clock_of, ended_of, is_life_of, is_running, message_of, node_of, node_runs, numbered, receiver_of, server, site_of, with_numbered}
 use Rattle.st_assoc.specs.Assoc.{Config, In, Msg}
 use Rattle.st_lemmas.specs.Lists.{Has}
@@ -36,8 +35,8 @@ use Rattle.st_lemmas.proofs.Steps.{step_happens}
 use Rattle.st_lemmas.proofs.Tables.{and_true, found_at, same_or_not}
 use Rattle.st_views.specs.Halves.{Ghost}
 use Rattle.st_views.proofs.Moves.{Grows}
-use Rattle.st_laws_pages.specs.Lives.{LivesHold}
-use Rattle.st_laws_pages.proofs.LifeSteps.{happens_lives}
+use Rattle.st_laws_pages.specs.Owed.{FatesHold}
+use Rattle.st_laws_pages.proofs.Steps.{fates_law}
 use Rattle.st_laws_client.proofs.Goes.{kept_any}
 use Rattle.st_laws_server.specs.Edits.{Wish_input}
 use Rattle.st_laws_server.specs.Law.{started_ghosts}
@@ -65,7 +64,7 @@ get_is [] n l = absurd (omega arith)
 get_is (x ∷ xs) zero l = (x, refl)
 get_is (x ∷ xs) (suc n) l = get_is xs n (omega arith)
 
-numbered_is : {A : Type 0} (xs : List A) (n : ℕ) → 1 ≤ n → n ≤ length xs → (x : A) × (numbered xs n ≡ Some x)
+pub numbered_is : {A : Type 0} (xs : List A) (n : ℕ) → 1 ≤ n → n ≤ length xs → (x : A) × (numbered xs n ≡ Some x)
 numbered_is xs zero p l = absurd (omega arith)
 numbered_is xs (suc n) p l = get_is xs n (omega arith)
 
@@ -140,11 +139,6 @@ message_there w n e r = no (sym (ap (admissible.refused_delivery w n) e) ∙ r)
     no : {A : Type 0} {x : A} → ◌≡◌ {A = Option A} (Some x) None → ⊥
     no e = cc
 
--- an event that counts is refused as before
-counted_refusal : (w : World) (e : Event) → admissible.refusal w e ≡ None → admissible.refusal (counted w) e ≡ None
-unfolding admissible.refusal admissible.refused_delivery admissible.clocks_refused admissible.flush_missed admissible.refused_effect admissible.refused_report world.node_of_place admissible.missed_by
-counted_refusal w e r = r
-
 module _ (k : Config) (count : ℕ) (w : World) (a : AllStand k count w) where
   -- each grant has a mode
   modes : Grants_have_modes w
@@ -157,7 +151,7 @@ module _ (k : Config) (count : ℕ) (w : World) (a : AllStand k count w) where
   pub settings : Settings k w
   settings =
       record {
-        lease = λ c site e. ap (λ (kb : base.Config). kb.lease) (a.lives.lives.sites c site e).config ∙ sym (ap (λ (z : Config). z.lease) a.terms);
+        lease = λ c site e. ap (λ (kb : base.Config). kb.lease) (a.fates.lives.lives.sites c site e).config ∙ sym (ap (λ (z : Config). z.lease) a.terms);
         ended = λ c s life e. go c s life e (ended_of w c s life) refl;
       }
     where
@@ -168,20 +162,20 @@ module _ (k : Config) (count : ℕ) (w : World) (a : AllStand k count w) where
       go c s life e None f = refl
       go c s life e (Some x) f =
           let z = found_at (is_life_of c s life) w.ended x f in
-          let y = a.lives.lives.ends x z.1 in
+          let y = a.fates.lives.lives.ends x z.1 in
           absurd (no y.site (sym e ∙ ap (numbered w.clients) (sym (eqb-true x.client.0 c.0 (and_true (x.client.0 == c.0) _ z.0).0)) ∙ y.there))
 
   pub positive : (s : ℕ) (node : ServerNode) → node_of w (server s) ≡ Some node → 1 ≤ s
   positive s node e = (numbered_below w.servers s node e).0
 
   -- An event of a client, or one that no node takes part in.
-  by_client : (e : Event) → Client_event w e → world_step w e ≡ Ok (happens (counted w) e) → LivesHold (happens (counted w) e).world → AllStand k count (happens (counted w) e).world
+  by_client : (e : Event) → Client_event w e → world_step w e ≡ Ok (happens (counted w) e) → FatesHold (happens (counted w) e).world → AllStand k count (happens (counted w) e).world
   by_client e kind taken lives =
       record {
         terms = a.terms ∙ (λ j. terms_of (sym left.config j));
         sound = a.sound;
         waits = a.waits;
-        lives = lives;
+        fates = lives;
         clocks = (λ j. length (left.clocks j)) ∙ a.clocks ∙ (λ j. sym left.many j + length (sym left.servers j));
         nodes = (λ j. length (left.clocks j)) ∙ a.nodes;
         first = there (server 1) a.first;
@@ -233,13 +227,13 @@ module _ (k : Config) (count : ℕ) (w : World) (a : AllStand k count w) where
     pub messages : (m : SentMessage) → Has m v.net.messages → Has m w.net.messages ⊎ (m.message.header.from ≡ 32768 + t)
     pub own : Server_stands k v t next
 
-  by_server : (t : ℕ) (v : World) → LivesHold v → Server_event t v → AllStand k count v
+  by_server : (t : ℕ) (v : World) → FatesHold v → Server_event t v → AllStand k count v
   by_server t v lives q =
       record {
         terms = a.terms ∙ (λ j. terms_of (sym q.config j));
         sound = a.sound;
         waits = a.waits;
-        lives = lives;
+        fates = lives;
         clocks = (λ j. length (q.clocks j)) ∙ a.clocks ∙ (λ j. length (sym q.clients j) + sym many j);
         nodes = (λ j. length (q.clocks j)) ∙ a.nodes;
         first = there (server 1) a.first;
@@ -362,7 +356,7 @@ module _ (k : Config) (count : ℕ) (w : World) (a : AllStand k count w) where
       new m (inr h) = inr (from m.message h)
 
   -- a tick of a server
-  server_ticks : (t : ℕ) (sc : Scene) → LivesHold sc.world → admissible.refusal w (events.Tick (nodes.Server (server t))) ≡ None → sc ≡ happens (counted w) (events.Tick (nodes.Server (server t))) →
+  server_ticks : (t : ℕ) (sc : Scene) → FatesHold sc.world → admissible.refusal w (events.Tick (nodes.Server (server t))) ≡ None → sc ≡ happens (counted w) (events.Tick (nodes.Server (server t))) →
       world_step w (events.Tick (nodes.Server (server t))) ≡ Ok sc → AllStand k count sc.world
   unfolding admissible.refusal
   server_ticks t sc lives r is e =
@@ -373,7 +367,7 @@ module _ (k : Config) (count : ℕ) (w : World) (a : AllStand k count w) where
       (ticked k t z.ended w sc n.0 z.ghosts a.sound n.2 settings z.both.ends e z.both.stands))
 
   -- a message that is delivered to a server
-  server_hears : (n t : ℕ) (m : SentMessage) (sc : Scene) → LivesHold sc.world → admissible.refusal w (events.Deliver n) ≡ None → message_of w n ≡ Some m → receiver_of m ≡ nodes.Server (server t) → sc ≡ happens (counted w) (events.Deliver n) →
+  server_hears : (n t : ℕ) (m : SentMessage) (sc : Scene) → FatesHold sc.world → admissible.refusal w (events.Deliver n) ≡ None → message_of w n ≡ Some m → receiver_of m ≡ nodes.Server (server t) → sc ≡ happens (counted w) (events.Deliver n) →
       world_step w (events.Deliver n) ≡ Ok sc → AllStand k count sc.world
   unfolding admissible.refusal admissible.refused_delivery
   server_hears n t m sc lives r em er is e =
@@ -407,7 +401,7 @@ module _ (k : Config) (count : ℕ) (w : World) (a : AllStand k count w) where
   many_placed : (t : ℕ) (next : ServerNode) → length (with_numbered t next w.servers) ≡ length w.servers
   many_placed t next = length_set w.servers (pred t) next
 
-  server_stops : (t : ℕ) (sc : Scene) → LivesHold sc.world → admissible.refusal w (events.Crash (nodes.Server (server t))) ≡ None → sc ≡ happens (counted w) (events.Crash (nodes.Server (server t))) →
+  server_stops : (t : ℕ) (sc : Scene) → FatesHold sc.world → admissible.refusal w (events.Crash (nodes.Server (server t))) ≡ None → sc ≡ happens (counted w) (events.Crash (nodes.Server (server t))) →
       world_step w (events.Crash (nodes.Server (server t))) ≡ Ok sc → AllStand k count sc.world
   unfolding admissible.refusal
   server_stops t sc lives r is e = go (running_node (node_of w (server t)) (not_false _ (not_stands _ _ (second_none _ _ r))))
@@ -419,7 +413,7 @@ module _ (k : Config) (count : ℕ) (w : World) (a : AllStand k count w) where
           let st : Stands k t z.ended sc.world (crash_node node) z.ghosts = crashes_keep k t z.ended w sc node z.ghosts runs z.few e z.both.stands in
           let v : World = with_node (server t) (crash_node node) (counted w) in
           subst (λ (x : Scene). AllStand k count x.world) (sym now)
-          (by_server t v (subst (λ (x : Scene). LivesHold x.world) now lives)
+          (by_server t v (subst (λ (x : Scene). FatesHold x.world) now lives)
           (placed t node (crash_node node) at
           (record {
             ended = z.ended;
@@ -430,7 +424,7 @@ module _ (k : Config) (count : ℕ) (w : World) (a : AllStand k count w) where
             few = few_crash w.net.bytes node.state;
           })))
 
-  server_starts : (t : ℕ) (sc : Scene) → LivesHold sc.world → admissible.refusal w (events.Start (nodes.Server (server t))) ≡ None → sc ≡ happens (counted w) (events.Start (nodes.Server (server t))) →
+  server_starts : (t : ℕ) (sc : Scene) → FatesHold sc.world → admissible.refusal w (events.Start (nodes.Server (server t))) ≡ None → sc ≡ happens (counted w) (events.Start (nodes.Server (server t))) →
       world_step w (events.Start (nodes.Server (server t))) ≡ Ok sc → AllStand k count sc.world
   unfolding admissible.refusal
   server_starts t sc lives r is e =
@@ -450,7 +444,7 @@ module _ (k : Config) (count : ℕ) (w : World) (a : AllStand k count w) where
           let st : Stands k t z.ended sc.world next H = starts_keep k t z.ended w sc node z.ghosts a.waits down e z.both.stands in
           let v : World = with_node (server t) next (counted w) in
           subst (λ (x : Scene). AllStand k count x.world) (sym now)
-          (by_server t v (subst (λ (x : Scene). LivesHold x.world) now lives)
+          (by_server t v (subst (λ (x : Scene). FatesHold x.world) now lives)
           (placed t node next at
           (record {
             ended = z.ended;
@@ -462,7 +456,7 @@ module _ (k : Config) (count : ℕ) (w : World) (a : AllStand k count w) where
           })))
 
   -- time passes
-  passes : (steps : List ℕ) → length steps ≡ length w.clocks → LivesHold (happens (counted w) (events.Advance steps)).world → world_step w (events.Advance steps) ≡ Ok (happens (counted w) (events.Advance steps)) →
+  passes : (steps : List ℕ) → length steps ≡ length w.clocks → FatesHold (happens (counted w) (events.Advance steps)).world → world_step w (events.Advance steps) ≡ Ok (happens (counted w) (events.Advance steps)) →
       AllStand k count (happens (counted w) (events.Advance steps)).world
   unfolding happens ev.advances ev.marks
   passes steps full lives e =
@@ -470,7 +464,7 @@ module _ (k : Config) (count : ℕ) (w : World) (a : AllStand k count w) where
         terms = a.terms;
         sound = a.sound;
         waits = a.waits;
-        lives = lives;
+        fates = lives;
         clocks = (each 1 a.first.node a.first.is).timed.count;
         nodes = (each 1 a.first.node a.first.is).timed.count ∙ sym a.clocks ∙ a.nodes;
         first = record { node = a.first.node; is = a.first.is };
@@ -495,7 +489,7 @@ module _ (k : Config) (count : ℕ) (w : World) (a : AllStand k count w) where
           }
 
   -- Every event.
-  pub happens_all : (e : Event) → Is_full w e → admissible.refusal w e ≡ None → LivesHold (happens (counted w) e).world → world_step w e ≡ Ok (happens (counted w) e) → AllStand k count (happens (counted w) e).world
+  pub happens_all : (e : Event) → Is_full w e → admissible.refusal w e ≡ None → FatesHold (happens (counted w) e).world → world_step w e ≡ Ok (happens (counted w) e) → AllStand k count (happens (counted w) e).world
   happens_all (events.Tick (nodes.Client c)) full r lives e = by_client _ (By_tick c.0 refl) e lives
   happens_all (events.Tick (nodes.Server s)) full r lives e = server_ticks s.0 _ lives r refl e
   happens_all (events.App c ask) full r lives e = by_client _ (By_ask c.0 ask refl) e lives
@@ -519,14 +513,9 @@ module _ (k : Config) (count : ℕ) (w : World) (a : AllStand k count w) where
   happens_all (events.Start (nodes.Client c)) full r lives e = by_client _ (By_start c.0 refl) e lives
   happens_all (events.Start (nodes.Server s)) full r lives e = server_starts s.0 _ lives r refl e
 
--- one event more was counted, and the lives are as they were
-counted_lives : (w : World) → LivesHold w → LivesHold (counted w)
-counted_lives w h = record { lives = h.lives; known = h.known }
-
 -- all stands after an event that the world takes
 pub stays : (k : Config) (count : ℕ) (w : World) (e : Event) (sc : Scene) → AllStand k count w → Is_full w e → world_step w e ≡ Ok sc → AllStand k count sc.world
 stays k count w e sc a full h =
     let p = step_happens w e sc h in
     let e1 : world_step w e ≡ Ok (happens (counted w) e) = h ∙ ap (λ (x : Scene). Ok x) p.1 in
-    let refused : admissible.refusal (counted w) e ≡ None = counted_refusal w e p.0 in
-    subst (λ (x : Scene). AllStand k count x.world) (sym p.1) (happens_all k count w a e full p.0 (happens_lives (counted w) e refused (counted_lives w a.lives)) e1)
+    subst (λ (x : Scene). AllStand k count x.world) (sym p.1) (happens_all k count w a e full p.0 (fates_law w e (happens (counted w) e) e1 a.fates) e1)

@@ -7,5 +7,7 @@ pub mod Fold
 pub mod Everywhere
 pub mod Beginning
 pub mod Calmly
+pub mod Shown
 pub mod Promised
+pub mod Alone
 pub mod Runs

@@ -3,6 +3,7 @@ use Rattle.std.proofs.Common.{◌≡◌, ℕ, true, List, Option, Some, None, Ok
 use Rattle.std.specs.List.{list_all}
 use Rattle.st_base.specs.declared.ids.NodeId.{NodeId}
 use Rattle.st_base.specs.declared.ids.NodeId.TheVariants as nodes
+use Rattle.st_base.specs.declared.ids.ServerId.{ServerId}
 use Rattle.st_messages.specs.declared.event.Event.{Event}
 use Rattle.st_messages.specs.declared.event.Event.TheVariants as events
 use Rattle.st_rules.specs.declared.observation.Observation.{Observation}
@@ -10,26 +11,45 @@ use Rattle.st_rules.specs.declared.world.SentMessage.{SentMessage}
 use Rattle.st_rules.specs.Admissible as admissible
 use Rattle.st_rules.specs.Events.{counted, happens, world_step}
 use Rattle.st_rules.specs.History.{Traced}
-use Rattle.st_rules.specs.Safety.{is_late}
+use Rattle.st_rules.specs.Safety.{has_waited, is_late, node_waited}
 use Rattle.st_rules.specs.Server.{ServerNode}
-use Rattle.st_rules.specs.World.{World, is_running, message_of, node_of, receiver_of, server}
+use Rattle.st_rules.specs.World.{World, all_servers, is_running, message_of, node_of, receiver_of, server}
 use Rattle.st_assoc.specs.Assoc.{Config}
+use Rattle.st_lemmas.proofs.Tables.{all_pass}
 use Rattle.st_laws_dates.proofs.Said.{All_calm}
-use Rattle.st_laws_server.specs.Pair.{Dates_known, Dates_shown}
+use Rattle.st_laws_history.specs.Replies.{Dates_stand}
+use Rattle.st_laws_server.specs.Pair.{Dates_shown}
 use Rattle.st_laws_server.proofs.Runs.{delivered, ticked}
+use Rattle.st_laws_server.proofs.Waits.{server_waits}
 use Rattle.st_laws.specs.World.{AllStand}
 use Rattle.st_laws.proofs.Calmly.{late_all, client_hears, calm_tick, calm_ask, calm_loss, calm_advance, calm_effect, calm_report, calm_link, calm_crash, calm_stop, calm_start}
 use Rattle.st_laws.proofs.Everywhere.{first_none, message_there, positive, running_node, settings}
+use Rattle.st_laws.proofs.Shown.{dates_shown}
 use Rattle.st_laws.proofs.Fold.{not_false, not_stands, second_none}
 
--- the dates of the history are known, and each server showed its own
-pub record Dates_stand (k : Config) (t : Traced) (count : ℕ) (a : AllStand k count t.world) : Type 0 where
-  pub known : Dates_known t.world t.history.dates
-  pub shown : (s : ℕ) (node : ServerNode) (e : node_of t.world (server s) ≡ Some node) (c : ℕ) → Dates_shown k.lease c s t.history.dates ((a.servers s node e).ghosts c).net
-
-module _ (k : Config) (t : Traced) (count : ℕ) (a : AllStand k count t.world) (d : Dates_stand k t count a) where
+module _ (k : Config) (t : Traced) (count : ℕ) (a : AllStand k count t.world) (d : Dates_stand t.world t.history.dates) where
   abbrev w : World
   w = t.world
+
+  -- each server showed the dates of its clients
+  shown_by : (s : ℕ) (node : ServerNode) (e : node_of w (server s) ≡ Some node) (c : ℕ) → Dates_shown k.lease c s t.history.dates ((a.servers s node e).ghosts c).net
+  shown_by s node e c =
+      let z = a.servers s node e in
+      subst (λ l. Dates_shown l c s t.history.dates (z.ghosts c).net) (ap (λ (q : Config). q.lease) (sym a.terms))
+      (dates_shown w.config.lease c s w (z.ghosts c).net t.history.dates (z.both.stands.served c).wires d.replied)
+
+  -- outside grace every lease of an earlier epoch is over
+  waited : (s : ServerId) → has_waited t s ≡ true
+  waited s = go (node_of w s) refl
+    where
+      go : (o : Option ServerNode) → node_of w s ≡ o → has_waited t s ≡ true
+      go None e = ap (node_waited t s) e
+      go (Some node) e =
+          let z = a.servers s.0 node e in
+          server_waits k s.0 z.ended t node z.ghosts a.sound z.both.stands d.placed (shown_by s.0 node e)
+
+  pub graces_wait : list_all (has_waited t) (all_servers w) ≡ true
+  graces_wait = all_pass (has_waited t) (all_servers w) (λ s h. waited s)
 
   -- a tick of a server
   tick_late : (s : ℕ) → admissible.refusal w (events.Tick (nodes.Server (server s))) ≡ None → world_step w (events.Tick (nodes.Server (server s))) ≡ Ok (happens (counted w) (events.Tick (nodes.Server (server s)))) →
@@ -38,7 +58,7 @@ module _ (k : Config) (t : Traced) (count : ℕ) (a : AllStand k count t.world) 
   tick_late s r e =
       let n = running_node (node_of w (server s)) (not_false _ (not_stands _ _ (first_none _ _ (second_none _ _ r)))) in
       let z = a.servers s n.0 n.1 in
-      (ticked k s z.ended w (happens (counted w) (events.Tick (nodes.Server (server s)))) n.0 z.ghosts a.sound n.2 (settings k count w a) z.both.ends e z.both.stands).late t refl d.known (d.shown s n.0 n.1)
+      (ticked k s z.ended w (happens (counted w) (events.Tick (nodes.Server (server s)))) n.0 z.ghosts a.sound n.2 (settings k count w a) z.both.ends e z.both.stands).late t refl d.placed (shown_by s n.0 n.1)
 
   -- a message that is delivered to a server
   message_late : (n s : ℕ) (m : SentMessage) → admissible.refusal w (events.Deliver n) ≡ None → message_of w n ≡ Some m → receiver_of m ≡ nodes.Server (server s) →
@@ -49,7 +69,7 @@ module _ (k : Config) (t : Traced) (count : ℕ) (a : AllStand k count t.world) 
       let runs = not_false _ (not_stands _ _ (first_none _ _ (second_none _ _ (second_none _ _ q)))) in
       let y = running_node (node_of w (server s)) (ap (is_running w) (sym er) ∙ runs) in
       let z = a.servers s y.0 y.1 in
-      (delivered k s z.ended w n m (happens (counted w) (events.Deliver n)) y.0 z.ghosts a.sound (positive k count w a s y.0 y.1) y.2 (settings k count w a) z.both.ends e em er z.both.stands).late t refl d.known (d.shown s y.0 y.1)
+      (delivered k s z.ended w n m (happens (counted w) (events.Deliver n)) y.0 z.ghosts a.sound (positive k count w a s y.0 y.1) y.2 (settings k count w a) z.both.ends e em er z.both.stands).late t refl d.placed (shown_by s y.0 y.1)
 
   calm : (os : List Observation) → All_calm os → list_all (is_late t) os ≡ true
   calm os c = late_all t os c

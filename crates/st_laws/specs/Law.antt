@@ -13,7 +13,7 @@ use Rattle.st_rules.specs.Server.{ServerNode}
 use Rattle.st_rules.specs.World.{World, fresh_world, message_of, receiver_of}
 use Rattle.st_rules.specs.Events.{Scene, world_step}
 use Rattle.st_rules.specs.History.{traced}
-use Rattle.st_rules.specs.Safety.{IsHead, Throughout, is_event, steps}
+use Rattle.st_rules.specs.Safety.{IsHead, Promise, Throughout, is_event, steps}
 use Rattle.st_assoc.specs.Assoc.{Config}
 use Rattle.st_laws_server.specs.Pair.{terms_of}
 use Rattle.st_views.specs.Halves.{Ghost}
@@ -45,3 +45,10 @@ Runs_stand =
     (k : base.Config) (clients servers disks blocks form : ℕ) (es : List Event) → IsHead k clients servers disks blocks form →
     list_all (is_event (clients + servers)) es ≡ true →
     Throughout (λ past x. AllStand (terms_of k) (clients + servers) x.after.world) [] (steps es (traced (fresh_world k clients servers disks blocks form)))
+
+-- A promise is kept at every step of every run from the world of a head, over events in their ranges.
+abbrev pub In_every_run : Promise → Type 0
+In_every_run promise =
+    (k : base.Config) (clients servers disks blocks form : ℕ) (es : List Event) → IsHead k clients servers disks blocks form →
+    list_all (is_event (clients + servers)) es ≡ true →
+    Throughout promise [] (steps es (traced (fresh_world k clients servers disks blocks form)))

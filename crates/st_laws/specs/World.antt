@@ -10,7 +10,7 @@ use Rattle.st_rules.specs.World.{World, node_of, server}
 use Rattle.st_assoc.specs.Assoc.{Config, Config_ok}
 use Rattle.st_views.specs.Halves.{Ghost}
 use Rattle.st_lemmas.specs.Lists.{Has}
-use Rattle.st_laws_pages.specs.Lives.{LivesHold}
+use Rattle.st_laws_pages.specs.Owed.{FatesHold}
 use Rattle.st_laws_server.specs.Pair.{Timed, terms_of}
 use Rattle.st_laws_server.specs.Stands.{Calm, Few}
 use Rattle.st_laws.specs.Stands.{Both}
@@ -30,13 +30,13 @@ pub record There (w : World) (s : ServerId) : Type 0 where
   pub node : ServerNode
   pub is : node_of w s ≡ Some node
 
--- What stands in a world of this number of nodes: the settings are the machine's, the lives are as they are to be, a message of a server is of one that is
+-- What stands in a world of this number of nodes: the settings are the machine's, lives and fates are as they are to be, a message of a server is of one that is
 -- there, and all stands of each server.
 pub record AllStand (k : Config) (count : ℕ) (w : World) : Type 0 where
   pub terms : k ≡ terms_of w.config
   pub sound : Config_ok k
   pub waits : 0 < k.wait
-  pub lives : LivesHold w
+  pub fates : FatesHold w
   pub clocks : length w.clocks ≡ length w.clients + length w.servers
   pub nodes : length w.clocks ≡ count
   pub first : There w (server 1)

@@ -1,7 +1,8 @@
 //! Laws over the world: both sides of every association at once, through every event of every run.
 #![tactic(auto)]
 
-ghost use Rattle.st_laws.specs.Law.{Client_events_keep, Runs_stand};
+ghost use Rattle.st_rules.specs.Safety.{DirtyPagesStandAlone, GraceWaits, TheftsComeLate};
+ghost use Rattle.st_laws.specs.Law.{Client_events_keep, In_every_run, Runs_stand};
 
 /// What stands of a server and all its clients stands again after each event of a client, and after each that no node takes part in.
 pub fn client_events_keep()
@@ -12,4 +13,19 @@ pub fn client_events_keep()
 /// machine of one client at one server can reach, the clocks are in bound, and no conflict rests on them.
 pub fn all_stand_in_every_run()
     ensures { Runs_stand }
+{}
+
+/// In every run a client's locks are stolen only when its lease is over on its own clock, and so is every lease that it ever had.
+pub fn thefts_come_late()
+    ensures { In_every_run TheftsComeLate }
+{}
+
+/// In every run a server whose grace is over has waited for every lease of an earlier epoch.
+pub fn graces_wait()
+    ensures { In_every_run GraceWaits }
+{}
+
+/// In every run, while a page of a file is dirty at one client, no other client holds a lock on the file or has a row there.
+pub fn dirty_pages_stand_alone()
+    ensures { In_every_run DirtyPagesStandAlone }
 {}

@@ -39,7 +39,7 @@ use Rattle.st_laws_pages.proofs.Whole.{fresh_fates}
 use Rattle.st_laws_pages.proofs.Lasting.{Flushed, flush_parts}
 use Rattle.st_laws_pages.proofs.Turning.{Said, says_lives}
 use Rattle.st_laws_history.specs.Law.{Dates_are_of_replies}
-use Rattle.st_laws_history.specs.Replies.{Replied, Dates_replied, DatesAreOfReplies}
+use Rattle.st_laws_history.specs.Replies.{Replied, Dates_replied, Dates_stand, DatesAreOfReplies}
 use Rattle.st_laws_history.proofs.Dates.{All_undated, dates_out, dates_said, undated_same}
 use Rattle.st_laws_history.proofs.Lives.{remembered}
 use Rattle.st_laws_history.proofs.Law.{Server_quiet, server_all, undated_fates, says, behind, took_is, stopped_is, beside}
@@ -49,7 +49,7 @@ use Rattle.st_laws_history.proofs.Replies.{noted_date, replied_more, stepped_rep
 use Rattle.st_laws_history.proofs.Sent.{Later, client_later, flush_later, server_later}
 
 -- the settings and the messages of a world, with what is said of dates
-record Holds (w : World) (ds : List LeaseDate) : Type 0 where
+pub record Holds (w : World) (ds : List LeaseDate) : Type 0 where
   pub replied : Dates_replied w.config.lease w.net.messages ds
   pub placed : (d : LeaseDate) → Has d ds → (1 ≤ d.client.0) × (d.client.0 ≤ length w.clients)
 
@@ -256,7 +256,7 @@ happens_replied t (events.Start (nodes.Server s)) l h = go (node_of t.world s)
     go (Some node) = nothing t (events.Start (nodes.Server s)) (ev.with_node s (server.start_node node (clock_of (ev.counted t.world) (nodes.Server s))) (ev.counted t.world)) refl refl refl h
 
 -- Over whole runs.
-record Stands (past : List Step) (t : Traced) : Type 0 where
+pub record Stands (past : List Step) (t : Traced) : Type 0 where
   pub fates : FatesHold t.world
   pub dates : Holds t.world t.history.dates
 
@@ -267,14 +267,20 @@ placed_site w c a b = go c.0 a b
     go zero a b = absurd (omega (arith, a))
     go (suc n) a b = get_there w.clients n (omega (arith, b))
 
-one : (past : List Step) (t : Traced) (e : Event) (sc : Scene) → Stands past t → ev.world_step t.world e ≡ Ok sc → DatesAreOfReplies past (step t e sc) × Stands (past ++ step t e sc ∷ []) (traced_after e t sc)
+-- so the dates stand
+pub dates_stand : (past : List Step) (t : Traced) → Stands past t → Dates_stand t.world t.history.dates
+dates_stand past t s = record { placed = λ d i. let z = s.dates.placed d i in placed_site t.world d.client z.0 z.1; replied = s.dates.replied }
+
+pub one : (past : List Step) (t : Traced) (e : Event) (sc : Scene) → Stands past t → ev.world_step t.world e ≡ Ok sc → DatesAreOfReplies past (step t e sc) × Stands (past ++ step t e sc ∷ []) (traced_after e t sc)
 one past t e sc s q =
     (record { placed = λ d i. let z = dates.placed d i in placed_site sc.world d.client z.0 z.1; replied = dates.replied }, record { fates = fates_law t.world e sc q s.fates; dates = dates })
   where
     dates : Holds sc.world (history_after t.world e sc t.history).dates
     dates = let z = step_happens t.world e sc q in subst (λ (y : Scene). Holds y.world (history_after t.world e y t.history).dates) (sym z.1) (happens_replied t e s.fates.lives s.dates)
 
+pub begun : (k : Config) (clients servers d b form : ℕ) → Stands [] (traced (fresh_world k clients servers d b form))
+begun k clients servers d b form = record { fates = fresh_fates k clients servers d b form; dates = record { replied = λ x i. absurd i; placed = λ x i. absurd i } }
+
 pub replies_law : Dates_are_of_replies
 replies_law k clients servers d b form es =
-    throughout DatesAreOfReplies Stands one es [] (traced (fresh_world k clients servers d b form))
-    (record { fates = fresh_fates k clients servers d b form; dates = record { replied = λ x i. absurd i; placed = λ x i. absurd i } })
+    throughout DatesAreOfReplies Stands one es [] (traced (fresh_world k clients servers d b form)) (begun k clients servers d b form)

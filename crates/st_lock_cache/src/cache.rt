@@ -80,8 +80,8 @@ impl LockCache {
         self.rows.len()
     }
 
-    /// The lock on the file, if one is held.
-    fn lock(&self, ino: u32) -> Option<HeldLock>
+    /// The lock on the file, if one is held. It does not allocate.
+    pub fn lock(&self, ino: u32) -> Option<HeldLock>
         ensures { result ≡ locks.lock_of self.now.locks ino }
     {
         lock_of(&self.rows, ino)

@@ -1,5 +1,5 @@
 // The page cache: its calls are the rules of the definitions.
-ghost use Rattle.std.specs.Prelude.{◌≡◌, ◌≤◌, ◌<◌, ◌+◌, ◌^◌, [], IfOk, OnOk, OnErr, None, Some, is_some, length, map, slice_get};
+ghost use Rattle.std.specs.Prelude.{◌≡◌, ◌<◌, ◌+◌, ◌^◌, IfOk, OnOk, OnErr, None, Some, length, slice_get};
 ghost use Rattle.std.specs.Option.{option_copied, option_map};
 ghost use Rattle.st_rules.specs.ClientPages as pages;
 ghost use Rattle.st_page_cache.specs.Caches.{ArePages, Writes, facts_of, shown, with_pages};

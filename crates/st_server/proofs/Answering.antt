@@ -1,7 +1,6 @@
 -- The rule for a message adds at most one message, an answer to its sender.
-use Rattle.std.proofs.Common.{◌≡◌, ℕ, ◌+◌, ◌-◌, ◌^◌, ◌<◌, ◌≤◌, Bool, true, false, ◌&&◌, ◌==◌, List, [], ◌∷◌, ◌++◌, Option, Some, None, refl, sym, ap, subst, ◌∙◌, arith, append_assoc}
+use Rattle.std.proofs.Common.{◌≡◌, ℕ, ◌+◌, ◌-◌, ◌^◌, ◌<◌, ◌≤◌, true, ◌==◌, List, [], ◌∷◌, ◌++◌, Option, Some, None, refl, sym, ap, ◌∙◌, arith, append_assoc}
 use Rattle.std.specs.Prelude.{Result, Ok, Err}
-use Rattle.std.specs.List.{list_all}
 use Rattle.std.proofs.lemmas.Bool.{and_parts, and_from, eq-eqb}
 use Rattle.std.proofs.lemmas.List.{append-nil}
 use Rattle.st_base.specs.declared.ids.GrantNo.{GrantNo}
@@ -13,7 +12,6 @@ use Rattle.st_base.specs.declared.names.NameRow.{NameRow}
 use Rattle.st_messages.specs.declared.message.Header.{Header}
 use Rattle.st_messages.specs.declared.message.Body.{Body}
 use Rattle.st_messages.specs.declared.message.Body.TheVariants as bodies
-use Rattle.st_messages.specs.declared.message.Message.{Message}
 use Rattle.st_messages.specs.declared.message.NameOp.{NameOp}
 use Rattle.st_messages.specs.declared.message.NameOp.TheVariants.{Lookup, Create, Mkdir, Remove, Rename, List as ListFrom}
 use Rattle.st_messages.specs.declared.message.Why.TheVariants as why
@@ -42,9 +40,9 @@ use Rattle.st_rules.specs.Server.{Turn, Replied, sender, life_in}
 use Rattle.st_lemmas.proofs.Tables.{cond_either}
 use Rattle.st_server.specs.Answers.{Adds, is_answer, is_answer_to, sends}
 use Rattle.st_server.specs.Room.{HasRoom}
-use Rattle.st_server.specs.Sound.{is_reply, keeps_reply, may_keep}
+use Rattle.st_server.specs.Sound.{keeps_reply, may_keep}
 use Rattle.st_server.proofs.Every.{every_last}
-use Rattle.st_server.proofs.Ruling.{IsAnswer, IsServed, rule_answer}
+use Rattle.st_server.proofs.Ruling.{rule_answer}
 use Rattle.st_server.proofs.Sending.{IsTurn, IsAsked}
 use Rattle.st_server.proofs.Serving.{Takes, taken}
 

@@ -17,3 +17,4 @@ pub mod Hearing
 pub mod Begins
 pub mod Stepping
 pub mod Answering
+pub mod Counters

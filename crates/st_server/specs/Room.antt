@@ -1,5 +1,5 @@
 -- The counters that a step of a server may raise.
-use Rattle.std.specs.Prelude.{ℕ, ◌+◌, ◌-◌, ◌^◌, ◌<◌, length}
+use Rattle.std.specs.Prelude.{ℕ, ◌+◌, ◌-◌, ◌^◌, ◌<◌, Bool, ◌&&◌, nat_lt, nat_le, length}
 use Rattle.st_rules.specs.Locks.{Locks}
 use Rattle.st_rules.specs.Server.{ServerState}
 
@@ -12,3 +12,7 @@ pub record HasRoom (s : ServerState) : Type 0 where
   pub locks : taken_locks s.locks < 2 ^ 32 - 1
   pub inodes : s.stable.names.next < 2 ^ 32 - 1
   pub births : s.stable.extents.births < 2 ^ 62
+
+-- the test of it; the next birth is told
+abbrev pub has_room : ServerState → Bool
+has_room s = nat_lt (taken_locks s.locks) (2 ^ 32 - 1) && (nat_lt s.stable.names.next (2 ^ 32 - 1) && nat_le (s.stable.extents.births + 1) (2 ^ 62))

@@ -2,6 +2,7 @@ ghost use Rattle.std.specs.Prelude.{◌≡◌, ◌<◌, ◌-◌, ◌^◌, [], Is
 ghost use Rattle.st_base.specs.Config as settings;
 ghost use Rattle.st_extents.specs.Layout.{IsWithinLimits};
 ghost use Rattle.st_rules.specs.Server as server;
+ghost use Rattle.st_server.specs.Room.{has_room};
 
 use crate::stable::ServerStable;
 use st_base::{Config, Epoch, ServerId, Stamp};
@@ -106,11 +107,11 @@ impl Machine {
         requires epochs { self.old.state.stable.epoch.0 < 2 ^ 32 - 1 }
         ensures { self.new ≡ server.turn (server.start self.old.state now) [] }
     {
-        let epoch = Epoch(self.stable.epoch.0 + 1);
-        self.stable.epoch = epoch;
+        let next = Epoch(self.stable.epoch.0 + 1);
+        self.stable.epoch = next;
         self.grace = Grace::begin(now, &self.config);
-        self.sessions = Sessions::new(self.alloc, epoch);
-        self.locks = LockTable::new(self.alloc, self.id, epoch);
+        self.sessions = Sessions::new(self.alloc, next);
+        self.locks = LockTable::new(self.alloc, self.id, next);
         self.authority = Authority::new(self.alloc, &self.config);
         self.out = Vec::new(self.alloc);
     }
@@ -122,5 +123,14 @@ impl Machine {
     {
         let out = mem::replace(&mut self.out, Vec::new(self.alloc));
         Outputs::from_vec(out)
+    }
+
+    /// Whether a step may be taken, as far as the counters go.
+    pub(crate) fn has_room(&self) -> bool
+        ensures { result ≡ has_room self.now.state }
+    {
+        self.locks.has_room_for_waiters()
+            && (self.stable.names.next_ino() < 4_294_967_295
+                && self.stable.extents.next_birth() <= 4_611_686_018_427_387_904)
     }
 }

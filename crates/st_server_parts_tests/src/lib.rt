@@ -1,5 +1,5 @@
-//! The parts of a server beside plain lists and beside an independent reading of the rules: extents, sessions, suspicion and
-//! grace.
+//! The parts of a server beside plain lists and beside an independent reading of the rules: extents, names, sessions, suspicion
+//! and grace.
 #![tactic(auto)]
 
 #[cfg(test)]
@@ -8,6 +8,8 @@ mod authority;
 mod draws;
 #[cfg(test)]
 mod extents;
+#[cfg(test)]
+mod names;
 #[cfg(test)]
 mod reassert;
 #[cfg(test)]

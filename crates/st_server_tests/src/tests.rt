@@ -78,7 +78,10 @@ fn outputs_of(node: &mut ServerNode, now: u64, input: ServerInput) -> Option<Out
 
 fn note_text(alloc: Global, note: &Note) -> Result<String, AllocError> {
     match note {
-        Note::Suspected { client, start } => format!(in alloc; "suspected {} {}", client.0, start.0),
+        Note::Suspected { client, start } => format!(in alloc;
+            "suspected {} {}",
+            client.0, start.0
+        ),
         Note::Stolen { client, life } => format!(in alloc; "stolen {} {}", client.0, life.0),
         Note::CutDone { file, from } => {
             format!(in alloc; "cut {} {} {}", file.server.0, file.ino, from.0)
@@ -196,5 +199,24 @@ fn a_crashed_node_takes_no_step(rt: HostRuntime) -> io::Result<()> {
     node.crash();
     assert!(rt; node.has_room());
     assert!(rt; node.step(Stamp(0), ServerInput::Tick).is_err());
+    Ok(())
+}
+
+#[test]
+fn a_greeting_is_answered_by_name(rt: HostRuntime) -> io::Result<()> {
+    let mut node = fresh(rt.alloc())?;
+    let bytes = bytes_of(rt.alloc(), "01*2 00 01 80 01 00*7 01 00*24")?;
+    match decode(rt.alloc(), bytes.as_slice()) {
+        Err(_) => assert!(rt; false, "no message"),
+        Ok(message) => {
+            assert!(rt; message.fits());
+            assert!(rt; node.has_room());
+            assert!(rt; node.running());
+            match answers_are_named(&mut node, Stamp(0), message) {
+                Ok(outputs) => assert_eq!(rt; outputs.len(), 1),
+                Err(_) => assert!(rt; false, "out of memory"),
+            }
+        }
+    }
     Ok(())
 }

@@ -2,4 +2,4 @@ use Rattle.st_flush.proofs.Begun.{fewer_apart}
 use Rattle.st_flush.proofs.flusher.Flusher.done.Goals as goal
 
 pub invariant_of-self : goal.invariant_of-self
-invariant_of-self c = rw c.drop_commands.ensures (fewer_apart c.self.inside.commands _ c.self.invariant)
+invariant_of-self c = rw c.retain.ensures (fewer_apart c.self.inside.commands _ c.self.invariant)
