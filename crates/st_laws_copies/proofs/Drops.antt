@@ -1,4 +1,4 @@
--- What stands of a client's copies, as entries of others are dropped.
+-- What stands of a client's copies, as entries of others and of its earlier lives are dropped.
 use Rattle.std.proofs.Common.{◌≡◌, ℕ, zero, suc, ◌+◌, ◌⊎◌, Bool, true, false, ◌&&◌, List, [], ◌∷◌, ◌==◌, refl, sym, ap, ◌∙◌, subst, if◌then◌else◌}
 use Rattle.std.specs.Prelude.{is_some}
 use Rattle.std.proofs.lemmas.Bool.{eqb-true}
@@ -77,21 +77,26 @@ module _ (picked : ℕ → LogOwner → Bool) (cause : FileId → PageNo → Cau
       go zero q = unheld_ok (held_in a.session ino).mode _ _ a.store ino p q r
       go (suc k) q = subst (λ bytes. Page_ok (held_in a.session ino).mode bytes a.store ino p) (sym (content_drop (filled 0) (file_at a.server ino) p 1 es (elsewhere a ino k 1 es q h))) r
 
-  fates_drop : (c : ClientId) (life : Life) (sv : ServerId) (x : Store) (xs : List Association) (n : ℕ) (es : List LogEntry) → Drops_unheld c picked xs n es → Fates_ok c life sv x es → Fates_ok c life sv x (log.drop_from n picked cause es)
+  -- what is dropped is not of this life
+  abbrev Over : ClientId → ServerId → Life → ℕ → List LogEntry → Type 0
+  Over c sv life n [] = Unit {0}
+  Over c sv life n (e ∷ es) = record { one : picked n e.of ≡ true → is_pending e.fate ≡ true → is_of_life c sv life e.of ≡ false; rest : Over c sv life (n + 1) es }
+
+  fates_drop : (c : ClientId) (life : Life) (sv : ServerId) (x : Store) (n : ℕ) (es : List LogEntry) → Over c sv life n es → Fates_ok c life sv x es → Fates_ok c life sv x (log.drop_from n picked cause es)
   unfolding log.drop_from log.dropped log.lost_entry
-  fates_drop c life sv x xs n [] u h = record {}
-  fates_drop c life sv x xs n (e ∷ es) u h = go (picked n e.of) refl (fates_drop c life sv x xs (n + 1) es u.rest h.rest)
+  fates_drop c life sv x n [] u h = record {}
+  fates_drop c life sv x n (e ∷ es) u h = go (picked n e.of) refl (fates_drop c life sv x (n + 1) es u.rest h.rest)
     where
       Hard_or_dirty : Fate → Type 0
       Hard_or_dirty f = (is_hard_fate f ≡ true) ⊎ (is_some (pages.dirty_of x.pages e.of.file.ino e.of.page) ≡ true)
 
-      one : (k : Cause) (f : Fate) → is_of_life c sv life e.of ≡ true → (is_pending f ≡ true → is_of_client c e.of ≡ false) → Hard_or_dirty f → Hard_or_dirty (log.lost k f)
-      one k fates.Pending o w q = absurd (no_bool (is_of_client c e.of) (and_true (is_of_client c e.of) _ o).0 (w refl))
+      one : (k : Cause) (f : Fate) → is_of_life c sv life e.of ≡ true → (is_pending f ≡ true → is_of_life c sv life e.of ≡ false) → Hard_or_dirty f → Hard_or_dirty (log.lost k f)
+      one k fates.Pending o w q = absurd (no_bool (is_of_life c sv life e.of) o (w refl))
       one k fates.Hard o w q = q
       one k (fates.Gone d) o w q = q
 
       go : (b : Bool) → picked n e.of ≡ b → Fates_ok c life sv x (log.drop_from (n + 1) picked cause es) → Fates_ok c life sv x ((if b then record e { fate = log.lost (cause e.of.file e.of.page) e.fate } else e) ∷ log.drop_from (n + 1) picked cause es)
-      go true q r = record { one = λ o. one (cause e.of.file e.of.page) e.fate o (u.other q) (h.one o); rest = r }
+      go true q r = record { one = λ o. one (cause e.of.file e.of.page) e.fate o (u.one q) (h.one o); rest = r }
       go false q r = record { one = h.one; rest = r }
 
   lived_drop : (c : ClientId) (sv : ServerId) (life : Life) (n : ℕ) (es : List LogEntry) → Lived c sv life es → Lived c sv life (log.drop_from n picked cause es)
@@ -108,9 +113,13 @@ module _ (picked : ℕ → LogOwner → Bool) (cause : FileId → PageNo → Cau
   first c a xs n [] u = record {}
   first c a xs n (e ∷ es) u = record { one = λ x y. (u.unheld x y).one; rest = first c a xs (n + 1) es u.rest }
 
+  over : (c : ClientId) (a : Association) (xs : List Association) (n : ℕ) (es : List LogEntry) → Drops_unheld c picked (a ∷ xs) n es → Over c a.server a.life n es
+  over c a xs n [] u = record {}
+  over c a xs n (e ∷ es) u = record { one = λ x y. (u.other x y).one; rest = over c a xs (n + 1) es u.rest }
+
   others : (c : ClientId) (a : Association) (xs : List Association) (n : ℕ) (es : List LogEntry) → Drops_unheld c picked (a ∷ xs) n es → Drops_unheld c picked xs n es
   others c a xs n [] u = record {}
-  others c a xs n (e ∷ es) u = record { other = u.other; unheld = λ x y. (u.unheld x y).rest; rest = others c a xs (n + 1) es u.rest }
+  others c a xs n (e ∷ es) u = record { other = λ x y. (u.other x y).rest; unheld = λ x y. (u.unheld x y).rest; rest = others c a xs (n + 1) es u.rest }
 
   all_drop : (c : ClientId) (es : List LogEntry) (xs : List Association) → Drops_unheld c picked xs 1 es → All_stand c es xs → All_stand c (log.drop_picked es picked cause) xs
   unfolding log.drop_picked
@@ -120,7 +129,7 @@ module _ (picked : ℕ → LogOwner → Bool) (cause : FileId → PageNo → Cau
         one =
             record {
               pages = λ ino p. page_drop es a (first c a xs 1 es u) ino p (h.one.pages ino p);
-              fates = fates_drop c a.life a.server a.store (a ∷ xs) 1 es u h.one.fates;
+              fates = fates_drop c a.life a.server a.store 1 es (over c a xs 1 es u) h.one.fates;
               lived = lived_drop c a.server a.life 1 es h.one.lived;
             };
         rest = all_drop c es xs (others c a xs 1 es u) h.rest;

@@ -23,7 +23,7 @@ use Rattle.st_rules.specs.ClientState.{Association, ClientState, ClientTurn, cli
 use Rattle.st_rules.specs.Disks as disks
 use Rattle.st_rules.specs.World.{World, ClientSite, site_of, clock_of, issued_of, life_with, message_of, receiver_of}
 use Rattle.st_rules.specs.FlatLog as log
-use Rattle.st_rules.specs.FlatLog.{is_of_client, is_pending}
+use Rattle.st_rules.specs.FlatLog.{is_of_client, is_of_life, is_pending}
 use Rattle.st_rules.specs.Events as ev
 use Rattle.st_rules.specs.Events.{Scene}
 use Rattle.st_views.specs.Halves.{held_in}
@@ -123,17 +123,22 @@ Effects_keep_copies =
     (asked_as : ℕ → Option Ask) (c : ClientId) (es : List LogEntry) (s : ClientState) (x : Option Carried) → Client_stands asked_as c es s →
     Client_stands asked_as c (ev.log_hard es x) s
 
--- What is dropped of a log, from a number on, is of nobody or of other clients, on files of which this client has no lock.
+-- an entry of this owner is of none of the client's present lives
+abbrev pub Of_no_present_life : ClientId → LogOwner → List Association → Type 0
+Of_no_present_life c o [] = Unit {0}
+Of_no_present_life c o (a ∷ xs) = record { one : is_of_life c a.server a.life o ≡ false; rest : Of_no_present_life c o xs }
+
+-- What is dropped of a log, from a number on, is of none of this client's present lives, on files of which it has no lock.
 abbrev pub Drops_unheld : ClientId → (ℕ → LogOwner → Bool) → List Association → ℕ → List LogEntry → Type 0
 Drops_unheld c picked xs n [] = Unit {0}
 Drops_unheld c picked xs n (e ∷ es) =
     record {
-      other : picked n e.of ≡ true → is_pending e.fate ≡ true → is_of_client c e.of ≡ false;
+      other : picked n e.of ≡ true → is_pending e.fate ≡ true → Of_no_present_life c e.of xs;
       unheld : picked n e.of ≡ true → is_pending e.fate ≡ true → Unheld e.of.file xs;
       rest : Drops_unheld c picked xs (n + 1) es;
     }
 
--- And it stands by a log of which such entries are dropped.
+-- It stands by a log of which such entries are dropped.
 abbrev pub Drops_keep_copies : Type 0
 Drops_keep_copies =
     (asked_as : ℕ → Option Ask) (c : ClientId) (es : List LogEntry) (s : ClientState) (picked : ℕ → LogOwner → Bool) (cause : FileId → PageNo → Cause) →

@@ -33,8 +33,8 @@ pub fn changes_are_locked()
 
 /// In the world, an event at which a client that runs takes an input (a tick, an ask, a message, the end of a command) keeps its
 /// copies by the log of the world that it leaves, under what other laws owe of it. An entry of nobody or of another client, on a
-/// file of which this client has no lock, leaves its copies, and so does the effect of a disk command, and the drop of such entries. A client that crashes and
-/// starts has its copies again: there are none.
+/// file of which this client has no lock, leaves its copies. So does the effect of a disk command, and so does the drop of entries
+/// of others or of its earlier lives, on such files. A client that crashes and starts has its copies again: there are none.
 pub fn events_keep_copies()
     ensures own { Events_keep_copies }
     ensures entries { Entries_keep_copies }
