@@ -15,3 +15,4 @@ pub mod Locked
 pub mod World
 pub mod Others
 pub mod Restarts
+pub mod Drops

@@ -34,7 +34,7 @@ unfolding content after
 content_other es e f p h = content_last (filled 0) f p es e ∙ if_false (log.matters f p e) _ _ (ap (λ b. (b && log.reaches e.change e.of.page p) && log.counts e.fate) h)
 
 -- Without a lock nothing of a file is at hand, whatever the bytes are.
-unheld_ok : (held : ℕ) (bytes more : List ℕ) (x : Store) (ino : ℕ) (p : PageNo) → held ≡ 0 → Page_ok held bytes x ino p → Page_ok held more x ino p
+pub unheld_ok : (held : ℕ) (bytes more : List ℕ) (x : Store) (ino : ℕ) (p : PageNo) → held ≡ 0 → Page_ok held bytes x ino p → Page_ok held more x ino p
 unheld_ok held bytes more x ino p z r =
     record {
       mode = r.mode;
@@ -56,7 +56,7 @@ page_more es e a h ino p r = go (same_file e.of.file (file_at a.server ino)) ref
         unheld_ok (held_in a.session ino).mode _ _ a.store ino p (ap (λ n. (held_in a.session n).mode) (sym (eqb-true e.of.file.ino ino z.1)) ∙ h (ap (λ n. record { 0 = n }) (eqb-true e.of.file.server.0 a.server.0 z.0))) r
     go false q = subst (λ bytes. Page_ok (held_in a.session ino).mode bytes a.store ino p) (sym (content_other es e (file_at a.server ino) p q)) r
 
-no_bool : (b : Bool) → b ≡ true → b ≡ false → ⊥
+pub no_bool : (b : Bool) → b ≡ true → b ≡ false → ⊥
 no_bool true x y = cc
 no_bool false x y = cc
 

@@ -2,6 +2,7 @@
 use Rattle.std.specs.Prelude.{◌≡◌, ℕ, ◌+◌, Bool, true, false, List, [], ◌∷◌, ◌++◌, Option, Some, None, Ok, if◌then◌else◌}
 use Rattle.st_base.specs.declared.ids.ClientId.{ClientId}
 use Rattle.st_base.specs.declared.ids.FileId.{FileId}
+use Rattle.st_base.specs.declared.ids.PageNo.{PageNo}
 use Rattle.st_base.specs.declared.ids.Stamp.{Stamp}
 use Rattle.st_base.specs.declared.ids.NodeId.{NodeId}
 use Rattle.st_base.specs.declared.ids.NodeId.TheVariants as nodes
@@ -11,7 +12,9 @@ use Rattle.st_messages.specs.declared.event.Event.TheVariants as events
 use Rattle.st_messages.specs.declared.message.Message.{Message}
 use Rattle.st_rules.specs.declared.client.ClientInput.{ClientInput}
 use Rattle.st_rules.specs.declared.client.ClientInput.TheVariants as inputs
+use Rattle.st_rules.specs.declared.log.Cause.{Cause}
 use Rattle.st_rules.specs.declared.log.LogEntry.{LogEntry}
+use Rattle.st_rules.specs.declared.log.LogOwner.{LogOwner}
 use Rattle.st_rules.specs.declared.world.Carried.{Carried}
 use Rattle.st_rules.specs.declared.world.IssuedCommand.{IssuedCommand}
 use Rattle.st_rules.specs.declared.world.SentMessage.{SentMessage}
@@ -19,7 +22,8 @@ use Rattle.st_rules.specs.Client as cl
 use Rattle.st_rules.specs.ClientState.{Association, ClientState, ClientTurn, client_turn}
 use Rattle.st_rules.specs.Disks as disks
 use Rattle.st_rules.specs.World.{World, ClientSite, site_of, clock_of, issued_of, life_with, message_of, receiver_of}
-use Rattle.st_rules.specs.FlatLog.{is_of_client}
+use Rattle.st_rules.specs.FlatLog as log
+use Rattle.st_rules.specs.FlatLog.{is_of_client, is_of_life, is_pending}
 use Rattle.st_rules.specs.Events as ev
 use Rattle.st_rules.specs.Events.{Scene}
 use Rattle.st_views.specs.Halves.{held_in}
@@ -118,6 +122,27 @@ abbrev pub Effects_keep_copies : Type 0
 Effects_keep_copies =
     (asked_as : ℕ → Option Ask) (c : ClientId) (es : List LogEntry) (s : ClientState) (x : Option Carried) → Client_stands asked_as c es s →
     Client_stands asked_as c (ev.log_hard es x) s
+
+-- an entry of this owner is of none of the client's present lives
+abbrev pub Of_no_present_life : ClientId → LogOwner → List Association → Type 0
+Of_no_present_life c o [] = Unit {0}
+Of_no_present_life c o (a ∷ xs) = record { one : is_of_life c a.server a.life o ≡ false; rest : Of_no_present_life c o xs }
+
+-- What is dropped of a log, from a number on, is of none of this client's present lives, on files of which it has no lock.
+abbrev pub Drops_unheld : ClientId → (ℕ → LogOwner → Bool) → List Association → ℕ → List LogEntry → Type 0
+Drops_unheld c picked xs n [] = Unit {0}
+Drops_unheld c picked xs n (e ∷ es) =
+    record {
+      other : picked n e.of ≡ true → is_pending e.fate ≡ true → Of_no_present_life c e.of xs;
+      unheld : picked n e.of ≡ true → is_pending e.fate ≡ true → Unheld e.of.file xs;
+      rest : Drops_unheld c picked xs (n + 1) es;
+    }
+
+-- It stands by a log of which such entries are dropped.
+abbrev pub Drops_keep_copies : Type 0
+Drops_keep_copies =
+    (asked_as : ℕ → Option Ask) (c : ClientId) (es : List LogEntry) (s : ClientState) (picked : ℕ → LogOwner → Bool) (cause : FileId → PageNo → Cause) →
+    Drops_unheld c picked s.associations 1 es → Client_stands asked_as c es s → Client_stands asked_as c (log.drop_picked es picked cause) s
 
 -- What stands of a client that does not run: its servers differ, and no entry of it is of a life beyond its association's.
 pub record Client_rests (c : ClientId) (es : List LogEntry) (s : ClientState) : Type 0 where

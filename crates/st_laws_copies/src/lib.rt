@@ -2,7 +2,7 @@
 #![tactic(auto)]
 
 ghost use Rattle.st_laws_copies.specs.Law.{Changes_are_held, Changes_are_locked, Operations_keep_copies, Steps_answer_right, Steps_keep_copies};
-ghost use Rattle.st_laws_copies.specs.World.{Effects_keep_copies, Entries_keep_copies, Events_keep_copies, Restarts_keep_copies};
+ghost use Rattle.st_laws_copies.specs.World.{Drops_keep_copies, Effects_keep_copies, Entries_keep_copies, Events_keep_copies, Restarts_keep_copies};
 
 /// The pass over the operations keeps the copies: pages have the bytes of the log, and reads are answered by it.
 pub fn operations_keep_copies()
@@ -33,11 +33,12 @@ pub fn changes_are_locked()
 
 /// In the world, an event at which a client that runs takes an input (a tick, an ask, a message, the end of a command) keeps its
 /// copies by the log of the world that it leaves, under what other laws owe of it. An entry of nobody or of another client, on a
-/// file of which this client has no lock, leaves its copies, and so does the effect of a disk command. A client that crashes and
-/// starts has its copies again: there are none.
+/// file of which this client has no lock, leaves its copies. So does the effect of a disk command, and so does the drop of entries
+/// of others or of its earlier lives, on such files. A client that crashes and starts has its copies again: there are none.
 pub fn events_keep_copies()
     ensures own { Events_keep_copies }
     ensures entries { Entries_keep_copies }
     ensures effects { Effects_keep_copies }
+    ensures drops { Drops_keep_copies }
     ensures restarts { Restarts_keep_copies }
 {}

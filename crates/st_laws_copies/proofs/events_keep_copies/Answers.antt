@@ -1,6 +1,7 @@
 use Rattle.st_laws_copies.proofs.World.{law}
 use Rattle.st_laws_copies.proofs.Others.{entries_law, effects_law}
 use Rattle.st_laws_copies.proofs.Restarts.{law as restarts_law}
+use Rattle.st_laws_copies.proofs.Drops.{law as drops_law}
 use Rattle.st_laws_copies.proofs.events_keep_copies.Goals as goal
 
 pub returns-clause-own : goal.returns-clause-own
@@ -14,3 +15,6 @@ returns-clause-effects c = effects_law
 
 pub returns-clause-restarts : goal.returns-clause-restarts
 returns-clause-restarts c = restarts_law
+
+pub returns-clause-drops : goal.returns-clause-drops
+returns-clause-drops c = drops_law
