@@ -39,7 +39,7 @@ use Rattle.st_laws.proofs.Everywhere.{numbered_is}
 use Rattle.st_laws.proofs.Pairs.{found_at_place, own_view}
 
 -- members of a list of numbers
-numbers_has : (a c m : ℕ) → Has m (numbers a c) → (a ≤ m) × (m < a + c)
+pub numbers_has : (a c m : ℕ) → Has m (numbers a c) → (a ≤ m) × (m < a + c)
 unfolding numbers
 numbers_has a zero m h = elim h [ ]
 numbers_has a (suc c) m (inl e) = (omega (arith, e), omega (arith, e))
@@ -58,23 +58,23 @@ some_row None e = cc
 some_row (Some x) e = (x, refl)
 
 module _ (k : Config) (count : ℕ) (w : World) (a : AllStand k count w) (s : ℕ) (node : ServerNode) (at : node_of w (server s) ≡ Some node) where
-  abbrev z : Server_stands k w s node
+  abbrev pub z : Server_stands k w s node
   z = a.servers s node at
 
-  abbrev view : ℕ → net.Client
+  abbrev pub view : ℕ → net.Client
   view c = client_in w c s (z.ended c)
 
   -- A client's lease at the server lasts: what it has there.
-  record Lasting (c : ℕ) : Type 0 where
-    association : Association
-    found : association_of w (client c) (server s) ≡ Some association
-    session : ClientSession
-    is : association.session ≡ Some session
-    seen : view c ≡ client_of (z.ended c) (clock_of w (nodes.Client (client c))).0 association
-    alive : Alive k (view c)
-    modes : (l : HeldLock) (i : ℕ) → lock_of session.locks i ≡ Some l → 1 ≤ number_of l.mode
+  pub record Lasting (c : ℕ) : Type 0 where
+    pub association : Association
+    pub found : association_of w (client c) (server s) ≡ Some association
+    pub session : ClientSession
+    pub is : association.session ≡ Some session
+    pub seen : view c ≡ client_of (z.ended c) (clock_of w (nodes.Client (client c))).0 association
+    pub alive : Alive k (view c)
+    pub modes : (l : HeldLock) (i : ℕ) → lock_of session.locks i ≡ Some l → 1 ≤ number_of l.mode
 
-  lasting : (c : ℕ) → lasts w (client c) (server s) ≡ true → Lasting c
+  pub lasting : (c : ℕ) → lasts w (client c) (server s) ≡ true → Lasting c
   lasting c h = go (site_of w (client c)) refl h
     where
       clock : Stamp
@@ -130,7 +130,7 @@ module _ (k : Config) (count : ℕ) (w : World) (a : AllStand k count w) (s : �
       by (Some x) e = subst (λ o. 1 ≤ (held_at o).mode) (sym e) (l.modes x i e)
 
   -- a dirty page lies under an exclusive lock
-  dirty_mode : (c : ℕ) (l : Lasting c) (d : DirtyPage) → Has d l.association.store.pages.dirty → 2 ≤ ((view c).held d.ino).mode
+  pub dirty_mode : (c : ℕ) (l : Lasting c) (d : DirtyPage) → Has d l.association.store.pages.dirty → 2 ≤ ((view c).held d.ino).mode
   dirty_mode c l d h =
       (invariant k (pairs s z.ended w node z.ghosts) a.sound z.both.stands.reached c).exact_.busy d.ino
       (ap (λ (x : net.Client). x.busy d.ino) l.seen ∙ ap (λ b. b || has_write_on l.association.store.commands d.ino) (some_passes (is_dirty_on d.ino) l.association.store.pages.dirty d h (eq-eqb d.ino d.ino refl)))

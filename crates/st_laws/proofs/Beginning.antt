@@ -49,12 +49,12 @@ numbers_is a zero i l = absurd (omega arith)
 numbers_is a (suc c) zero l = ap (λ n. Some n) (let z : a ≡ a + 0 = omega arith in z)
 numbers_is a (suc c) (suc i) l = numbers_is (a + 1) c i (omega arith) ∙ ap (λ n. Some n) (let z : (a + 1) + i ≡ a + suc i = omega arith in z)
 
-numbers_length : (a c : ℕ) → length (numbers a c) ≡ c
+pub numbers_length : (a c : ℕ) → length (numbers a c) ≡ c
 unfolding numbers
 numbers_length a zero = refl
 numbers_length a (suc c) = ap suc (numbers_length (a + 1) c)
 
-length_map : {A B : Type 0} (f : A → B) (xs : List A) → length (map f xs) ≡ length xs
+pub length_map : {A B : Type 0} (f : A → B) (xs : List A) → length (map f xs) ≡ length xs
 length_map f [] = refl
 length_map f (x ∷ xs) = ap suc (length_map f xs)
 
@@ -62,7 +62,7 @@ length_both : {A : Type 0} (xs ys : List A) → length (xs ++ ys) ≡ length xs 
 length_both [] ys = omega arith
 length_both (x ∷ xs) ys = let z = length_both xs ys in omega (arith, z)
 
-numbered_map : {A : Type 0} (f : ℕ → A) (count n : ℕ) (x : A) → numbered (map f (numbers 1 count)) n ≡ Some x → x ≡ f n
+pub numbered_map : {A : Type 0} (f : ℕ → A) (count n : ℕ) (x : A) → numbered (map f (numbers 1 count)) n ≡ Some x → x ≡ f n
 numbered_map f count zero x e = cc
 numbered_map {A} f count (suc i) x e = at (slice_get (numbers 1 count) i) refl (sym (get_map f (numbers 1 count) i) ∙ e)
   where

@@ -11,4 +11,8 @@ pub mod Quietly
 pub mod Shown
 pub mod Promised
 pub mod Alone
+pub mod Known
+pub mod Changes
+pub mod Waiting
+pub mod Locked
 pub mod Runs

@@ -7,9 +7,9 @@ use Rattle.st_base.specs.declared.config.Config as base
 use Rattle.st_messages.specs.declared.event.Event.{Event}
 use Rattle.st_messages.specs.declared.event.Event.TheVariants as events
 use Rattle.st_rules.specs.declared.observation.WorldRefusal.{WorldRefusal}
-use Rattle.st_rules.specs.Events.{Scene, world_step}
+use Rattle.st_rules.specs.Events.{Scene, counted, world_step}
 use Rattle.st_rules.specs.History.{Traced, traced, traced_after}
-use Rattle.st_rules.specs.Safety.{DirtyPagesStandAlone, GraceWaits, NoConflictIsSent, IsHead, Promise, Step, TheftsComeLate, Throughout, is_event, is_increment, is_late, is_no_conflict, step, steps, steps_on}
+use Rattle.st_rules.specs.Safety.{ChangesAreLocked, DirtyPagesStandAlone, GraceWaits, NoConflictIsSent, IsHead, Promise, Step, TheftsComeLate, Throughout, is_event, is_increment, is_late, is_no_conflict, step, steps, steps_on}
 use Rattle.st_rules.specs.World.{World, fresh_world}
 use Rattle.st_lemmas.proofs.Steps.{step_happens}
 use Rattle.st_lemmas.proofs.Tables.{and_true}
@@ -23,7 +23,13 @@ use Rattle.st_laws_dates.proofs.Law as dated
 use Rattle.st_laws_history.proofs.RepliesLaw as replies
 use Rattle.st_laws.proofs.Everywhere.{stays}
 use Rattle.st_laws.proofs.Alone.{all_stand_alone}
+use Rattle.st_laws.proofs.Known.{fresh_known}
+use Rattle.st_laws.proofs.Locked.{Servers_known, Written, both_locked, happens_written}
 use Rattle.st_laws.proofs.Promised.{graces_wait, no_conflicts, thefts_late}
+use Rattle.st_laws.proofs.Waiting.{waits_owed}
+use Rattle.st_laws_pages.specs.Locked.{WaitsHold}
+use Rattle.st_laws_pages.proofs.CutLaw.{law as cut_law}
+use Rattle.st_laws_pages.proofs.Whole.{fresh_waits}
 
 -- A promise holds throughout a run over events in their ranges, if a fact of the past and the state gives it at each step and stands
 -- again after it.
@@ -116,3 +122,26 @@ no_conflict_sent k clients servers disks blocks form es head events =
         let p = step_happens t.world e sc taken in
         subst (λ (x : Scene). list_all is_no_conflict x.seen ≡ true) (sym p.1)
         (no_conflicts (terms_of k) t (clients + servers) b.behind.all (replies.dates_stand past t b.behind.dates) past b.dated e p.0 (taken ∙ ap (λ (x : Scene). Ok x) p.1))
+
+-- What stands behind every event for changes: all of a world, its lock tables, and the servers of its clients.
+record Locking (k : Config) (count : ℕ) (w : World) : Type 0 where
+  all : AllStand k count w
+  waits : WaitsHold w
+  known : Servers_known w
+
+-- changes are locked, in every run
+pub changes_stay_locked : In_every_run ChangesAreLocked
+changes_stay_locked k clients servers disks blocks form es head events =
+    throughout_events (clients + servers) ChangesAreLocked (λ past t. Locking (terms_of k) (clients + servers) t.world) (λ past t e sc h b taken. one past t e sc h b taken) es events []
+    (traced (fresh_world k clients servers disks blocks form))
+    (record { all = begun k clients servers disks blocks form head; waits = fresh_waits k clients servers disks blocks form; known = fresh_known k clients servers disks blocks form })
+  where
+    one : (past : List Step) (t : Traced) (e : Event) (sc : Scene) → is_event (clients + servers) e ≡ true → Locking (terms_of k) (clients + servers) t.world → world_step t.world e ≡ Ok sc →
+        ChangesAreLocked past (step t e sc) × Locking (terms_of k) (clients + servers) sc.world
+    one past t e sc h b taken =
+        let p = step_happens t.world e sc taken in
+        let all : AllStand (terms_of k) (clients + servers) sc.world = stays (terms_of k) (clients + servers) t.world e sc b.all (full (clients + servers) t.world e b.all.nodes h) taken in
+        let cut = cut_law t.world e sc taken (waits_owed (terms_of k) (clients + servers) t.world b.all e p.0) b.waits in
+        let lives = b.all.fates.lives in
+        let written = subst (Written (terms_of k) (clients + servers)) (sym p.1) (happens_written (terms_of k) (clients + servers) (counted t.world) e (record { lives = lives.lives; known = lives.known }) b.known) in
+        (both_locked sc.world sc.seen cut.locked (written.locked all), record { all = all; waits = cut.holds; known = written.known })

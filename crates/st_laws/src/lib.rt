@@ -1,7 +1,7 @@
 //! Laws over the world: both sides of every association at once, through every event of every run.
 #![tactic(auto)]
 
-ghost use Rattle.st_rules.specs.Safety.{DirtyPagesStandAlone, GraceWaits, NoConflictIsSent, TheftsComeLate};
+ghost use Rattle.st_rules.specs.Safety.{ChangesAreLocked, DirtyPagesStandAlone, GraceWaits, NoConflictIsSent, TheftsComeLate};
 ghost use Rattle.st_laws.specs.Law.{Client_events_keep, In_every_run, Runs_stand};
 
 /// What stands of a server and all its clients stands again after each event of a client, and after each that no node takes part in.
@@ -33,4 +33,10 @@ pub fn dirty_pages_stand_alone()
 /// In every run no server refuses a reassertion because another client's lock conflicts.
 pub fn no_conflict_is_sent()
     ensures { In_every_run NoConflictIsSent }
+{}
+
+/// In every run, behind an event that logged a write or a patch its client's lease lasts, the client has an exclusive lock on the file,
+/// and the page is dirty; behind one that logged a cut the file's server runs and has an exclusive row of the file.
+pub fn changes_are_locked()
+    ensures { In_every_run ChangesAreLocked }
 {}

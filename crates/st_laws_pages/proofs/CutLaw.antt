@@ -176,7 +176,7 @@ with_node_holds w s old new there a h = λ d n e. go d n e (same_or_not d.0 s.0)
         (subst (Table_holds s) (some_is (sym (numbered_own w.servers s.0 new old there) ∙ ap (numbered (with_numbered s.0 new w.servers)) (sym q) ∙ e)) a)
     go d n e (inr q) = h d n (sym (numbered_other w.servers s.0 d.0 new (numbered_below w.servers s.0 old there).0 q) ∙ e)
 
-at_server_after : (w : World) (s : ServerId) (input : ServerInput) (o : Option ServerNode) → node_of w s ≡ o → ((n : ServerNode) → o ≡ Some n → Input_alone (thefts (turn n.state []) (clock_of w (nodes.Server s))) input) → WaitsHold w →
+at_server_after : (w : World) (s : ServerId) (input : ServerInput) (o : Option ServerNode) → node_of w s ≡ o → ((n : ServerNode) → o ≡ Some n → Input_alone (thefts (turn n.state []) (clock_of w (nodes.Server s))) (clock_of w (nodes.Server s)) input) → WaitsHold w →
     Locked_after (ev.at_server w s input o)
 unfolding ev.at_server ev.server_takes ev.server_took server.node_step
 at_server_after w s input None e n h = quiet_after w w refl h
@@ -222,9 +222,9 @@ happens_cuts w (events.App c ask) o h = go (site_of w c)
     go (Some site) = client_after w c _ (ev.asked_once_more site) h
 happens_cuts w (events.Deliver k) o h = go (world.message_of w k) o
   where
-    at : (m : Message) (s : ServerId) (x : Option ServerNode) → At_reassertion w m s x → (n : ServerNode) → x ≡ Some n → Input_alone (thefts (turn n.state []) (clock_of w (nodes.Server s))) (serving.Control m)
+    at : (m : Message) (s : ServerId) (x : Option ServerNode) → At_reassertion w m s x → (n : ServerNode) → x ≡ Some n → Input_alone (thefts (turn n.state []) (clock_of w (nodes.Server s))) (clock_of w (nodes.Server s)) (serving.Control m)
     at m s None o n e = cc
-    at m s (Some y) o n e = subst (λ (z : ServerNode). Input_alone (thefts (turn z.state []) (clock_of w (nodes.Server s))) (serving.Control m)) (some_is e) o
+    at m s (Some y) o n e = subst (λ (z : ServerNode). Input_alone (thefts (turn z.state []) (clock_of w (nodes.Server s))) (clock_of w (nodes.Server s)) (serving.Control m)) (some_is e) o
 
     to : (m : Message) (n : NodeId) → At_receiver w m n → Locked_after (ev.delivers_to w m n)
     to m (nodes.Client c) o = at_client_after w c _ (site_of w c) h

@@ -104,9 +104,13 @@ pub record Behind (s : ServerId) (t : Turn) : Type 0 where
   pub cuts : Cuts_held s t.state.locks t.out
 
 -- what is owed where the input is a reassertion
-abbrev pub Input_alone : Turn → ServerInput → Type 0
-Input_alone t Tick = Unit {0}
-Input_alone t (Control m) = Waits_for_none t m.header m.body
+abbrev pub Input_alone : Turn → Stamp → ServerInput → Type 0
+Input_alone t now Tick = Unit {0}
+Input_alone t now (Control m) = Waits_for_none t now m.header m.body
+
+-- the same, of a message that is to this server, and of its epoch
+abbrev Is_met : Turn → Stamp → Header → Body → Type 0
+Is_met t now h m = Waits_for_none t now h m × (sv.is_for t.state h ≡ true)
 
 module _ (s : ServerId) where
   abbrev B : Turn → Type 0
@@ -179,36 +183,39 @@ module _ (s : ServerId) where
   a_reassert_again t h tk a = a
 
   accepted_apart : (t : Turn) (now : Stamp) (h : Header) (rs : List (ℕ × GrantNo × Mode)) (x : grace.Accepted) → grace.accept t.state.grace now (sender h) (life_in h) rs t.state.locks t.state.sessions ≡ Ok x →
-      ((w : Waiter) → Has w t.state.locks.waiters → w.client ≡ sender h → ⊥) → Waits_apart t.state.locks → Waits_apart x.locks
+      (grace.is_on t.state.grace now ≡ true → (w : Waiter) → Has w t.state.locks.waiters → w.client ≡ sender h → ⊥) → Waits_apart t.state.locks → Waits_apart x.locks
   unfolding grace.accept grace.accept_rows grace.accept_earlier grace.accept_own grace.accept_installed grace.accepted
-  accepted_apart t now h rs x e n a = on (grace.is_on t.state.grace now) e
+  accepted_apart t now h rs x e n a = on (grace.is_on t.state.grace now) refl e
     where
       inj : (y z : grace.Accepted) → ◌≡◌ {A = Res grace.Accepted AcceptRefusal} (Ok y) (Ok z) → y ≡ z
       inj y z q = cc
 
-      installed : (o : Res Locks InstallRefusal) → locks.install t.state.locks (sender h) (life_in h) rs ≡ o → grace.accept_installed t.state.sessions (sender h) (life_in h) o ≡ Ok x → Waits_apart x.locks
-      installed (Ok l) q z = subst (λ (y : grace.Accepted). Waits_apart y.locks) (inj _ x z) (install_apart t.state.locks (sender h) (life_in h) rs l q n a)
-      installed (Err r) q z = cc
+      Alone : Type 0
+      Alone = (w : Waiter) → Has w t.state.locks.waiters → w.client ≡ sender h → ⊥
 
-      own : (o : Option ℕ) → grace.accept_own t.state.locks t.state.sessions (sender h) (life_in h) rs o ≡ Ok x → Waits_apart x.locks
-      own None z = installed (locks.install t.state.locks (sender h) (life_in h) rs) refl z
-      own (Some i) z = cc
+      installed : Alone → (o : Res Locks InstallRefusal) → locks.install t.state.locks (sender h) (life_in h) rs ≡ o → grace.accept_installed t.state.sessions (sender h) (life_in h) o ≡ Ok x → Waits_apart x.locks
+      installed k (Ok l) q z = subst (λ (y : grace.Accepted). Waits_apart y.locks) (inj _ x z) (install_apart t.state.locks (sender h) (life_in h) rs l q k a)
+      installed k (Err r) q z = cc
 
-      earlier : (o : Option (ℕ × GrantNo × Mode)) → grace.accept_earlier t.state.locks t.state.sessions (sender h) (life_in h) rs o ≡ Ok x → Waits_apart x.locks
-      earlier None z = own (grace.own_older t.state.locks (sender h) (life_in h)) z
-      earlier (Some r) z = cc
+      own : Alone → (o : Option ℕ) → grace.accept_own t.state.locks t.state.sessions (sender h) (life_in h) rs o ≡ Ok x → Waits_apart x.locks
+      own k None z = installed k (locks.install t.state.locks (sender h) (life_in h) rs) refl z
+      own k (Some i) z = cc
 
-      on : (b : Bool) → ◌≡◌ {A = Res grace.Accepted AcceptRefusal} (if b then grace.accept_rows t.state.locks t.state.sessions (sender h) (life_in h) rs else Err (Rattle.st_rules.specs.declared.authority.AcceptRefusal.TheVariants.GraceOver (grace.grace_start t.state.grace) now)) (Ok x) → Waits_apart x.locks
-      on true z = earlier (Rattle.std.specs.Prelude.find (grace.is_new_grant t.state.locks) rs) z
-      on false z = cc
+      earlier : Alone → (o : Option (ℕ × GrantNo × Mode)) → grace.accept_earlier t.state.locks t.state.sessions (sender h) (life_in h) rs o ≡ Ok x → Waits_apart x.locks
+      earlier k None z = own k (grace.own_older t.state.locks (sender h) (life_in h)) z
+      earlier k (Some r) z = cc
 
-  a_reassert : (t : Turn) (now : Stamp) (h : Header) (rs : List (ℕ × GrantNo × Mode)) → Waits_for_none t h (bd.Reassert rs) → B t → A (reassert t now h rs)
+      on : (b : Bool) → grace.is_on t.state.grace now ≡ b → ◌≡◌ {A = Res grace.Accepted AcceptRefusal} (if b then grace.accept_rows t.state.locks t.state.sessions (sender h) (life_in h) rs else Err (Rattle.st_rules.specs.declared.authority.AcceptRefusal.TheVariants.GraceOver (grace.grace_start t.state.grace) now)) (Ok x) → Waits_apart x.locks
+      on true q z = earlier (n q) (Rattle.std.specs.Prelude.find (grace.is_new_grant t.state.locks) rs) z
+      on false q z = cc
+
+  a_reassert : (t : Turn) (now : Stamp) (h : Header) (rs : List (ℕ × GrantNo × Mode)) → Is_met t now h (bd.Reassert rs) → (h.epoch == t.state.stable.epoch.0) ≡ true → B t → A (reassert t now h rs)
   unfolding reassert reassert_new reassert_by
-  a_reassert t now h rs n b =
+  a_reassert t now h rs n ep b =
       if_known A (sessions.knows t.state.sessions (sender h) (life_in h)) _ _ (λ e. a_reassert_again t h _ (then_after t b))
-      (λ e. by (grace.accept t.state.grace now (sender h) (life_in h) rs t.state.locks t.state.sessions) refl (n e))
+      (λ e. by (grace.accept t.state.grace now (sender h) (life_in h) rs t.state.locks t.state.sessions) refl (λ on. n.0 (record { here = n.1; epoch = ep; on = on; new = e })))
     where
-      by : (o : Res grace.Accepted AcceptRefusal) → grace.accept t.state.grace now (sender h) (life_in h) rs t.state.locks t.state.sessions ≡ o → ((w : Waiter) → Has w t.state.locks.waiters → w.client ≡ sender h → ⊥) → A (reassert_by t h o)
+      by : (o : Res grace.Accepted AcceptRefusal) → grace.accept t.state.grace now (sender h) (life_in h) rs t.state.locks t.state.sessions ≡ o → (grace.is_on t.state.grace now ≡ true → (w : Waiter) → Has w t.state.locks.waiters → w.client ≡ sender h → ⊥) → A (reassert_by t h o)
       by (Ok x) q n = a_reply _ h _ (then_after (with_sessions x.sessions (with_locks x.locks t)) (record { id = b.id; waits = accepted_apart t now h rs x q n b.waits; none = b.none }))
       by (Err r) q n = a_reply t h _ (then_after t b)
 
@@ -335,30 +342,30 @@ module _ (s : ServerId) where
   a_request_by t now h m takes.OutOfOrder b = then_after t b
   a_request_by t now h m takes.Fresh b = a_keep h _ _ (a_rule t now h m b)
 
-  a_request : (t : Turn) (now : Stamp) (h : Header) (m : Body) → Waits_for_none t h m → B t → A (request t now h m)
+  a_request : (t : Turn) (now : Stamp) (h : Header) (m : Body) → Is_met t now h m → (h.epoch == t.state.stable.epoch.0) ≡ true → B t → A (request t now h m)
   unfolding request
-  a_request t now h (bd.Reassert rs) n b = a_reassert t now h rs n b
-  a_request t now h m n b = a_request_by t now h m _ b
+  a_request t now h (bd.Reassert rs) n ep b = a_reassert t now h rs n ep b
+  a_request t now h m n ep b = a_request_by t now h m _ b
 
-  a_of_epoch : (t : Turn) (now : Stamp) (h : Header) (m : Body) → Waits_for_none t h m → B t → A (of_epoch t now h m)
+  a_of_epoch : (t : Turn) (now : Stamp) (h : Header) (m : Body) → Is_met t now h m → B t → A (of_epoch t now h m)
   unfolding of_epoch refuse_epoch
-  a_of_epoch t now h m n b = if_either A (h.epoch == t.state.stable.epoch.0) _ _ (a_request t now h m n b) (a_reply t h _ (then_after t b))
+  a_of_epoch t now h m n b = if_known A (h.epoch == t.state.stable.epoch.0) _ _ (λ e. a_request t now h m n e b) (λ e. a_reply t h _ (then_after t b))
 
-  a_by_body : (t : Turn) (now : Stamp) (h : Header) (m : Body) → Waits_for_none t h m → B t → A (by_body t now h m)
+  a_by_body : (t : Turn) (now : Stamp) (h : Header) (m : Body) → Is_met t now h m → B t → A (by_body t now h m)
   unfolding by_body
   a_by_body t now h bd.Hello n b = a_hello t now h (then_after t b)
   a_by_body t now h (bd.DemandSeen i g) n b = a_seen t h i g b
   a_by_body t now h m n b = a_of_epoch t now h m n b
 
-  a_by_suspicion : (t : Turn) (now : Stamp) (h : Header) (m : Body) (y : Option Stamp) → Waits_for_none t h m → B t → A (by_suspicion t now h m y)
+  a_by_suspicion : (t : Turn) (now : Stamp) (h : Header) (m : Body) (y : Option Stamp) → Is_met t now h m → B t → A (by_suspicion t now h m y)
   unfolding by_suspicion
   a_by_suspicion t now h m None n b = a_by_body t now h m n b
   a_by_suspicion t now h m (Some start) n b = a_refuse t h start m (then_after t b)
 
-  a_input : (t : Turn) (now : Stamp) (i : ServerInput) → Input_alone t i → B t → A (take_input t now i)
+  a_input : (t : Turn) (now : Stamp) (i : ServerInput) → Input_alone t now i → B t → A (take_input t now i)
   unfolding take_input receive receive_from
   a_input t now Tick n b = then_after t b
-  a_input t now (Control m) n b = if_either A (sv.is_for t.state m.header) _ _ (a_by_suspicion t now m.header m.body _ n b) (then_after t b)
+  a_input t now (Control m) n b = if_known A (sv.is_for t.state m.header) _ _ (λ e. a_by_suspicion t now m.header m.body _ (n, e) b) (λ e. then_after t b)
 
   -- the passes
   a_suspects : (now : Stamp) (cs : List ClientId) (t : Turn) → A t → A (suspect_each now cs t)
@@ -408,6 +415,6 @@ module _ (s : ServerId) where
   unfolding thefts
   b_thefts n now b = b_steals (authority.over n.authority now) _ (record { id = b.id; waits = b.waits; none = b.none })
 
-  pub step_rows : (n : ServerState) (now : Stamp) (i : ServerInput) → n.id ≡ s → Waits_apart n.locks → Input_alone (thefts (turn n []) now) i → A (server_step n now i)
+  pub step_rows : (n : ServerState) (now : Stamp) (i : ServerInput) → n.id ≡ s → Waits_apart n.locks → Input_alone (thefts (turn n []) now) now i → A (server_step n now i)
   unfolding server_step
   step_rows n now i e w o = a_demanding _ now i (a_granting _ now (a_suspecting _ now i (a_input _ now i o (b_thefts n now (record { id = e; waits = w; none = record {} })))))

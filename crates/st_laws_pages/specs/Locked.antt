@@ -1,7 +1,8 @@
 -- Cuts are locked: the law, what stands of the lock tables, and what is owed at a reassertion.
-use Rattle.std.specs.Prelude.{◌≡◌, ℕ, true, false, Bool, List, [], ◌∷◌, Option, Some, None, Ok}
+use Rattle.std.specs.Prelude.{◌≡◌, ◌==◌, ℕ, true, false, Bool, List, [], ◌∷◌, Option, Some, None, Ok}
 use Rattle.std.specs.List.{list_all}
 use Rattle.st_base.specs.declared.ids.ServerId.{ServerId}
+use Rattle.st_base.specs.declared.ids.Stamp.{Stamp}
 use Rattle.st_base.specs.declared.ids.NodeId.{NodeId}
 use Rattle.st_base.specs.declared.ids.NodeId.TheVariants as nodes
 use Rattle.st_base.specs.declared.config.Config.{Config}
@@ -23,6 +24,8 @@ use Rattle.st_rules.specs.declared.world.SentMessage.{SentMessage}
 use Rattle.st_rules.specs.Locks as locks
 use Rattle.st_rules.specs.Locks.{Locks}
 use Rattle.st_rules.specs.Sessions as sessions
+use Rattle.st_rules.specs.Grace as grace
+use Rattle.st_rules.specs.Server as server
 use Rattle.st_rules.specs.Server.{ServerNode, Turn, turn, thefts, sender, life_in}
 use Rattle.st_rules.specs.World as world
 use Rattle.st_rules.specs.World.{World, numbered, node_of, clock_of}
@@ -71,16 +74,23 @@ pub record Table_holds (s : ServerId) (n : ServerNode) : Type 0 where
 abbrev pub WaitsHold : World → Type 0
 WaitsHold w = (s : ServerId) (n : ServerNode) → node_of w s ≡ Some n → Table_holds s n
 
--- Owed at a reassertion of a life that is new to the sessions: its client waits for nothing.
-abbrev pub Waits_for_none : Turn → Header → Body → Type 0
-Waits_for_none t h (bodies.Reassert rows) =
-    sessions.knows t.state.sessions (sender h) (life_in h) ≡ false → (w : Waiter) → Has w t.state.locks.waiters → w.client ≡ sender h → ⊥
-Waits_for_none t h body = Unit {0}
+-- A reassertion that may be accepted: it is to this server, of its epoch and in its grace, and its life is new to the sessions.
+pub record May_accept (t : Turn) (now : Stamp) (h : Header) : Type 0 where
+  pub here : server.is_for t.state h ≡ true
+  pub epoch : (h.epoch == t.state.stable.epoch.0) ≡ true
+  pub on : grace.is_on t.state.grace now ≡ true
+  pub new : sessions.knows t.state.sessions (sender h) (life_in h) ≡ false
+
+-- Owed at a reassertion that may be accepted: its client waits for nothing.
+abbrev pub Waits_for_none : Turn → Stamp → Header → Body → Type 0
+Waits_for_none t now h (bodies.Reassert rows) = May_accept t now h → (w : Waiter) → Has w t.state.locks.waiters → w.client ≡ sender h → ⊥
+Waits_for_none t now h body = Unit {0}
 
 -- at a server, after its thefts
 abbrev pub At_reassertion : World → Message → ServerId → Option ServerNode → Type 0
 At_reassertion w m s None = Unit {0}
-At_reassertion w m s (Some n) = Waits_for_none (thefts (turn n.state []) (clock_of w (nodes.Server s))) m.header m.body
+At_reassertion w m s (Some n) =
+    Waits_for_none (thefts (turn n.state []) (clock_of w (nodes.Server s))) (clock_of w (nodes.Server s)) m.header m.body
 
 -- at the receiver of a message
 abbrev pub At_receiver : World → Message → NodeId → Type 0

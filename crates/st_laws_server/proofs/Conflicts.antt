@@ -16,6 +16,7 @@ use Rattle.st_rules.specs.declared.authority.AcceptRefusal.TheVariants as refusa
 use Rattle.st_rules.specs.declared.input.ServerInput.{ServerInput}
 use Rattle.st_rules.specs.declared.input.ServerInput.TheVariants.{Tick, Control}
 use Rattle.st_rules.specs.declared.locks.LockRow.{LockRow}
+use Rattle.st_rules.specs.declared.locks.Waiter.{Waiter}
 use Rattle.st_rules.specs.declared.sessions.Session.{Session}
 use Rattle.st_rules.specs.Keys.{client, least}
 use Rattle.st_rules.specs.Locks.{Locks, is_row_by, is_row_of, row_of, stands_against, client_of_row, ino_of_row, holder_against, conflict_or, first_conflict, install, install_at}
@@ -37,7 +38,7 @@ use Rattle.st_views.specs.Halves.{Ghost, life_view, live_view, row_view, row_or}
 use Rattle.st_lemmas.specs.Lists.{Has}
 use Rattle.st_lemmas.proofs.Tables.{and_true, and_both, has_filter, has_map, none_has, not_true}
 use Rattle.st_lemmas.proofs.Keys.{least_some}
-use Rattle.st_laws_server.specs.View.{at, Row_ok, Not_ended, Sound}
+use Rattle.st_laws_server.specs.View.{at, Row_ok, Not_ended, Serves_life, Sound}
 use Rattle.st_laws_server.specs.Pair.{client_in}
 use Rattle.st_laws_server.specs.Stands.{pairs, Stands}
 use Rattle.st_laws_server.specs.Edits.{In_grace}
@@ -207,7 +208,12 @@ module _ (k : Config) (s : ℕ) (ended : ℕ → ℕ → ℕ) (w : World) (node 
           let b = (inv m.header.from).born_.session (ap live_view e ∙ l) in
           let z = sym (ap life_view e) ∙ zero in let y = ap life_view e in absurd (omega arith)
 
-  -- so it has no row
+  -- so it waits for nothing
+  pub no_waits : (t : Turn) (rows : List (ℕ × GrantNo × Mode)) → In_grace N Now t m rows → (x : Waiter) → Has x t.state.locks.waiters → x.client ≡ sender m.header → ⊥
+  no_waits t rows g x h e =
+      subst (Serves_life x.life.0) (no_session t rows g) ((sound m.header.from).waits x (subst (λ (l : Locks). Has x l.waiters) (locks_met t rows g) h) (ap (λ (c : ClientId). c.0) e)).served
+
+  -- and it has no row
   no_row_before : (t : Turn) (rows : List (ℕ × GrantNo × Mode)) → In_grace N Now t m rows → (ino : ℕ) → row_of N.locks (client m.header.from) ino ≡ None
   no_row_before t rows g ino = go (row_of N.locks (client m.header.from) ino) (subst (λ o. Row_ok o (row_view (row_of N.locks (client m.header.from) ino))) (no_session t rows g) ((sound m.header.from).rows ino))
     where
