@@ -16,3 +16,4 @@ pub mod Changes
 pub mod Waiting
 pub mod Locked
 pub mod Runs
+pub mod Kept

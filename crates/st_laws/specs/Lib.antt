@@ -1,3 +1,4 @@
 pub mod Stands
 pub mod World
 pub mod Law
+pub mod Kept

@@ -2,6 +2,7 @@
 #![tactic(auto)]
 
 ghost use Rattle.st_rules.specs.Safety.{ChangesAreLocked, DirtyPagesStandAlone, GraceWaits, NoConflictIsSent, TheftsComeLate};
+ghost use Rattle.st_laws.specs.Kept.{IsMostPromised};
 ghost use Rattle.st_laws.specs.Law.{Client_events_keep, In_every_run, Runs_stand};
 
 /// What stands of a server and all its clients stands again after each event of a client, and after each that no node takes part in.
@@ -39,4 +40,11 @@ pub fn no_conflict_is_sent()
 /// and the page is dirty; behind one that logged a cut the file's server runs and has an exclusive row of the file.
 pub fn changes_are_locked()
     ensures { In_every_run ChangesAreLocked }
+{}
+
+/// In every run eleven of the promises that make a run safe are kept at every step, restarts and several servers included; and old
+/// messages change nothing, at clients and at servers. Not proved over every run are that reads return last writes, that drops have a
+/// cause, that hard is hard, that `cut` is logged, and that changes go in the order of locks.
+pub fn most_is_promised()
+    ensures { IsMostPromised }
 {}

@@ -1,0 +1,32 @@
+-- The promises that are proved over every run, gathered from the crates that prove them.
+use Rattle.st_laws_asks.proofs.Law.{once_law}
+use Rattle.st_laws_client.proofs.Hard as hard
+use Rattle.st_laws_client.proofs.Old as old
+use Rattle.st_laws_dates.proofs.Law as dates
+use Rattle.st_laws_history.proofs.Law as history
+use Rattle.st_laws_losses.proofs.Halves.{whole_law}
+use Rattle.st_laws_pages.proofs.Whole.{told_law}
+use Rattle.st_laws_server.proofs.Old.{old_messages}
+use Rattle.st_rules.specs.History.{traced}
+use Rattle.st_rules.specs.World.{fresh_world}
+use Rattle.st_laws.specs.Kept.{Every_run_is_kept, IsMostPromised}
+use Rattle.st_laws.proofs.Runs.{changes_stay_locked, graces_wait_out, no_conflict_sent, pages_stand_alone, thefts_come_late}
+
+every_run : Every_run_is_kept
+every_run k clients servers disks blocks form es head events =
+    record {
+      alone = pages_stand_alone k clients servers disks blocks form es head events;
+      stays = hard.law es (traced (fresh_world k clients servers disks blocks form));
+      thefts = thefts_come_late k clients servers disks blocks form es head events;
+      dates = dates.law k clients servers disks blocks form es head events;
+      waits = graces_wait_out k clients servers disks blocks form es head events;
+      conflicts = no_conflict_sent k clients servers disks blocks form es head events;
+      told = told_law k clients servers disks blocks form es;
+      once = once_law k clients servers disks blocks form es head;
+      locked = changes_stay_locked k clients servers disks blocks form es head events;
+      emptied = whole_law k clients servers disks blocks form es head;
+      history = history.law k clients servers disks blocks form es head;
+    }
+
+pub most_promised : IsMostPromised
+most_promised = record { runs = every_run; clients = old.law; servers = old_messages }
