@@ -2,7 +2,7 @@
 use Rattle.std.proofs.Common.{◌≡◌, ℕ, zero, suc, drop, get_or, ◌+◌, ◌<◌, ◌≤◌, Bool, true, false, if◌then◌else◌, List, [], ◌∷◌, ◌++◌, length, refl, sym, ap, subst, ◌∙◌, ◌⊎◌, inl, inr, ⊎_elim, arith, true≢false}
 use Rattle.std.specs.Prelude.{◌&&◌, ◌||◌, nat_le, not}
 use Rattle.std.proofs.lemmas.List.{append_assoc, length-append}
-use Rattle.std.proofs.lemmas.Bool.{cases_Bool, and_parts, le-leb, lt-leb}
+use Rattle.std.proofs.lemmas.Bool.{cases_Bool, and_parts, le-leb, lt-leb, leb-true}
 use Rattle.std.proofs.Math.Seq.{get_or-append_seam}
 use Rattle.st_base.specs.Page.{filled}
 use Rattle.st_base.specs.declared.ids.FileId.{FileId}
@@ -12,9 +12,9 @@ use Rattle.st_rules.specs.declared.log.Change.TheVariants.{Write, Patch, Cut}
 use Rattle.st_rules.specs.declared.log.LogEntry.{LogEntry}
 use Rattle.st_rules.specs.Keys.{page_no}
 use Rattle.st_rules.specs.FlatLog.{counts, matters, changed, after, content, content_from}
-use Rattle.st_model.specs.ByPage.{is_write, same_file_page, file_page, is_bytes, is_change_at, is_cut_at, places_from, last_place, last_num, page_after}
+use Rattle.st_model.specs.ByPage.{is_write, same_file_page, file_page, is_bytes, is_change_at, is_cut_at, places_from, last_place, last_num, page_after, Skips}
 use Rattle.st_model.specs.Walks.{nth}
-use Rattle.st_model.proofs.Placed.{covers, last_placed}
+use Rattle.st_model.proofs.Placed.{covers, last_placed, same_or}
 
 cut_is : (b x : Bool) → (not b && x) ≡ true → b ≡ false
 cut_is true x h = absurd (true≢false (sym h))
@@ -160,3 +160,13 @@ skip_to f p c es page zs (k ∷ ks) zero x l b q m w =
     ∙ sym (ap (λ t. page_after c f p es (if t then after f p (nth es k) zs else zs) ks) on)
 skip_to f p c es page zs (k ∷ ks) (suc j) x l b q m w =
     skip_to f p c es (if nat_le c k then after f p (nth es k) page else page) zs ks j x (omega arith) b q m w
+
+-- a write that counts, found from the back
+pub skips_to : (f : FileId) (p : PageNo) (c : ℕ) (es : List LogEntry) (ks : List ℕ) (j k : ℕ) (x : LogEntry) → j < length ks → k ≡ get_or ks j 0 → k < length es →
+    x ≡ get_or es k x → (nat_le c k && (matters f p x && is_write x.change)) ≡ true → Skips c f p es ks j
+skips_to f p c es ks j k x l at low q h page =
+    let all = and_parts (nat_le c k) (matters f p x && is_write x.change) h in
+    let two = and_parts (matters f p x) (is_write x.change) all.1 in
+    let below : c ≤ k = leb-true c k all.0 in
+    let there : nth es (get_or ks j 0) ≡ x = ap (nth es) (sym at) ∙ same_or es k _ x low ∙ sym q in
+    skip_to f p c es page page ks j x l (omega (arith, below, at)) there two.0 two.1

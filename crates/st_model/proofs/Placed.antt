@@ -145,7 +145,7 @@ last_by_places f p es ks cs h k =
 pub places_in : (r : LogOwner → Change → Bool) (es xs : List LogEntry) (ks : List ℕ) → ks ≡ places_from r 0 es → xs ≡ es → (i : ℕ) → i < length ks → get_or ks i 0 < length xs
 places_in r es xs ks h q i l = rw q (let b = places_below r 0 es i 0 (subst (λ x. i < length x) h l) in subst (λ x. get_or x i 0 < length es) (sym h) (omega (arith, b)))
 
-same_or : (es : List LogEntry) (k : ℕ) (d e : LogEntry) → k < length es → get_or es k d ≡ get_or es k e
+pub same_or : (es : List LogEntry) (k : ℕ) (d e : LogEntry) → k < length es → get_or es k d ≡ get_or es k e
 same_or [] k d e l = absurd (omega arith)
 same_or (x ∷ es) zero d e l = refl
 same_or (x ∷ es) (suc k) d e l = same_or es k d e (omega arith)

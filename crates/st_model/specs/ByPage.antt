@@ -1,5 +1,5 @@
 -- The places of the entries that a test picks, and a table of such lists by the page of a file.
-use Rattle.std.specs.Prelude.{nat_le, ◌≡◌, ℕ, zero, suc, not, ◌+◌, Bool, true, false, ◌&&◌, ◌==◌, if◌then◌else◌, List, [], ◌∷◌, ◌++◌, Option, Some, None, unwrap_or}
+use Rattle.std.specs.Prelude.{nat_le, ◌≡◌, ℕ, zero, suc, not, ◌+◌, Bool, true, false, ◌&&◌, ◌==◌, if◌then◌else◌, List, [], ◌∷◌, ◌++◌, drop, Option, Some, None, unwrap_or}
 use Rattle.indexmap.specs.IndexMap.{IndexMap, get}
 use Rattle.st_base.specs.declared.ids.FileId.{FileId}
 use Rattle.st_base.specs.declared.ids.PageNo.{PageNo}
@@ -80,3 +80,7 @@ abbrev pub is_write : Change → Bool
 is_write (Write bytes) = true
 is_write (Patch at bytes) = false
 is_write Cut = false
+
+-- the page after the entries of these places is that after the places from an index on
+abbrev pub Skips : ℕ → FileId → PageNo → List LogEntry → List ℕ → ℕ → Type 0
+Skips c f p es ks j = (page : List ℕ) → page_after c f p es page ks ≡ page_after c f p es page (drop j ks)

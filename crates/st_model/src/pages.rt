@@ -1,4 +1,4 @@
-ghost use Rattle.std.specs.Prelude.{◌≡◌, ◌+◌, ◌<◌, ◌≤◌, if◌then◌else◌, nat_le, ℕ, length, get_or, max};
+ghost use Rattle.std.specs.Prelude.{◌≡◌, ◌+◌, ◌<◌, ◌≤◌, ◌&&◌, if◌then◌else◌, nat_le, ℕ, length, get_or, max};
 ghost use Rattle.st_base.specs.Page.{filled};
 ghost use Rattle.st_model.specs.ByPage as by_page;
 ghost use Rattle.st_model.specs.Kept.{AreInPages, IsInPage};
@@ -113,7 +113,48 @@ fn put_entry(entry: &LogEntry, k: u64, from: u64, file: FileId, page: PageNo, in
     }
 }
 
-/// Changes a page by the entries at these places, except the places below `from`.
+fn is_write(change: &Change) -> bool
+    ensures { result ≡ by_page.is_write change.now }
+{
+    match change {
+        Change::Write(_) => true,
+        Change::Patch(_, _) => false,
+        Change::Cut => false,
+    }
+}
+
+/// Tells whether nothing of the page is left from before the entry at place `k`: a write that is not gone.
+fn covers(entry: &LogEntry, k: u64, from: u64, file: FileId, page: PageNo) -> bool
+    ensures { result ≡ nat_le from k && (flat_log.matters file page entry.now && by_page.is_write entry.now.change) }
+{
+    from <= k && (matters(entry, file, page) && is_write(&entry.change))
+}
+
+/// Returns the index, among the places, of the last write of the page that is not gone, or 0. The page does not depend on the
+/// entries at the places in front of it.
+fn last_write(
+    entries: &[LogEntry],
+    places: &[usize],
+    from: u64,
+    file: FileId,
+    page: PageNo,
+) -> usize
+    requires { (i : ℕ) → i < length places.now → get_or places.now i 0 < length entries.now }
+    ensures skips { by_page.Skips from file page entries.now places.now result }
+    ensures most { result ≤ length places.now }
+{
+    let n = places.len();
+    for i in 0..n {
+        let k = places[n - 1 - i];
+        if covers(&entries[k], k as u64, from, file, page) {
+            return n - 1 - i;
+        }
+    }
+    0
+}
+
+/// Changes a page by the entries at these places, except the places below `from`. It reads the entries from the last write
+/// that is not gone on.
 pub(crate) fn page_after(
     entries: &[LogEntry],
     places: &[usize],
@@ -127,7 +168,8 @@ pub(crate) fn page_after(
     requires whole { length into.old ≡ 4096 }
     ensures { into.new ≡ by_page.page_after from file page entries.now into.old places.now }
 {
-    for i in 0..places.len() {
+    let start = last_write(entries, places, from, file, page);
+    for i in start..places.len() {
         let k = places[i];
         put_entry(&entries[k], k as u64, from, file, page, into);
     }
