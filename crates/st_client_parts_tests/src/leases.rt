@@ -1,5 +1,5 @@
 ghost use Rattle.std.specs.Prelude.{◌≡◌};
-ghost use Rattle.st_rules.specs.ClientLease as rules;
+ghost use Rattle.st_rules.specs.ClientLease as leases;
 ghost use Rattle.st_lease_client.specs.Standings.{kind_of, server_of};
 
 use st_base::{Config, ServerId, Stamp};
@@ -93,7 +93,7 @@ fn begin(lease: &mut Lease, stamp: u64, now: u64) -> &'static str
 
 /// Whether a lease with this standing may be renewed and condemned.
 fn may_renew(standing: &Standing) -> bool
-    ensures { result ≡ rules.may_renew (kind_of standing.now) }
+    ensures { result ≡ leases.may_renew (kind_of standing.now) }
 {
     matches!(
         standing,

@@ -30,8 +30,8 @@ pub record There (w : World) (s : ServerId) : Type 0 where
   pub node : ServerNode
   pub is : node_of w s ≡ Some node
 
--- What stands in a world of this number of nodes: the settings are the machine's, lives and fates are as they are to be, a message of a server is of one that is
--- there, and all stands of each server.
+-- What stands in a world of this number of nodes: the settings are the machine's, lives and fates are as they are to be, a message
+-- of a server is of one that is there, and all stands of each server.
 pub record AllStand (k : Config) (count : ℕ) (w : World) : Type 0 where
   pub terms : k ≡ terms_of w.config
   pub sound : Config_ok k

@@ -6,7 +6,7 @@ use Rattle.st_base.specs.declared.config.Config.{Config}
 use Rattle.st_rules.specs.declared.lease.Phase.{Phase}
 use Rattle.st_rules.specs.declared.client.StandingKind.{StandingKind}
 use Rattle.st_rules.specs.ClientLease.{ClientLease}
-use Rattle.st_rules.specs.ClientLease as rules
+use Rattle.st_rules.specs.ClientLease as leases
 use Rattle.st_lease_client.specs.declared.permits.SettledAt.{SettledAt}
 use Rattle.st_lease_client.specs.declared.standing.Standing.{Standing}
 use Rattle.st_lease_client.specs.Standings.{standing_as}
@@ -23,15 +23,15 @@ no_lease server config = record { server = server; config = config; lease = None
 
 -- the phase, where a lease is held
 abbrev pub phase : ServerLease → Stamp → Option Phase
-phase l now = rules.phase_at l.config l.lease now
+phase l now = leases.phase_at l.config l.lease now
 
 -- the end, where a lease is held
 abbrev pub end : ServerLease → Option Stamp
-end l = rules.end_at l.config l.lease
+end l = leases.end_at l.config l.lease
 
 -- the kind of its standing
 abbrev pub kind : ServerLease → Stamp → StandingKind
-kind l now = rules.standing l.config l.lease now
+kind l now = leases.standing l.config l.lease now
 
 -- a moment at the lease's server
 abbrev pub settled_at : ServerLease → Stamp → SettledAt
@@ -43,15 +43,15 @@ settled l now = standing_as (kind l now) (settled_at l now)
 
 -- a lease that began
 abbrev pub begun : Stamp → ServerLease → ServerLease
-begun stamp l = record l { lease = Some (rules.new_lease stamp) }
+begun stamp l = record l { lease = Some (leases.new_lease stamp) }
 
 -- a lease that was renewed
 abbrev pub renewed : Stamp → ServerLease → ServerLease
-renewed stamp l = record l { lease = option_map (rules.renewed stamp) l.lease }
+renewed stamp l = record l { lease = option_map (leases.renewed stamp) l.lease }
 
 -- a lease that was condemned
 abbrev pub condemned : ServerLease → ServerLease
-condemned l = record l { lease = option_map rules.condemned l.lease }
+condemned l = record l { lease = option_map leases.condemned l.lease }
 
 -- a lease that was lost
 abbrev pub closed : ServerLease → ServerLease

@@ -1,6 +1,6 @@
 // A lease that is held, and where it stands at a moment.
 ghost use Rattle.std.specs.Prelude.{◌≡◌, ◌+◌, ◌≤◌, ◌^◌, nat_le};
-ghost use Rattle.st_rules.specs.ClientLease as rules;
+ghost use Rattle.st_rules.specs.ClientLease as leases;
 ghost use Rattle.st_rules.specs.Leases.{phase_living, phase_serving, phase_young};
 
 use st_base::{Config, Stamp};
@@ -37,7 +37,7 @@ fn has_passed(time: u64, since: Stamp, now: Stamp) -> bool
 impl HeldLease {
     pub fn new(stamp: Stamp) -> HeldLease
         requires { stamp.0 ≤ 2 ^ 62 }
-        ensures { result ≡ rules.new_lease stamp }
+        ensures { result ≡ leases.new_lease stamp }
     {
         HeldLease {
             date: stamp,
@@ -80,7 +80,7 @@ impl HeldLease {
 
     #[tactic(auto, unfolding(st_rules::specs::Leases::phase))]
     pub fn phase(self, config: &Config, now: Stamp) -> Phase
-        ensures { result ≡ rules.phase_of config.now self now }
+        ensures { result ≡ leases.phase_of config.now self now }
     {
         if has_passed(config.lease, self.date, now) {
             Phase::Expired
@@ -92,14 +92,14 @@ impl HeldLease {
     /// The moment from which the lease is over.
     pub fn end(self, config: &Config) -> Stamp
         requires { config.now.lease ≤ 2 ^ 40 }
-        ensures { result ≡ rules.end_of config.now self }
+        ensures { result ≡ leases.end_of config.now self }
     {
         Stamp(self.date.0 + config.lease)
     }
 
     /// What is permitted.
     pub fn standing(self, config: &Config, now: Stamp) -> StandingKind
-        ensures { result ≡ rules.standing_of config.now self now }
+        ensures { result ≡ leases.standing_of config.now self now }
     {
         match self.phase(config, now) {
             Phase::Valid => StandingKind::Serve,
@@ -112,7 +112,7 @@ impl HeldLease {
 
     /// Whether a reply to a request of this stamp renews the lease.
     fn is_renewed_by(self, stamp: Stamp) -> bool
-        ensures { result ≡ rules.is_renewal stamp self }
+        ensures { result ≡ leases.is_renewal stamp self }
     {
         !self.condemned && self.date.0 < stamp.0
     }
@@ -120,7 +120,7 @@ impl HeldLease {
     #[tactic(auto, unfolding(st_rules::specs::ClientLease::renewed, st_rules::specs::ClientLease::dated))]
     pub fn renewed(self, stamp: Stamp) -> HeldLease
         requires { stamp.0 ≤ 2 ^ 62 }
-        ensures { result ≡ rules.renewed stamp self }
+        ensures { result ≡ leases.renewed stamp self }
     {
         if self.is_renewed_by(stamp) {
             HeldLease {
@@ -134,7 +134,7 @@ impl HeldLease {
 
     #[tactic(auto, unfolding(st_rules::specs::ClientLease::condemned))]
     pub fn condemned(self) -> HeldLease
-        ensures { result ≡ rules.condemned self }
+        ensures { result ≡ leases.condemned self }
     {
         HeldLease {
             date: self.date,

@@ -12,7 +12,7 @@ use Rattle.st_messages.specs.declared.message.Message.{Message}
 use Rattle.st_rules.specs.declared.client.Request.{Request}
 use Rattle.st_rules.specs.Keys.{server_node}
 use Rattle.st_rules.specs.ClientState.{Requests}
-use Rattle.st_rules.specs.ClientState as rules
+use Rattle.st_rules.specs.ClientState as client_state
 use Rattle.st_requests.specs.declared.requests.Reply.{Reply}
 use Rattle.st_requests.specs.declared.requests.Reply.TheVariants.{Match, Other}
 
@@ -32,7 +32,7 @@ pub record ServerRequests : Type 0 where
 
 -- nothing was asked yet
 abbrev pub no_requests : ClientId → ServerId → ℕ → ServerRequests
-no_requests client server retry = record { client = client; server = server; retry = retry; under = None; requests = rules.no_requests }
+no_requests client server retry = record { client = client; server = server; retry = retry; under = None; requests = client_state.no_requests }
 
 -- what stands in front of a request
 abbrev pub header : ClientId → ServerId → Under → ℕ → Stamp → Header
@@ -48,7 +48,7 @@ asked_message u body now r = message r.client r.server u r.requests.next body no
 
 -- the requests after that
 abbrev pub asking : Under → Body → Stamp → ServerRequests → ServerRequests
-asking u body now r = record r { under = Some u; requests = rules.asking r.requests body now }
+asking u body now r = record r { under = Some u; requests = client_state.asking r.requests body now }
 
 -- Asking again: the message, and the requests after that
 pub record Again : Type 0 where
@@ -64,12 +64,12 @@ unfoldable pub sent_again : ServerRequests → Under → Request → Stamp → A
 sent_again r u q now =
     record {
       message = Some (message r.client r.server u q.number q.body now);
-      requests = record r { requests = rules.asked_again q now r.requests };
+      requests = record r { requests = client_state.asked_again q now r.requests };
     }
 
 -- where it was last sent long ago
 unfoldable pub again_if_due : ServerRequests → Under → Request → Stamp → Again
-again_if_due r u q now = if rules.is_again_due r.retry now q then sent_again r u q now else not_again r
+again_if_due r u q now = if client_state.is_again_due r.retry now q then sent_again r u q now else not_again r
 
 -- where something is outstanding
 unfoldable pub again_of : ServerRequests → Option Under → Option Request → Stamp → Again
@@ -91,7 +91,7 @@ pub record Replied : Type 0 where
 
 -- nothing is outstanding any more
 abbrev pub ended : ServerRequests → ServerRequests
-ended r = record r { under = None; requests = rules.request_ended r.requests }
+ended r = record r { under = None; requests = client_state.request_ended r.requests }
 
 -- the outstanding request is ended
 abbrev pub matched : ServerRequests → Body → Replied
@@ -108,7 +108,7 @@ leaves_reply reply r = record { reply = reply; requests = r }
 -- by the number of the outstanding request
 unfoldable pub reply_to : ServerRequests → ℕ → Option Request → Replied
 reply_to r number None = not_matched r
-reply_to r number (Some q) = if rules.is_request_of number q then matched r q.body else not_matched r
+reply_to r number (Some q) = if client_state.is_request_of number q then matched r q.body else not_matched r
 
 -- Replying
 unfoldable pub reply : ServerRequests → ℕ → Replied
@@ -136,7 +136,7 @@ body_of q = q.body
 
 -- A new epoch gives up the outstanding request, and the next number is 1.
 abbrev pub restarted : ServerRequests → ServerRequests
-restarted r = record r { under = None; requests = rules.no_requests }
+restarted r = record r { under = None; requests = client_state.no_requests }
 
 -- what it gave up
 abbrev pub given_up : ServerRequests → Option Body

@@ -1,6 +1,6 @@
 // A request that was sent and not answered yet.
 ghost use Rattle.std.specs.Prelude.{◌≡◌, ◌+◌, ◌<◌, IfOk};
-ghost use Rattle.st_rules.specs.ClientState as rules;
+ghost use Rattle.st_rules.specs.ClientState as client_state;
 ghost use Rattle.st_requests.specs.Outstanding.{under_of};
 ghost use Rattle.st_requests.specs.ServerRequests as shown;
 
@@ -52,7 +52,7 @@ impl Asked {
 
     /// Whether the request was last sent `retry` ticks ago, or earlier.
     pub fn is_due(&self, retry: u64, now: Stamp) -> bool
-        ensures { result ≡ rules.is_again_due retry now self.now.request }
+        ensures { result ≡ client_state.is_again_due retry now self.now.request }
     {
         let sent = self.request.sent;
         sent.0 <= now.0 && retry <= now.0 - sent.0
