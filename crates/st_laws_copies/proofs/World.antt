@@ -32,7 +32,7 @@ use Rattle.st_lemmas.proofs.Steps.{step_happens}
 use Rattle.st_laws_client.specs.World.{logged}
 use Rattle.st_laws_client.proofs.World.{told_all}
 use Rattle.st_laws_copies.specs.Owed.{Numbered}
-use Rattle.st_laws_copies.specs.Law.{Apart, Lives_are, Client_stands, Step_keeps}
+use Rattle.st_laws_copies.specs.Law.{Apart, Lives_are, Client_stands, Client_copies, Step_keeps}
 use Rattle.st_laws_copies.specs.World.{Taking, taking, asking, hearing, hearing_of, told_at, told_of, taken, now_at, turn_of, Owed_of, World_keeps, Events_keep_copies}
 use Rattle.st_laws_copies.proofs.Locked.{found_there}
 use Rattle.st_laws_copies.proofs.Step.{law as step_law, step_apart}
@@ -64,7 +64,7 @@ flushes_log c s (y ∷ ss) w = flushes_log c s ss (ev.flushed_at w c y s) ∙ in
     in_phase o None = refl
 
 -- A client takes an input.
-takes_keep : (asked_as : ℕ → Option Ask) (x : Taking) (old : ClientSite) → site_of x.world x.client ≡ Some old → x.site.node.running ≡ true → Client_stands asked_as x.client x.world.log x.site.node.state → Numbered asked_as x.input → Owed_of x →
+takes_keep : (asked_as : ℕ → Option Ask) (x : Taking) (old : ClientSite) → site_of x.world x.client ≡ Some old → x.site.node.running ≡ true → Client_copies asked_as x.client x.world.log (now_at x) x.site.node.state → Numbered asked_as x.input → Owed_of x →
     World_keeps asked_as x.client x.world.log (ev.client_takes x.world x.client x.input x.site).world.log (turn_of x)
 unfolding ev.client_takes ev.client_took cl.node_step
 takes_keep asked_as x old there r h a o =
@@ -100,7 +100,7 @@ takes_keep asked_as x old there r h a o =
 module _ (asked_as : ℕ → Option Ask) where
   abbrev Keeps_at : Scene → Taking → Type 0
   Keeps_at sc x =
-      x.site.node.running ≡ true → Client_stands asked_as x.client x.world.log x.site.node.state → Numbered asked_as x.input → Owed_of x →
+      x.site.node.running ≡ true → Client_copies asked_as x.client x.world.log (now_at x) x.site.node.state → Numbered asked_as x.input → Owed_of x →
       World_keeps asked_as x.client x.world.log sc.world.log (turn_of x)
 
   by_client : (w : World) (c : ClientId) (input : ClientInput) (o : Option ClientSite) (x : Taking) → site_of w c ≡ o → taking w c input o ≡ Some x → Keeps_at (ev.at_client w c input o) x
