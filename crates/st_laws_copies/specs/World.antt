@@ -27,6 +27,7 @@ use Rattle.st_rules.specs.FlatLog.{is_of_client, is_of_life, is_pending}
 use Rattle.st_rules.specs.Events as ev
 use Rattle.st_rules.specs.Events.{Scene}
 use Rattle.st_views.specs.Halves.{held_in}
+use Rattle.st_lemmas.specs.Lists.{Has}
 use Rattle.st_laws_client.specs.World.{logged}
 use Rattle.st_laws_client.specs.Shown.{Lasts}
 use Rattle.st_laws_copies.specs.Copies.{Right}
@@ -90,12 +91,27 @@ turn_of x = cl.client_step x.site.node.state (now_at x) x.input
 abbrev pub Owed_of : Taking → Type 0
 Owed_of x = All_owed x.client (life_with (turn_of x).state) x.world.log x.input (cl.losses (client_turn x.site.node.state []) (now_at x)).state.associations
 
+-- an entry that is pending, of the life of one of these associations
+pub record Own_entry (c : ClientId) (xs : List Association) (e : LogEntry) : Type 0 where
+  pub association : Association
+  pub listed : Has association xs
+  pub own : is_of_life c association.server association.life e.of ≡ true
+  pub pending : is_pending e.fate ≡ true
+
+-- entries of which each is one
+abbrev pub All_own : ClientId → List Association → List LogEntry → Type 0
+All_own c xs [] = Unit {0}
+All_own c xs (e ∷ es) = record { one : Own_entry c xs e; rest : All_own c xs es }
+
 -- What it leaves: the copies stand by the log of the world left, each output is right by the log at it, and that log is the one before
--- with what the outputs log.
+-- with what the outputs log: pending entries of the lives behind the step.
 pub record World_keeps (asked_as : ℕ → Option Ask) (c : ClientId) (es fs : List LogEntry) (t : ClientTurn) : Type 0 where
   pub stands : Client_stands asked_as c fs t.state
   pub right : Right asked_as c (life_with t.state) es t.out
   pub log : fs ≡ logged c (life_with t.state) t.out es
+  pub more : List LogEntry
+  pub joined : fs ≡ es ++ more
+  pub own : All_own c t.state.associations more
 
 -- An event at which a client that runs takes an input keeps its copies, under what other laws owe of it.
 abbrev pub Events_keep_copies : Type 0
