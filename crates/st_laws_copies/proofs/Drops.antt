@@ -22,8 +22,9 @@ use Rattle.st_rules.specs.ClientState.{Association}
 use Rattle.st_rules.specs.Events.{is_hard_fate}
 use Rattle.st_views.specs.Halves.{held_in}
 use Rattle.st_lemmas.proofs.Tables.{and_true}
+use Rattle.st_laws_client.specs.Shown.{Lasts}
 use Rattle.st_laws_copies.specs.Copies.{Page_ok, Fates_ok, file_at}
-use Rattle.st_laws_copies.specs.Law.{Lived, All_stand}
+use Rattle.st_laws_copies.specs.Law.{Lived, All_while}
 use Rattle.st_laws_copies.specs.World.{Drops_unheld, Drops_keep_copies}
 use Rattle.st_laws_copies.proofs.Others.{unheld_ok, no_bool}
 
@@ -99,7 +100,7 @@ module _ (picked : ℕ → LogOwner → Bool) (cause : FileId → PageNo → Cau
       go true q r = record { one = λ o. one (cause e.of.file e.of.page) e.fate o (u.one q) (h.one o); rest = r }
       go false q r = record { one = h.one; rest = r }
 
-  lived_drop : (c : ClientId) (sv : ServerId) (life : Life) (n : ℕ) (es : List LogEntry) → Lived c sv life es → Lived c sv life (log.drop_from n picked cause es)
+  pub lived_drop : (c : ClientId) (sv : ServerId) (life : Life) (n : ℕ) (es : List LogEntry) → Lived c sv life es → Lived c sv life (log.drop_from n picked cause es)
   unfolding log.drop_from log.dropped log.lost_entry
   lived_drop c sv life n [] h = record {}
   lived_drop c sv life n (e ∷ es) h = go (picked n e.of) (lived_drop c sv life (n + 1) es h.rest)
@@ -109,31 +110,36 @@ module _ (picked : ℕ → LogOwner → Bool) (cause : FileId → PageNo → Cau
       go false r = record { one = h.one; rest = r }
 
   -- the first association, and the others
-  first : (c : ClientId) (a : Association) (xs : List Association) (n : ℕ) (es : List LogEntry) → Drops_unheld c picked (a ∷ xs) n es → Unlocked a n es
-  first c a xs n [] u = record {}
-  first c a xs n (e ∷ es) u = record { one = λ x y. (u.unheld x y).one; rest = first c a xs (n + 1) es u.rest }
+  module _ (lease now : ℕ) where
+    first : (c : ClientId) (a : Association) (xs : List Association) (n : ℕ) (es : List LogEntry) → Lasts lease now a.session → Drops_unheld c picked lease now (a ∷ xs) n es → Unlocked a n es
+    first c a xs n [] l u = record {}
+    first c a xs n (e ∷ es) l u = record { one = λ x y. (u.unheld x y).one l; rest = first c a xs (n + 1) es l u.rest }
 
-  over : (c : ClientId) (a : Association) (xs : List Association) (n : ℕ) (es : List LogEntry) → Drops_unheld c picked (a ∷ xs) n es → Over c a.server a.life n es
-  over c a xs n [] u = record {}
-  over c a xs n (e ∷ es) u = record { one = λ x y. (u.other x y).one; rest = over c a xs (n + 1) es u.rest }
+    over : (c : ClientId) (a : Association) (xs : List Association) (n : ℕ) (es : List LogEntry) → Lasts lease now a.session → Drops_unheld c picked lease now (a ∷ xs) n es → Over c a.server a.life n es
+    over c a xs n [] l u = record {}
+    over c a xs n (e ∷ es) l u = record { one = λ x y. (u.other x y).one l; rest = over c a xs (n + 1) es l u.rest }
 
-  others : (c : ClientId) (a : Association) (xs : List Association) (n : ℕ) (es : List LogEntry) → Drops_unheld c picked (a ∷ xs) n es → Drops_unheld c picked xs n es
-  others c a xs n [] u = record {}
-  others c a xs n (e ∷ es) u = record { other = λ x y. (u.other x y).rest; unheld = λ x y. (u.unheld x y).rest; rest = others c a xs (n + 1) es u.rest }
+    others : (c : ClientId) (a : Association) (xs : List Association) (n : ℕ) (es : List LogEntry) → Drops_unheld c picked lease now (a ∷ xs) n es → Drops_unheld c picked lease now xs n es
+    others c a xs n [] u = record {}
+    others c a xs n (e ∷ es) u = record { other = λ x y. (u.other x y).rest; unheld = λ x y. (u.unheld x y).rest; rest = others c a xs (n + 1) es u.rest }
 
-  all_drop : (c : ClientId) (es : List LogEntry) (xs : List Association) → Drops_unheld c picked xs 1 es → All_stand c es xs → All_stand c (log.drop_picked es picked cause) xs
-  unfolding log.drop_picked
-  all_drop c es [] u h = record {}
-  all_drop c es (a ∷ xs) u h =
-      record {
-        one =
-            record {
-              pages = λ ino p. page_drop es a (first c a xs 1 es u) ino p (h.one.pages ino p);
-              fates = fates_drop c a.life a.server a.store 1 es (over c a xs 1 es u) h.one.fates;
-              lived = lived_drop c a.server a.life 1 es h.one.lived;
-            };
-        rest = all_drop c es xs (others c a xs 1 es u) h.rest;
-      }
+    all_drop : (c : ClientId) (es : List LogEntry) (xs : List Association) → Drops_unheld c picked lease now xs 1 es → All_while lease now c es xs → All_while lease now c (log.drop_picked es picked cause) xs
+    unfolding log.drop_picked
+    all_drop c es [] u h = record {}
+    all_drop c es (a ∷ xs) u h =
+        record {
+          one =
+              record {
+                lived = lived_drop c a.server a.life 1 es h.one.lived;
+                lasting = λ l. let r = h.one.lasting l in
+                    record {
+                      pages = λ ino p. page_drop es a (first c a xs 1 es l u) ino p (r.pages ino p);
+                      fates = fates_drop c a.life a.server a.store 1 es (over c a xs 1 es l u) r.fates;
+                      lived = lived_drop c a.server a.life 1 es r.lived;
+                    };
+              };
+          rest = all_drop c es xs (others c a xs 1 es u) h.rest;
+        }
 
 pub law : Drops_keep_copies
-law asked_as c es s picked cause u h = record { apart = h.apart; copies = all_drop picked cause c es s.associations u h.copies; asked = h.asked }
+law asked_as c es now s picked cause u h = record { apart = h.apart; copies = all_drop picked cause s.config.lease now.0 c es s.associations u h.copies; asked = h.asked }

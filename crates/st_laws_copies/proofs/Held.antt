@@ -1,5 +1,5 @@
 -- A page that was changed in a step is dirty behind it, under an exclusive lock.
-use Rattle.std.proofs.Common.{◌≡◌, ◌⊎◌, true, ◌&&◌, List, [], ◌∷◌, ◌++◌, ◌==◌, Option, Some, None, refl, sym, ap, ◌∙◌, subst, inl, inr, append_assoc}
+use Rattle.std.proofs.Common.{◌≡◌, ℕ, ◌⊎◌, true, ◌&&◌, List, [], ◌∷◌, ◌++◌, ◌==◌, Option, Some, None, refl, sym, ap, ◌∙◌, subst, inl, inr, append_assoc}
 use Rattle.std.specs.Prelude.{is_some}
 use Rattle.std.proofs.lemmas.Bool.{eq-eqb}
 use Rattle.st_base.specs.declared.ids.ClientId.{ClientId}
@@ -8,6 +8,7 @@ use Rattle.st_base.specs.declared.ids.Life.{Life}
 use Rattle.st_base.specs.declared.ids.PageNo.{PageNo}
 use Rattle.st_base.specs.declared.ids.ServerId.{ServerId}
 use Rattle.st_messages.specs.declared.output.Note.{Note}
+use Rattle.st_messages.specs.declared.ask.Ask.{Ask}
 use Rattle.st_messages.specs.declared.output.Note.TheVariants as notes
 use Rattle.st_messages.specs.declared.output.Output.{Output}
 use Rattle.st_messages.specs.declared.output.Output.TheVariants as outputs
@@ -19,11 +20,12 @@ use Rattle.st_rules.specs.FlatLog as log
 use Rattle.st_rules.specs.FlatLog.{is_of_life}
 use Rattle.st_rules.specs.Events.{is_hard_fate}
 use Rattle.st_rules.specs.ClientPages.{dirty_of}
-use Rattle.st_rules.specs.ClientState.{Association}
+use Rattle.st_rules.specs.ClientState.{Association, ClientTurn}
 use Rattle.st_laws_client.specs.World.{logged}
 use Rattle.st_laws_client.proofs.Steps.{nothing_more}
 use Rattle.st_laws_copies.specs.Copies.{Fates_ok}
-use Rattle.st_laws_copies.specs.Law.{All_stand, Lives_are, Listed, All_listed, Held_page, All_held, Changes_are_held}
+use Rattle.st_laws_copies.specs.World.{Own_entry, All_own}
+use Rattle.st_laws_copies.specs.Law.{Step_keeps, All_stand, Lives_are, Listed, All_listed, Held_page, All_held, Changes_are_held}
 
 -- the entry of a note
 entries_of : ClientId → (ServerId → Life) → Note → List LogEntry
@@ -119,3 +121,39 @@ law asks c lives es t k l =
     let is : logged c lives t.out es ≡ es ++ xs = logged_is c lives t.out es in
     let more : k.joined.more ≡ xs = same_behind es k.joined.more xs (sym k.joined.is ∙ is) in
     all_held c lives es xs t.state.associations t.out (subst (λ m. All_stand c m t.state.associations) is k.stands.copies) l (subst (λ m. All_listed t.state.associations m) more k.joined.listed) (λ a r. r)
+
+-- What joined is pending, of the lives behind the step.
+own_one : (c : ClientId) (lives : ServerId → Life) (f : FileId) (p : PageNo) (change : Change) (xs : List Association) → Lives_are lives xs → Listed f.server xs → Own_entry c xs (log.pending (log.owner c (lives f.server) f p) change)
+own_one c lives f p change [] l i = elim i [ ]
+own_one c lives f p change (a ∷ xs) l (inl e) =
+    record {
+      association = a;
+      listed = inl refl;
+      own = subst (λ (n : Life). is_of_life c a.server n (log.owner c (lives f.server) f p) ≡ true) (ap lives (sym e) ∙ l.one) (own_life c f p (lives f.server) a.server (sym e));
+      pending = refl;
+    }
+own_one c lives f p change (a ∷ xs) l (inr i) =
+    let r = own_one c lives f p change xs l.rest i in
+    record { association = r.association; listed = inr r.listed; own = r.own; pending = r.pending }
+
+all_own : (c : ClientId) (lives : ServerId → Life) (xs : List Association) (os : List Output) → Lives_are lives xs → All_listed xs (entries c lives os) → All_own c xs (entries c lives os)
+unfolding entries entries_of
+all_own c lives xs [] l i = record {}
+all_own c lives xs (outputs.Send m ∷ os) l i = all_own c lives xs os l i
+all_own c lives xs (outputs.Submit n a w ∷ os) l i = all_own c lives xs os l i
+all_own c lives xs (outputs.Answer o a ∷ os) l i = all_own c lives xs os l i
+all_own c lives xs (outputs.Note (notes.Accepted f p bytes) ∷ os) l i = record { one = own_one c lives f p (changes.Write bytes) xs l i.one; rest = all_own c lives xs os l i.rest }
+all_own c lives xs (outputs.Note (notes.Patched f p at bytes) ∷ os) l i = record { one = own_one c lives f p (changes.Patch at bytes) xs l i.one; rest = all_own c lives xs os l i.rest }
+all_own c lives xs (outputs.Note n ∷ os) l i = all_own c lives xs os l i
+
+pub record Owns (c : ClientId) (xs : List Association) (es fs : List LogEntry) : Type 0 where
+  pub more : List LogEntry
+  pub joined : fs ≡ es ++ more
+  pub own : All_own c xs more
+
+pub entries_own : (asks : ℕ → Option Ask) (c : ClientId) (lives : ServerId → Life) (es : List LogEntry) (t : ClientTurn) → Step_keeps asks c lives es t → Lives_are lives t.state.associations → Owns c t.state.associations es (logged c lives t.out es)
+entries_own asks c lives es t k l =
+    let xs : List LogEntry = entries c lives t.out in
+    let is : logged c lives t.out es ≡ es ++ xs = logged_is c lives t.out es in
+    let more : k.joined.more ≡ xs = same_behind es k.joined.more xs (sym k.joined.is ∙ is) in
+    record { more = xs; joined = is; own = all_own c lives t.state.associations t.out l (subst (λ m. All_listed t.state.associations m) more k.joined.listed) }

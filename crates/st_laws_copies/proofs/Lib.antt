@@ -16,3 +16,4 @@ pub mod World
 pub mod Others
 pub mod Restarts
 pub mod Drops
+pub mod Rests

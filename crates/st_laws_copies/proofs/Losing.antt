@@ -24,8 +24,10 @@ use Rattle.st_rules.specs.ClientState as st
 use Rattle.st_rules.specs.ClientState.{Association, ClientSession, Turn, is_of, with_operations, answered, with_lost_rows, note}
 use Rattle.st_lemmas.proofs.Tables.{and_true}
 use Rattle.st_laws_client.specs.World.{logged}
+use Rattle.st_laws_client.specs.Shown.{Lasts}
+use Rattle.st_laws_client.proofs.Losses.{not_over}
 use Rattle.st_laws_copies.specs.Copies.{Right, Right_one, Fates_ok, Asked_so}
-use Rattle.st_laws_copies.specs.Law.{Copies_at, Stands_at, Lived}
+use Rattle.st_laws_copies.specs.Law.{Copies_at, Stands_while, Lived}
 use Rattle.st_laws_copies.proofs.Logs.{logged_both, right_both}
 use Rattle.st_laws_copies.proofs.Caches.{nothing_ok}
 
@@ -87,22 +89,22 @@ module _ (ask_of : ℕ → Option Ask) (c : ClientId) (lives : ServerId → Life
       go false = talks_unsent t o o.ask
 
   -- what a loss makes of a turn
-  pub record Loses (t u : Turn) : Type 0 where
+  pub record Loses (n : Stamp) (t u : Turn) : Type 0 where
     pub there : u.here.server ≡ t.here.server
     pub log : logged c lives u.out es ≡ logged c lives t.out es
     pub right : Right ask_of c lives es t.out → Right ask_of c lives es u.out
     pub asked : Asked_so ask_of t.operations → Asked_so ask_of u.operations
-    pub copies : Stands_at c (logged c lives t.out es) t.here → lives u.here.server ≡ u.here.life → Copies_at c lives (logged c lives t.out es) u.here
+    pub copies : Stands_while t.config.lease n.0 c (logged c lives t.out es) t.here → lives u.here.server ≡ u.here.life → Copies_at c lives (logged c lives t.out es) u.here
     pub lived : Lived c t.here.server t.here.life (logged c lives t.out es) → Lived c u.here.server u.here.life (logged c lives t.out es)
 
-  lost_nothing : (t : Turn) → Loses t t
-  lost_nothing t =
+  lost_nothing : (n : Stamp) (t : Turn) → Lasts t.config.lease n.0 t.here.session → Loses n t t
+  lost_nothing n t last =
       record {
         there = refl;
         log = refl;
         right = λ r. r;
         asked = λ a. a;
-        copies = λ r l. record { pages = r.pages; fates = subst (λ v. Fates_ok c v t.here.server t.here.store (logged c lives t.out es)) (sym l) r.fates };
+        copies = λ w l. let r = w.lasting last in record { pages = r.pages; fates = subst (λ v. Fates_ok c v t.here.server t.here.store (logged c lives t.out es)) (sym l) r.fates };
         lived = λ l. l;
       }
 
@@ -119,9 +121,9 @@ module _ (ask_of : ℕ → Option Ask) (c : ClientId) (lives : ServerId → Life
   lived_on sv old life (e ∷ l) h r = record { one = λ o s. let z = r.one o s in omega (arith, z, h); rest = lived_on sv old life l h r.rest }
 
   -- a lease that is over
-  lost_session : (t : Turn) (s : ClientSession) → Loses t (cl.lose_session t s)
+  lost_session : (n : Stamp) (t : Turn) (s : ClientSession) → Loses n t (cl.lose_session t s)
   unfolding cl.lose_session cl.end_operations
-  lost_session t s =
+  lost_session n t s =
       let noted : Talks t v = talks_one t (pages.with_lost_pages t.here.store.commands t.here.store.pages.dirty t.here.lost) (outputs.Note (notes.Lost t.here.server t.here.life)) (λ x. refl) (λ last x. record {}) in
       let ended : Talks w u = talks_each s (filter (is_of t.here.server) t.operations) w in
       let next : t.here.life.0 < (cl.next_life u.here.life).0 = after (ended.alive) in
@@ -152,14 +154,14 @@ module _ (ask_of : ℕ → Option Ask) (c : ClientId) (lives : ServerId → Life
       after : u.here.life ≡ t.here.life → t.here.life.0 < (cl.next_life u.here.life).0
       after e = let z : u.here.life.0 ≡ t.here.life.0 = ap (λ (n : Life). n.0) e in omega (arith, z)
 
-  pub lose_keeps : (n : Stamp) (t : Turn) → Loses t (cl.lose n t)
+  pub lose_keeps : (n : Stamp) (t : Turn) → Loses n t (cl.lose n t)
   unfolding cl.lose cl.lose_by cl.lose_over
-  lose_keeps n t = go t.here.session
+  lose_keeps n t = go t.here.session refl
     where
-      over : (s : ClientSession) (b : Bool) → Loses t (if b then cl.lose_session t s else t)
-      over s true = lost_session t s
-      over s false = lost_nothing t
+      over : (s : ClientSession) → t.here.session ≡ Some s → (b : Bool) → cl.is_over t s n ≡ b → Loses n t (if b then cl.lose_session t s else t)
+      over s e true q = lost_session n t s
+      over s e false q = lost_nothing n t (subst (λ o. Lasts t.config.lease n.0 o) (sym e) (not_over t s n q))
 
-      go : (o : Option ClientSession) → Loses t (cl.lose_by t n o)
-      go None = lost_nothing t
-      go (Some s) = over s (cl.is_over t s n)
+      go : (o : Option ClientSession) → t.here.session ≡ o → Loses n t (cl.lose_by t n o)
+      go None e = lost_nothing n t (subst (λ o. Lasts t.config.lease n.0 o) (sym e) (record {}))
+      go (Some s) e = over s e (cl.is_over t s n) refl

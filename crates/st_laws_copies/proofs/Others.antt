@@ -25,7 +25,7 @@ use Rattle.st_lemmas.proofs.Lookups.{if_false}
 use Rattle.st_lemmas.proofs.Marks.{content_hard}
 use Rattle.st_lemmas.proofs.Tables.{and_true}
 use Rattle.st_laws_copies.specs.Copies.{Page_ok, Fates_ok, file_at}
-use Rattle.st_laws_copies.specs.Law.{Lived, All_stand}
+use Rattle.st_laws_copies.specs.Law.{Lived, All_while}
 use Rattle.st_laws_copies.specs.World.{Unheld, Entries_keep_copies, Effects_keep_copies}
 
 -- An entry of another file leaves the content.
@@ -64,20 +64,25 @@ fates_more : (c : ClientId) (life : Life) (sv : ServerId) (x : Store) (es : List
 fates_more c life sv x [] e n h = record { one = λ q. absurd (no_bool (is_of_client c e.of) (and_true (is_of_client c e.of) _ q).0 n); rest = record {} }
 fates_more c life sv x (y ∷ es) e n h = record { one = h.one; rest = fates_more c life sv x es e n h.rest }
 
-lived_more : (c : ClientId) (sv : ServerId) (life : Life) (es : List LogEntry) (e : LogEntry) → is_of_client c e.of ≡ false → Lived c sv life es → Lived c sv life (es ++ e ∷ [])
+pub lived_more : (c : ClientId) (sv : ServerId) (life : Life) (es : List LogEntry) (e : LogEntry) → is_of_client c e.of ≡ false → Lived c sv life es → Lived c sv life (es ++ e ∷ [])
 lived_more c sv life [] e n h = record { one = λ q s. absurd (no_bool (is_of_client c e.of) q n); rest = record {} }
 lived_more c sv life (y ∷ es) e n h = record { one = h.one; rest = lived_more c sv life es e n h.rest }
 
-all_more : (c : ClientId) (es : List LogEntry) (e : LogEntry) (xs : List Association) → is_of_client c e.of ≡ false → Unheld e.of.file xs → All_stand c es xs → All_stand c (es ++ e ∷ []) xs
-all_more c es e [] n u h = record {}
-all_more c es e (a ∷ xs) n u h =
+all_more : (lease now : ℕ) (c : ClientId) (es : List LogEntry) (e : LogEntry) (xs : List Association) → is_of_client c e.of ≡ false → Unheld e.of.file lease now xs → All_while lease now c es xs → All_while lease now c (es ++ e ∷ []) xs
+all_more lease now c es e [] n u h = record {}
+all_more lease now c es e (a ∷ xs) n u h =
     record {
-      one = record { pages = λ ino p. page_more es e a u.one ino p (h.one.pages ino p); fates = fates_more c a.life a.server a.store es e n h.one.fates; lived = lived_more c a.server a.life es e n h.one.lived };
-      rest = all_more c es e xs n u.rest h.rest;
+      one =
+          record {
+            lived = lived_more c a.server a.life es e n h.one.lived;
+            lasting = λ l. let r = h.one.lasting l in
+                record { pages = λ ino p. page_more es e a (u.one l) ino p (r.pages ino p); fates = fates_more c a.life a.server a.store es e n r.fates; lived = lived_more c a.server a.life es e n r.lived };
+          };
+      rest = all_more lease now c es e xs n u.rest h.rest;
     }
 
 pub entries_law : Entries_keep_copies
-entries_law asked_as c es s e n u h = record { apart = h.apart; copies = all_more c es e s.associations n u h.copies; asked = h.asked }
+entries_law asked_as c es now s e n u h = record { apart = h.apart; copies = all_more s.config.lease now.0 c es e s.associations n u h.copies; asked = h.asked }
 
 -- Entries that become hard.
 fates_hard : (c : ClientId) (life : Life) (sv : ServerId) (x : Store) (n i : ℕ) (o : LogOwner) (es : List LogEntry) → Fates_ok c life sv x es → Fates_ok c life sv x (log.harden_from n i o es)
@@ -98,7 +103,7 @@ fates_hard c life sv x n i o (e ∷ es) h = go (nat_le n i && log.same_owner e.o
     go true r = record { one = λ q. one (h.one q); rest = r }
     go false r = record { one = h.one; rest = r }
 
-lived_hard : (c : ClientId) (sv : ServerId) (life : Life) (n i : ℕ) (o : LogOwner) (es : List LogEntry) → Lived c sv life es → Lived c sv life (log.harden_from n i o es)
+pub lived_hard : (c : ClientId) (sv : ServerId) (life : Life) (n i : ℕ) (o : LogOwner) (es : List LogEntry) → Lived c sv life es → Lived c sv life (log.harden_from n i o es)
 unfolding log.harden_from log.hardened log.harder_entry
 lived_hard c sv life n i o [] h = record {}
 lived_hard c sv life n i o (e ∷ es) h = go (nat_le n i && log.same_owner e.of o) (lived_hard c sv life (n + 1) i o es h.rest)
@@ -107,25 +112,29 @@ lived_hard c sv life n i o (e ∷ es) h = go (nat_le n i && log.same_owner e.of 
     go true r = record { one = h.one; rest = r }
     go false r = record { one = h.one; rest = r }
 
-all_hard : (c : ClientId) (es : List LogEntry) (i : ℕ) (o : LogOwner) (xs : List Association) → All_stand c es xs → All_stand c (log.harden_from 1 i o es) xs
+all_hard : (lease now : ℕ) (c : ClientId) (es : List LogEntry) (i : ℕ) (o : LogOwner) (xs : List Association) → All_while lease now c es xs → All_while lease now c (log.harden_from 1 i o es) xs
 unfolding content
-all_hard c es i o [] h = record {}
-all_hard c es i o (a ∷ xs) h =
+all_hard lease now c es i o [] h = record {}
+all_hard lease now c es i o (a ∷ xs) h =
     record {
       one =
           record {
-            pages = λ ino p. subst (λ bytes. Page_ok (held_in a.session ino).mode bytes a.store ino p) (sym (content_hard (filled 0) (file_at a.server ino) p 1 i o es)) (h.one.pages ino p);
-            fates = fates_hard c a.life a.server a.store 1 i o es h.one.fates;
             lived = lived_hard c a.server a.life 1 i o es h.one.lived;
+            lasting = λ l. let r = h.one.lasting l in
+                record {
+                  pages = λ ino p. subst (λ bytes. Page_ok (held_in a.session ino).mode bytes a.store ino p) (sym (content_hard (filled 0) (file_at a.server ino) p 1 i o es)) (r.pages ino p);
+                  fates = fates_hard c a.life a.server a.store 1 i o es r.fates;
+                  lived = lived_hard c a.server a.life 1 i o es r.lived;
+                };
           };
-      rest = all_hard c es i o xs h.rest;
+      rest = all_hard lease now c es i o xs h.rest;
     }
 
 pub effects_law : Effects_keep_copies
 unfolding log.harden log.harden_at
-effects_law asked_as c es s None h = h
-effects_law asked_as c es s (Some x) h = record { apart = h.apart; copies = go (log.entry_at es x.index); asked = h.asked }
+effects_law asked_as c es now s None h = h
+effects_law asked_as c es now s (Some x) h = record { apart = h.apart; copies = go (log.entry_at es x.index); asked = h.asked }
   where
-    go : (o : Option LogEntry) → All_stand c (log.harden_at es x.index o) s.associations
+    go : (o : Option LogEntry) → All_while s.config.lease now.0 c (log.harden_at es x.index o) s.associations
     go None = h.copies
-    go (Some e) = all_hard c es x.index e.of s.associations h.copies
+    go (Some e) = all_hard s.config.lease now.0 c es x.index e.of s.associations h.copies

@@ -3,12 +3,13 @@ use Rattle.std.proofs.Common.{ℕ, ◌<◌, List, [], ◌∷◌, Option, refl, a
 use Rattle.std.specs.Prelude.{map}
 use Rattle.st_base.specs.declared.ids.ClientId.{ClientId}
 use Rattle.st_base.specs.declared.ids.ServerId.{ServerId}
+use Rattle.st_base.specs.declared.ids.Stamp.{Stamp}
 use Rattle.st_messages.specs.declared.ask.Ask.{Ask}
 use Rattle.st_rules.specs.declared.log.LogEntry.{LogEntry}
 use Rattle.st_rules.specs.Client as cl
 use Rattle.st_rules.specs.ClientPages.{empty_store}
 use Rattle.st_rules.specs.ClientState.{Association, ClientState}
-use Rattle.st_laws_copies.specs.Law.{Apart, Differs, All_lived, All_stand, Client_stands}
+use Rattle.st_laws_copies.specs.Law.{Apart, Differs, All_lived, All_stand, All_while, Client_stands, Client_copies}
 use Rattle.st_laws_copies.specs.World.{Client_rests, Restarts_keep_copies}
 use Rattle.st_laws_copies.proofs.Caches.{nothing_ok}
 use Rattle.st_laws_copies.proofs.Losing.{unlived_fates, lived_on}
@@ -30,9 +31,9 @@ started_apart [] d = record {}
 started_apart (a ∷ xs) d = record { one = started_differs a.server xs d.one; rest = started_apart xs d.rest }
 
 module _ (asked_as : ℕ → Option Ask) (c : ClientId) (es : List LogEntry) where
-  crashed_lived : (xs : List Association) → All_stand c es xs → All_lived c es (map cl.crashed_association xs)
-  crashed_lived [] r = record {}
-  crashed_lived (a ∷ xs) r = record { one = r.one.lived; rest = crashed_lived xs r.rest }
+  crashed_lived : (lease now : ℕ) (xs : List Association) → All_while lease now c es xs → All_lived c es (map cl.crashed_association xs)
+  crashed_lived lease now [] r = record {}
+  crashed_lived lease now (a ∷ xs) r = record { one = r.one.lived; rest = crashed_lived lease now xs r.rest }
 
   started_stand : (xs : List Association) → All_lived c es xs → All_stand c es (map cl.started_association xs)
   started_stand [] r = record {}
@@ -49,13 +50,13 @@ module _ (asked_as : ℕ → Option Ask) (c : ClientId) (es : List LogEntry) whe
       next : a.life.0 < (cl.next_life a.life).0
       next = omega arith
 
-  crashes : (s : ClientState) → Client_stands asked_as c es s → Client_rests c es (cl.crash s)
+  crashes : (now : Stamp) (s : ClientState) → Client_copies asked_as c es now s → Client_rests c es (cl.crash s)
   unfolding cl.crash
-  crashes s h = record { apart = crashed_apart s.associations h.apart; lived = crashed_lived s.associations h.copies }
+  crashes now s h = record { apart = crashed_apart s.associations h.apart; lived = crashed_lived s.config.lease now.0 s.associations h.copies }
 
   starts : (s : ClientState) → Client_rests c es s → Client_stands asked_as c es (cl.start s)
   unfolding cl.start
   starts s h = record { apart = started_apart s.associations h.apart; copies = started_stand s.associations h.lived; asked = record {} }
 
 pub law : Restarts_keep_copies
-law asked_as c es s = record { crashes = crashes asked_as c es s; starts = starts asked_as c es s }
+law asked_as c es now s = record { crashes = crashes asked_as c es now s; starts = starts asked_as c es s }

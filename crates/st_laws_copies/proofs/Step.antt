@@ -31,7 +31,7 @@ use Rattle.st_laws_client.specs.World.{logged}
 use Rattle.st_laws_client.proofs.Steps.{nothing_more}
 use Rattle.st_laws_copies.specs.Copies.{Right, Right_one, Fates_ok, Hard_on, Asked_so, Joined, All_of, Keeps, file_at}
 use Rattle.st_laws_copies.specs.Owed.{Message_owed, End_owed, Numbered}
-use Rattle.st_laws_copies.specs.Law.{Copies_at, All_copies, Apart, Lived, All_lived, Stands_at, All_stand, All_owed, Lives_are, Steps_keep_copies, Joined_by}
+use Rattle.st_laws_copies.specs.Law.{Copies_at, All_copies, Apart, Lived, All_lived, Stands_while, All_stand, All_while, All_owed, Lives_are, Steps_keep_copies, Joined_by}
 use Rattle.st_laws_copies.proofs.Logs.{logged_both, right_both, still}
 use Rattle.st_laws_copies.proofs.Away.{joined_content}
 use Rattle.st_laws_copies.proofs.Copies.{k_same, k_then, k_if, k_aside, k_keep}
@@ -124,10 +124,10 @@ these_behind rule (a ∷ rest) T =
 
 module _ (ask_of : ℕ → Option Ask) (c : ClientId) (lives : ServerId → Life) (es : List LogEntry) where
   -- within the losses
-  record Losing (T : ClientTurn) (rest : List Association) : Type 0 where
+  record Losing (n : Stamp) (T : ClientTurn) (rest : List Association) : Type 0 where
     pub done : All_copies c lives es T.state.associations
     pub lived : All_lived c es T.state.associations
-    pub ahead : All_stand c es rest
+    pub ahead : All_while T.state.config.lease n.0 c es rest
     pub log : logged c lives T.out es ≡ es
     pub right : Right ask_of c lives es T.out
     pub asked : Asked_so ask_of T.state.operations
@@ -136,18 +136,18 @@ module _ (ask_of : ℕ → Option Ask) (c : ClientId) (lives : ServerId → Life
   copies_last l [] a r p = record { one = p; rest = record {} }
   copies_last l (x ∷ list) a r p = record { one = r.one; rest = copies_last l list a r.rest p }
 
-  record Lost (T : ClientTurn) (rest : List Association) (U : ClientTurn) : Type 0 where
+  record Lost (n : Stamp) (T : ClientTurn) (rest : List Association) (U : ClientTurn) : Type 0 where
     pub log : logged c lives U.out es ≡ logged c lives T.out es
     pub servers : Same_servers (T.state.associations ++ rest) U.state.associations
-    pub losing : Lives_are lives U.state.associations → Losing T rest → Losing U []
+    pub losing : Lives_are lives U.state.associations → Losing n T rest → Losing n U []
 
-  losses_these : (n : Stamp) (rest : List Association) (T : ClientTurn) → Lost T rest (at_these (cl.lose n) rest T)
+  losses_these : (n : Stamp) (rest : List Association) (T : ClientTurn) → Lost n T rest (at_these (cl.lose n) rest T)
   unfolding at_these
   losses_these n [] T = record { log = refl; servers = subst (λ xs. Same_servers xs T.state.associations) (sym (nothing_more T.state.associations)) (servers_self T.state.associations); losing = λ l r. r }
   losses_these n (a ∷ rest) T =
       let t : Turn = enter T a in
       let u : Turn = cl.lose n t in
-      let w : Loses ask_of c lives es t u = lose_keeps ask_of c lives es n t in
+      let w : Loses ask_of c lives es n t u = lose_keeps ask_of c lives es n t in
       let m = losses_these n rest (leave T u) in
       let b = these_behind (cl.lose n) rest (leave T u) in
       record {
@@ -162,11 +162,11 @@ module _ (ask_of : ℕ → Option Ask) (c : ClientId) (lives : ServerId → Life
           let u : Turn = cl.lose n (enter T a) in
           lives_at lives T.state.associations b.more u.here (subst (λ xs. Lives_are lives xs) (b.is ∙ append_assoc T.state.associations (u.here ∷ []) b.more) l)
 
-      next : Loses ask_of c lives es (enter T a) (cl.lose n (enter T a)) → Losing T (a ∷ rest) → lives (cl.lose n (enter T a)).here.server ≡ (cl.lose n (enter T a)).here.life → Losing (leave T (cl.lose n (enter T a))) rest
+      next : Loses ask_of c lives es n (enter T a) (cl.lose n (enter T a)) → Losing n T (a ∷ rest) → lives (cl.lose n (enter T a)).here.server ≡ (cl.lose n (enter T a)).here.life → Losing n (leave T (cl.lose n (enter T a))) rest
       next w r e =
           let u : Turn = cl.lose n (enter T a) in
           record {
-            done = copies_last es T.state.associations u.here r.done (subst (λ x. Copies_at c lives x u.here) r.log (w.copies (subst (λ x. Stands_at c x a) (sym r.log) r.ahead.one) e));
+            done = copies_last es T.state.associations u.here r.done (subst (λ x. Copies_at c lives x u.here) r.log (w.copies (subst (λ x. Stands_while T.state.config.lease n.0 c x a) (sym r.log) r.ahead.one) e));
             lived = lived_last c es T.state.associations u.here r.lived (subst (λ x. Lived c u.here.server u.here.life x) r.log (w.lived (subst (λ x. Lived c a.server a.life x) (sym r.log) r.ahead.one.lived)));
             ahead = r.ahead.rest;
             log = w.log ∙ r.log;
@@ -275,7 +275,7 @@ step_apart ask_of c lives es s n input h a o =
     let T : ClientTurn = client_turn s [] in
     let U : ClientTurn = cl.losses T n in
     let V : ClientTurn = cl.take_input U n input in
-    let lost : Lost ask_of c lives es (with_associations [] T) s.associations U = losses_these ask_of c lives es n s.associations (with_associations [] T) in
+    let lost : Lost ask_of c lives es n (with_associations [] T) s.associations U = losses_these ask_of c lives es n s.associations (with_associations [] T) in
     let d : Apart U.state.associations = apart_same _ _ lost.servers h in
     let taken : Made ask_of c lives es U [] V = made_input ask_of c lives es U n input d a (subst (λ l. All_owed c lives l input U.state.associations) (sym lost.log) o) in
     let d2 : Apart V.state.associations = apart_same _ _ (servers_of _ _ taken.places) (subst (λ xs. Apart xs) (sym (nothing_more U.state.associations)) d) in
@@ -289,14 +289,14 @@ law ask_of c lives es s n input h a o e =
     let U : ClientTurn = cl.losses T n in
     let V : ClientTurn = cl.take_input U n input in
     let W : ClientTurn = cl.client_step s n input in
-    let lost : Lost ask_of c lives es (with_associations [] T) s.associations U = losses_these ask_of c lives es n s.associations (with_associations [] T) in
+    let lost : Lost ask_of c lives es n (with_associations [] T) s.associations U = losses_these ask_of c lives es n s.associations (with_associations [] T) in
     let d : Apart U.state.associations = apart_same _ _ lost.servers h.apart in
     let taken : Made ask_of c lives es U [] V = made_input ask_of c lives es U n input d a (subst (λ l. All_owed c lives l input U.state.associations) (sym lost.log) o) in
     let d2 : Apart V.state.associations = apart_same _ _ (servers_of _ _ taken.places) (subst (λ xs. Apart xs) (sym (nothing_more U.state.associations)) d) in
     let worked : Made ask_of c lives es V [] W = made_free ask_of c lives es (cp.passes n (cl.is_tick input)) (k_passes ask_of c lives es n (cl.is_tick input)) V d2 in
     let all : Made ask_of c lives es U [] W = made_then ask_of c lives es U V W taken worked in
     let places : Same_places U.state.associations W.state.associations = subst (λ xs. Same_places xs W.state.associations) (nothing_more U.state.associations) all.places in
-    let losing : Losing ask_of c lives es U [] = lost.losing (lives_same lives _ _ places e) (record { done = record {}; lived = record {}; ahead = h.copies; log = refl; right = record {}; asked = h.asked }) in
+    let losing : Losing ask_of c lives es n U [] = lost.losing (lives_same lives _ _ places e) (record { done = record {}; lived = record {}; ahead = h.copies; log = refl; right = record {}; asked = h.asked }) in
     let r : Within ask_of c lives es W [] = all.within (record { done = subst (λ l. All_copies c lives l U.state.associations) (sym losing.log) losing.done; ahead = record {}; right = losing.right; asked = losing.asked }) in
     record {
       stands =

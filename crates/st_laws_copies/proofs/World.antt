@@ -32,8 +32,9 @@ use Rattle.st_lemmas.proofs.Steps.{step_happens}
 use Rattle.st_laws_client.specs.World.{logged}
 use Rattle.st_laws_client.proofs.World.{told_all}
 use Rattle.st_laws_copies.specs.Owed.{Numbered}
-use Rattle.st_laws_copies.specs.Law.{Apart, Lives_are, Client_stands, Step_keeps}
+use Rattle.st_laws_copies.specs.Law.{Apart, Lives_are, Client_stands, Client_copies, Step_keeps}
 use Rattle.st_laws_copies.specs.World.{Taking, taking, asking, hearing, hearing_of, told_at, told_of, taken, now_at, turn_of, Owed_of, World_keeps, Events_keep_copies}
+use Rattle.st_laws_copies.proofs.Held.{Owns, entries_own}
 use Rattle.st_laws_copies.proofs.Locked.{found_there}
 use Rattle.st_laws_copies.proofs.Step.{law as step_law, step_apart}
 
@@ -64,12 +65,12 @@ flushes_log c s (y ∷ ss) w = flushes_log c s ss (ev.flushed_at w c y s) ∙ in
     in_phase o None = refl
 
 -- A client takes an input.
-takes_keep : (asked_as : ℕ → Option Ask) (x : Taking) (old : ClientSite) → site_of x.world x.client ≡ Some old → x.site.node.running ≡ true → Client_stands asked_as x.client x.world.log x.site.node.state → Numbered asked_as x.input → Owed_of x →
+takes_keep : (asked_as : ℕ → Option Ask) (x : Taking) (old : ClientSite) → site_of x.world x.client ≡ Some old → x.site.node.running ≡ true → Client_copies asked_as x.client x.world.log (now_at x) x.site.node.state → Numbered asked_as x.input → Owed_of x →
     World_keeps asked_as x.client x.world.log (ev.client_takes x.world x.client x.input x.site).world.log (turn_of x)
 unfolding ev.client_takes ev.client_took cl.node_step
 takes_keep asked_as x old there r h a o =
     subst (λ b. World_keeps asked_as x.client x.world.log (ev.client_took x.world x.client x.site (if b then Ok t else Err Crashed)).world.log (turn_of x)) (sym r)
-    (record { stands = subst (λ l. Client_stands asked_as x.client l (turn_of x).state) (sym log) k.stands; right = k.right; log = log })
+    (record { stands = subst (λ l. Client_stands asked_as x.client l (turn_of x).state) (sym log) k.stands; right = k.right; log = log; more = owns.more; joined = log ∙ owns.joined; own = owns.own })
   where
     t : cl.NodeTurn
     t = cl.node_turn x.site.node (turn_of x)
@@ -83,10 +84,14 @@ takes_keep asked_as x old there r h a o =
     u : World
     u = (ev.client_says_all x.client x.site.node.state (turn_of x).out sc).world
 
+    own : Lives_are (life_with (turn_of x).state) (turn_of x).state.associations
+    own = lives_are (turn_of x).state (step_apart asked_as x.client (life_with (turn_of x).state) x.world.log x.site.node.state (now_at x) x.input h.apart a o)
+
     k : Step_keeps asked_as x.client (life_with (turn_of x).state) x.world.log (turn_of x)
-    k =
-        step_law asked_as x.client (life_with (turn_of x).state) x.world.log x.site.node.state (now_at x) x.input h a o
-        (lives_are (turn_of x).state (step_apart asked_as x.client (life_with (turn_of x).state) x.world.log x.site.node.state (now_at x) x.input h.apart a o))
+    k = step_law asked_as x.client (life_with (turn_of x).state) x.world.log x.site.node.state (now_at x) x.input h a o own
+
+    owns : Owns x.client (turn_of x).state.associations x.world.log (logged x.client (life_with (turn_of x).state) (turn_of x).out x.world.log)
+    owns = entries_own asked_as x.client (life_with (turn_of x).state) x.world.log (turn_of x) k own
 
     lives : ◌≡◌ {A = ServerId → Life} (present_life sc.world x.client) (life_with (turn_of x).state)
     lives = λ j s. ev.life_of_site s (numbered_own x.world.clients x.client.0 after old there j)
@@ -100,7 +105,7 @@ takes_keep asked_as x old there r h a o =
 module _ (asked_as : ℕ → Option Ask) where
   abbrev Keeps_at : Scene → Taking → Type 0
   Keeps_at sc x =
-      x.site.node.running ≡ true → Client_stands asked_as x.client x.world.log x.site.node.state → Numbered asked_as x.input → Owed_of x →
+      x.site.node.running ≡ true → Client_copies asked_as x.client x.world.log (now_at x) x.site.node.state → Numbered asked_as x.input → Owed_of x →
       World_keeps asked_as x.client x.world.log sc.world.log (turn_of x)
 
   by_client : (w : World) (c : ClientId) (input : ClientInput) (o : Option ClientSite) (x : Taking) → site_of w c ≡ o → taking w c input o ≡ Some x → Keeps_at (ev.at_client w c input o) x

@@ -82,6 +82,24 @@ pub record Client_stands (asked_as : ℕ → Option Ask) (c : ClientId) (es : Li
   pub copies : All_stand c es s.associations
   pub asked : Asked_so asked_as s.operations
 
+-- What stands at one server at a moment of the client's clock: no entry is beyond the association's life, and while its lease is not over,
+-- the copies. A lease that is over is lost at the head of the next step, so till then nothing is read from what is at hand.
+pub record Stands_while (lease now : ℕ) (c : ClientId) (es : List LogEntry) (a : Association) : Type 0 where
+  pub lived : Lived c a.server a.life es
+  pub lasting : Lasts lease now a.session → Stands_at c es a
+
+-- at each server
+abbrev pub All_while : ℕ → ℕ → ClientId → List LogEntry → List Association → Type 0
+All_while lease now c es [] = Unit {0}
+All_while lease now c es (a ∷ rest) = record { one : Stands_while lease now c es a; rest : All_while lease now c es rest }
+
+-- What stands of a client that runs at a moment of its clock: its servers differ, the copies stand at each whose lease is not over, and
+-- its operations are what was asked.
+pub record Client_copies (asked_as : ℕ → Option Ask) (c : ClientId) (es : List LogEntry) (now : Stamp) (s : ClientState) : Type 0 where
+  pub apart : Apart s.associations
+  pub copies : All_while s.config.lease now.0 c es s.associations
+  pub asked : Asked_so asked_as s.operations
+
 -- what is owed at each server
 abbrev pub All_owed : ClientId → (ServerId → Life) → List LogEntry → ClientInput → List Association → Type 0
 All_owed c lives es input [] = Unit {0}
@@ -120,7 +138,7 @@ pub record Step_keeps (asked_as : ℕ → Option Ask) (c : ClientId) (lives : Se
 abbrev pub Steps_keep_copies : Type 0
 Steps_keep_copies =
     (asked_as : ℕ → Option Ask) (c : ClientId) (lives : ServerId → Life) (es : List LogEntry) (s : ClientState) (now : Stamp) (input : ClientInput) →
-    Client_stands asked_as c es s → Numbered asked_as input → All_owed c lives es input (cl.losses (client_turn s []) now).state.associations →
+    Client_copies asked_as c es now s → Numbered asked_as input → All_owed c lives es input (cl.losses (client_turn s []) now).state.associations →
     Lives_are lives (cl.client_step s now input).state.associations →
     Step_keeps asked_as c lives es (cl.client_step s now input)
 

@@ -1,5 +1,5 @@
 -- In the world: an event at which a client takes an input keeps its copies, by the log of the world that it leaves.
-use Rattle.std.specs.Prelude.{◌≡◌, ℕ, ◌+◌, Bool, true, false, List, [], ◌∷◌, ◌++◌, Option, Some, None, Ok, if◌then◌else◌}
+use Rattle.std.specs.Prelude.{◌≡◌, ℕ, ◌+◌, ◌≤◌, Bool, true, false, List, [], ◌∷◌, ◌++◌, Option, Some, None, Ok, if◌then◌else◌}
 use Rattle.st_base.specs.declared.ids.ClientId.{ClientId}
 use Rattle.st_base.specs.declared.ids.FileId.{FileId}
 use Rattle.st_base.specs.declared.ids.PageNo.{PageNo}
@@ -27,10 +27,12 @@ use Rattle.st_rules.specs.FlatLog.{is_of_client, is_of_life, is_pending}
 use Rattle.st_rules.specs.Events as ev
 use Rattle.st_rules.specs.Events.{Scene}
 use Rattle.st_views.specs.Halves.{held_in}
+use Rattle.st_lemmas.specs.Lists.{Has}
 use Rattle.st_laws_client.specs.World.{logged}
+use Rattle.st_laws_client.specs.Shown.{Lasts}
 use Rattle.st_laws_copies.specs.Copies.{Right}
 use Rattle.st_laws_copies.specs.Owed.{Numbered}
-use Rattle.st_laws_copies.specs.Law.{Apart, All_lived, Client_stands, All_owed}
+use Rattle.st_laws_copies.specs.Law.{Apart, All_lived, Client_stands, Client_copies, All_owed}
 
 -- What a client takes at an event: in which world, which input, and where it stands then.
 pub record Taking : Type 0 where
@@ -89,60 +91,79 @@ turn_of x = cl.client_step x.site.node.state (now_at x) x.input
 abbrev pub Owed_of : Taking → Type 0
 Owed_of x = All_owed x.client (life_with (turn_of x).state) x.world.log x.input (cl.losses (client_turn x.site.node.state []) (now_at x)).state.associations
 
+-- an entry that is pending, of the life of one of these associations
+pub record Own_entry (c : ClientId) (xs : List Association) (e : LogEntry) : Type 0 where
+  pub association : Association
+  pub listed : Has association xs
+  pub own : is_of_life c association.server association.life e.of ≡ true
+  pub pending : is_pending e.fate ≡ true
+
+-- entries of which each is one
+abbrev pub All_own : ClientId → List Association → List LogEntry → Type 0
+All_own c xs [] = Unit {0}
+All_own c xs (e ∷ es) = record { one : Own_entry c xs e; rest : All_own c xs es }
+
 -- What it leaves: the copies stand by the log of the world left, each output is right by the log at it, and that log is the one before
--- with what the outputs log.
+-- with what the outputs log: pending entries of the lives behind the step.
 pub record World_keeps (asked_as : ℕ → Option Ask) (c : ClientId) (es fs : List LogEntry) (t : ClientTurn) : Type 0 where
   pub stands : Client_stands asked_as c fs t.state
   pub right : Right asked_as c (life_with t.state) es t.out
   pub log : fs ≡ logged c (life_with t.state) t.out es
+  pub more : List LogEntry
+  pub joined : fs ≡ es ++ more
+  pub own : All_own c t.state.associations more
 
 -- An event at which a client that runs takes an input keeps its copies, under what other laws owe of it.
 abbrev pub Events_keep_copies : Type 0
 Events_keep_copies =
     (asked_as : ℕ → Option Ask) (w : World) (e : Event) (sc : Scene) (x : Taking) → ev.world_step w e ≡ Ok sc → taken (ev.counted w) e ≡ Some x →
-    x.site.node.running ≡ true → Client_stands asked_as x.client x.world.log x.site.node.state → Numbered asked_as x.input → Owed_of x →
+    x.site.node.running ≡ true → Client_copies asked_as x.client x.world.log (now_at x) x.site.node.state → Numbered asked_as x.input → Owed_of x →
     World_keeps asked_as x.client x.world.log sc.world.log (turn_of x)
 
 -- What joins and changes the log elsewhere.
 
--- this client has no lock on the file
-abbrev pub Unheld : FileId → List Association → Type 0
-Unheld f [] = Unit {0}
-Unheld f (a ∷ xs) = record { one : f.server ≡ a.server → (held_in a.session f.ino).mode ≡ 0; rest : Unheld f xs }
+-- this client has no lock on the file under a lease that is not over
+abbrev pub Unheld : FileId → ℕ → ℕ → List Association → Type 0
+Unheld f lease now [] = Unit {0}
+Unheld f lease now (a ∷ xs) =
+    record { one : Lasts lease now a.session → f.server ≡ a.server → (held_in a.session f.ino).mode ≡ 0; rest : Unheld f lease now xs }
 
 -- What stands of a client's copies stands by a log to which an entry of nobody or of another client joins, on a file of which this client
 -- has no lock.
 abbrev pub Entries_keep_copies : Type 0
 Entries_keep_copies =
-    (asked_as : ℕ → Option Ask) (c : ClientId) (es : List LogEntry) (s : ClientState) (e : LogEntry) → is_of_client c e.of ≡ false →
-    Unheld e.of.file s.associations → Client_stands asked_as c es s → Client_stands asked_as c (es ++ e ∷ []) s
+    (asked_as : ℕ → Option Ask) (c : ClientId) (es : List LogEntry) (now : Stamp) (s : ClientState) (e : LogEntry) → is_of_client c e.of ≡ false →
+    Unheld e.of.file s.config.lease now.0 s.associations → Client_copies asked_as c es now s → Client_copies asked_as c (es ++ e ∷ []) now s
 
 -- And it stands by a log in which what a disk command carries becomes hard.
 abbrev pub Effects_keep_copies : Type 0
 Effects_keep_copies =
-    (asked_as : ℕ → Option Ask) (c : ClientId) (es : List LogEntry) (s : ClientState) (x : Option Carried) → Client_stands asked_as c es s →
-    Client_stands asked_as c (ev.log_hard es x) s
+    (asked_as : ℕ → Option Ask) (c : ClientId) (es : List LogEntry) (now : Stamp) (s : ClientState) (x : Option Carried) → Client_copies asked_as c es now s →
+    Client_copies asked_as c (ev.log_hard es x) now s
 
--- an entry of this owner is of none of the client's present lives
-abbrev pub Of_no_present_life : ClientId → LogOwner → List Association → Type 0
-Of_no_present_life c o [] = Unit {0}
-Of_no_present_life c o (a ∷ xs) = record { one : is_of_life c a.server a.life o ≡ false; rest : Of_no_present_life c o xs }
+-- an entry of this owner is of none of the client's present lives whose lease is not over
+abbrev pub Of_no_present_life : ClientId → LogOwner → ℕ → ℕ → List Association → Type 0
+Of_no_present_life c o lease now [] = Unit {0}
+Of_no_present_life c o lease now (a ∷ xs) =
+    record { one : Lasts lease now a.session → is_of_life c a.server a.life o ≡ false; rest : Of_no_present_life c o lease now xs }
 
--- What is dropped of a log, from a number on, is of none of this client's present lives, on files of which it has no lock.
-abbrev pub Drops_unheld : ClientId → (ℕ → LogOwner → Bool) → List Association → ℕ → List LogEntry → Type 0
-Drops_unheld c picked xs n [] = Unit {0}
-Drops_unheld c picked xs n (e ∷ es) =
+-- What is dropped of a log, from a number on, is of none of this client's present lives, on files of which it has no lock: as far as its
+-- leases are not over.
+abbrev pub Drops_unheld : ClientId → (ℕ → LogOwner → Bool) → ℕ → ℕ → List Association → ℕ → List LogEntry → Type 0
+Drops_unheld c picked lease now xs n [] = Unit {0}
+Drops_unheld c picked lease now xs n (e ∷ es) =
     record {
-      other : picked n e.of ≡ true → is_pending e.fate ≡ true → Of_no_present_life c e.of xs;
-      unheld : picked n e.of ≡ true → is_pending e.fate ≡ true → Unheld e.of.file xs;
-      rest : Drops_unheld c picked xs (n + 1) es;
+      other : picked n e.of ≡ true → is_pending e.fate ≡ true → Of_no_present_life c e.of lease now xs;
+      unheld : picked n e.of ≡ true → is_pending e.fate ≡ true → Unheld e.of.file lease now xs;
+      rest : Drops_unheld c picked lease now xs (n + 1) es;
     }
 
 -- It stands by a log of which such entries are dropped.
 abbrev pub Drops_keep_copies : Type 0
 Drops_keep_copies =
-    (asked_as : ℕ → Option Ask) (c : ClientId) (es : List LogEntry) (s : ClientState) (picked : ℕ → LogOwner → Bool) (cause : FileId → PageNo → Cause) →
-    Drops_unheld c picked s.associations 1 es → Client_stands asked_as c es s → Client_stands asked_as c (log.drop_picked es picked cause) s
+    (asked_as : ℕ → Option Ask) (c : ClientId) (es : List LogEntry) (now : Stamp) (s : ClientState) (picked : ℕ → LogOwner → Bool)
+    (cause : FileId → PageNo → Cause) → Drops_unheld c picked s.config.lease now.0 s.associations 1 es → Client_copies asked_as c es now s →
+    Client_copies asked_as c (log.drop_picked es picked cause) now s
 
 -- What stands of a client that does not run: its servers differ, and no entry of it is of a life beyond its association's.
 pub record Client_rests (c : ClientId) (es : List LogEntry) (s : ClientState) : Type 0 where
@@ -152,5 +173,24 @@ pub record Client_rests (c : ClientId) (es : List LogEntry) (s : ClientState) : 
 -- A client that crashes rests, and one that starts has its copies, of which there are none.
 abbrev pub Restarts_keep_copies : Type 0
 Restarts_keep_copies =
-    (asked_as : ℕ → Option Ask) (c : ClientId) (es : List LogEntry) (s : ClientState) →
-    record { crashes : Client_stands asked_as c es s → Client_rests c es (cl.crash s); starts : Client_rests c es s → Client_stands asked_as c es (cl.start s) }
+    (asked_as : ℕ → Option Ask) (c : ClientId) (es : List LogEntry) (now : Stamp) (s : ClientState) →
+    record { crashes : Client_copies asked_as c es now s → Client_rests c es (cl.crash s); starts : Client_rests c es s → Client_stands asked_as c es (cl.start s) }
+
+-- What stands of a client that does not run stands by a log that changes elsewhere: entries of others, effects, drops.
+pub record Rests_on (c : ClientId) (es : List LogEntry) (s : ClientState) : Type 0 where
+  pub entry : (e : LogEntry) → is_of_client c e.of ≡ false → Client_rests c (es ++ e ∷ []) s
+  pub effect : (x : Option Carried) → Client_rests c (ev.log_hard es x) s
+  pub drop : (picked : ℕ → LogOwner → Bool) (cause : FileId → PageNo → Cause) → Client_rests c (log.drop_picked es picked cause) s
+
+-- A client that does not run goes on to rest.
+abbrev pub Rests_stay : Type 0
+Rests_stay = (c : ClientId) (es : List LogEntry) (s : ClientState) → Client_rests c es s → Rests_on c es s
+
+-- What stands behind a step stands at each moment, and what stands at a moment stands later, when more leases are over.
+abbrev pub Clocks_keep_copies : Type 0
+Clocks_keep_copies =
+    (asked_as : ℕ → Option Ask) (c : ClientId) (es : List LogEntry) (now : Stamp) (s : ClientState) →
+    record {
+      behind : Client_stands asked_as c es s → Client_copies asked_as c es now s;
+      later : (then_ : Stamp) → now.0 ≤ then_.0 → Client_copies asked_as c es now s → Client_copies asked_as c es then_ s;
+    }

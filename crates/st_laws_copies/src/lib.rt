@@ -2,7 +2,8 @@
 #![tactic(auto)]
 
 ghost use Rattle.st_laws_copies.specs.Law.{Changes_are_held, Changes_are_locked, Operations_keep_copies, Steps_answer_right, Steps_keep_copies};
-ghost use Rattle.st_laws_copies.specs.World.{Drops_keep_copies, Effects_keep_copies, Entries_keep_copies, Events_keep_copies, Restarts_keep_copies};
+ghost use Rattle.st_laws_copies.specs.World.{Clocks_keep_copies, Drops_keep_copies, Effects_keep_copies, Entries_keep_copies, Events_keep_copies};
+ghost use Rattle.st_laws_copies.specs.World.{Restarts_keep_copies, Rests_stay};
 
 /// The pass over the operations keeps the copies: pages have the bytes of the log, and reads are answered by it.
 pub fn operations_keep_copies()
@@ -34,11 +35,15 @@ pub fn changes_are_locked()
 /// In the world, an event at which a client that runs takes an input (a tick, an ask, a message, the end of a command) keeps its
 /// copies by the log of the world that it leaves, under what other laws owe of it. An entry of nobody or of another client, on a
 /// file of which this client has no lock, leaves its copies. So does the effect of a disk command, and so does the drop of entries
-/// of others or of its earlier lives, on such files. A client that crashes and starts has its copies again: there are none.
+/// of others or of its earlier lives, on such files. A client that crashes and starts has its copies again: there are none. All this
+/// speaks of the servers where its lease is not over, since a lease that is over is lost before anything else is done; so what stands
+/// at a moment stands later. A client that does not run goes on to rest.
 pub fn events_keep_copies()
     ensures own { Events_keep_copies }
     ensures entries { Entries_keep_copies }
     ensures effects { Effects_keep_copies }
     ensures drops { Drops_keep_copies }
     ensures restarts { Restarts_keep_copies }
+    ensures rests { Rests_stay }
+    ensures clocks { Clocks_keep_copies }
 {}

@@ -2,6 +2,7 @@ use Rattle.st_laws_copies.proofs.World.{law}
 use Rattle.st_laws_copies.proofs.Others.{entries_law, effects_law}
 use Rattle.st_laws_copies.proofs.Restarts.{law as restarts_law}
 use Rattle.st_laws_copies.proofs.Drops.{law as drops_law}
+use Rattle.st_laws_copies.proofs.Rests.{rests_law, clocks_law}
 use Rattle.st_laws_copies.proofs.events_keep_copies.Goals as goal
 
 pub returns-clause-own : goal.returns-clause-own
@@ -18,3 +19,9 @@ returns-clause-restarts c = restarts_law
 
 pub returns-clause-drops : goal.returns-clause-drops
 returns-clause-drops c = drops_law
+
+pub returns-clause-rests : goal.returns-clause-rests
+returns-clause-rests c = rests_law
+
+pub returns-clause-clocks : goal.returns-clause-clocks
+returns-clause-clocks c = clocks_law

@@ -1,0 +1,5 @@
+use Rattle.st_laws_reads.proofs.Takings.{law}
+use Rattle.st_laws_reads.proofs.takings_keep_copies.Goals as goal
+
+pub returns : goal.returns
+returns c = law

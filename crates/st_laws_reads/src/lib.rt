@@ -1,0 +1,17 @@
+//! Laws of the copies of all clients of a world: whose pages are as the log has them, through the events of a run.
+#![tactic(auto)]
+
+ghost use Rattle.st_laws_reads.specs.Law.{Pending_pages_stand_alone};
+ghost use Rattle.st_laws_reads.specs.World.{Takings_keep_copies};
+
+/// In a world where all stands, while an entry of a running client's present life is pending, no other client has a lock on its file
+/// under a lease that is not over.
+pub fn pending_pages_stand_alone()
+    ensures { Pending_pages_stand_alone }
+{}
+
+/// An event at which a client takes an input (a tick, an ask, a message, the end of a command) keeps the copies of all clients, its
+/// own and the others', under what other laws owe of that client alone, where all stands before it and behind it.
+pub fn takings_keep_copies()
+    ensures { Takings_keep_copies }
+{}
