@@ -57,11 +57,17 @@ local ENDINGS = { [0] = "failed", [1] = "write done", [2] = "read done" }
 -- Fields. The first word of a constructor is the filter's name behind `tank.`, the second the label.
 
 local f = {}
+local labels = {}
 
-local function uint8(name, label, words) f[name] = ProtoField.uint8("tank." .. name, label, base.DEC, words) end
-local function uint16(name, label, words) f[name] = ProtoField.uint16("tank." .. name, label, base.DEC, words) end
-local function uint32(name, label) f[name] = ProtoField.uint32("tank." .. name, label, base.DEC) end
-local function uint64(name, label) f[name] = ProtoField.uint64("tank." .. name, label, base.DEC) end
+local function add_number(make, name, label, words)
+  f[name] = make("tank." .. name, label, base.DEC, words)
+  labels[name] = label
+end
+
+local function uint8(name, label, words) add_number(ProtoField.uint8, name, label, words) end
+local function uint16(name, label, words) add_number(ProtoField.uint16, name, label, words) end
+local function uint32(name, label) add_number(ProtoField.uint32, name, label) end
+local function uint64(name, label) add_number(ProtoField.uint64, name, label) end
 
 uint64("offset", "offset in the stream")
 uint32("length", "length")
@@ -120,14 +126,20 @@ uint8("ending", "ending", ENDINGS)
 
 tank.fields = f
 
-local REFUSALS = {
-  Short = ProtoExpert.new("tank.short", "Short: the bytes end inside a field", expert.group.MALFORMED, expert.severity.ERROR),
-  Long = ProtoExpert.new("tank.long", "Long: bytes follow the body", expert.group.MALFORMED, expert.severity.ERROR),
-  Version = ProtoExpert.new("tank.bad_version", "Version: the version is neither 1 nor 2", expert.group.MALFORMED, expert.severity.ERROR),
-  Kind = ProtoExpert.new("tank.bad_kind", "Kind: no message of this version has this kind", expert.group.MALFORMED, expert.severity.ERROR),
-  Value = ProtoExpert.new("tank.bad_value", "Value: a field is out of its range", expert.group.MALFORMED, expert.severity.ERROR),
-  FrameTooLong = ProtoExpert.new("tank.frame_too_long", "FrameTooLong: a length above 65,536", expert.group.MALFORMED, expert.severity.ERROR),
+-- Refusals, each with its filter's name and what it says.
+
+local REFUSALS = {}
+local REASONS = {
+  Short = { "short", "the bytes end inside a field" },
+  Long = { "long", "bytes follow the body" },
+  Version = { "bad_version", "the version is neither 1 nor 2" },
+  Kind = { "bad_kind", "no message of this version has this kind" },
+  Value = { "bad_value", "the field at this byte is out of its range" },
+  FrameTooLong = { "frame_too_long", "a length above 65,536" },
 }
+for name, reason in pairs(REASONS) do
+  REFUSALS[name] = ProtoExpert.new("tank." .. reason[1], name, expert.group.MALFORMED, expert.severity.ERROR)
+end
 tank.experts = REFUSALS
 
 -- A reader of one message: it shows each field that it reads and stops at the first fault.
@@ -182,7 +194,7 @@ end
 -- A number that the packet list shows, with its word where it has one.
 function Reader:told(name, size, low, high, words)
   local value = self:number(name, size, low, high, words and function(v) return words[v] ~= nil end)
-  self:say(name, words and words[value] or tostring(value))
+  self:say(labels[name], words and words[value] or tostring(value))
   return value
 end
 
@@ -446,7 +458,7 @@ local function show_refusal(tree, item, name, value)
   local text = value and (name .. " " .. value) or name
   tree:add(f.refusal, text):set_generated()
   tree:append_text(", refused: " .. text)
-  item:add_proto_expert_info(REFUSALS[name], text)
+  item:add_proto_expert_info(REFUSALS[name], text .. ": " .. REASONS[name][2])
 end
 
 -- Reads the message of a frame and returns what the packet list says of it.
@@ -465,12 +477,11 @@ local function show_message(bytes, begin, size, tree)
   return table.concat(r.words, " ")
 end
 
--- What is known of each direction of each stream: `offset` is the place of the next frame, and `stopped` the packet in which
+-- What is known of each direction between two ports: `offset` is the place of the next frame, and `stopped` the packet in which
 -- a length was refused. `places` has the offsets of the frames of a packet, in the order of reading: later readings of the
 -- packet go through them again.
 local streams = {}
 local places = {}
-local tcp_stream = Field.new("tcp.stream")
 
 function tank.init()
   streams = {}
@@ -478,7 +489,7 @@ function tank.init()
 end
 
 local function stream_of(pinfo)
-  local key = tostring(tcp_stream()) .. " " .. tostring(pinfo.src) .. " " .. pinfo.src_port
+  local key = string.format("%s %d > %s %d", tostring(pinfo.src), pinfo.src_port, tostring(pinfo.dst), pinfo.dst_port)
   streams[key] = streams[key] or { offset = UInt64(0) }
   return streams[key]
 end
@@ -500,10 +511,10 @@ end
 local function ask_for_more(bytes, pinfo, tree, at, missing)
   local left = bytes:len() - at
   local text = missing and string.format("begin of a frame, %d of %d bytes", left, left + missing)
-    or string.format("begin of a frame, %d bytes", left)
-  tree:add(tank, bytes(at), "Tavsligg node protocol"):add(f.piece, bytes(at)):set_text(text)
+    or string.format("begin of a frame, %d of its bytes", left)
   pinfo.desegment_offset = at
   pinfo.desegment_len = missing or DESEGMENT_ONE_MORE_SEGMENT
+  tree:add(tank, bytes(at), "Tavsligg node protocol"):add(f.piece, bytes(at)):set_text(text)
 end
 
 local function show_unread(bytes, tree, at)
@@ -522,6 +533,18 @@ local function show_frame(bytes, pinfo, tree, stream, at, length)
     return "[FrameTooLong " .. length .. "]"
   end
   return show_message(bytes, at + 4, length, item)
+end
+
+-- Says in the packet list what was read. The bytes of one packet may come in several calls; the list keeps what earlier calls
+-- of this packet said, and this goes behind it.
+local last_said = nil
+
+local function say_in_list(pinfo, said)
+  if #said == 0 then return end
+  local text = table.concat(said, "; ")
+  local is_same_packet = tostring(pinfo.cols.info) == last_said
+  pinfo.cols.info = is_same_packet and "; " .. text or text
+  last_said = tostring(pinfo.cols.info)
 end
 
 function tank.dissector(bytes, pinfo, tree)
@@ -551,7 +574,7 @@ function tank.dissector(bytes, pinfo, tree)
     end
     at = at + (said.stopped and 4 or 4 + length)
   end
-  if #said > 0 then pinfo.cols.info = table.concat(said, "; ") end
+  say_in_list(pinfo, said)
 end
 
 local ports = DissectorTable.get("tcp.port")
