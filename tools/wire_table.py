@@ -192,4 +192,5 @@ def main():
         print(runs(data), "=", verdict(data))
 
 
-main()
+if __name__ == "__main__":
+    main()
