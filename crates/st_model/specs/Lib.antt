@@ -1,5 +1,2 @@
 pub mod Kept
 pub mod Last
-pub mod ByPage
-pub mod Walks
-pub mod Latest
