@@ -1,0 +1,2 @@
+-- Leases that last.
+use Rattle.std.proofs.Common.{◌≡◌, refl}
