@@ -13,7 +13,7 @@ use Rattle.st_messages.specs.declared.message.Header.{Header}
 use Rattle.st_messages.specs.declared.message.Message.{Message}
 use Rattle.st_requests.specs.ServerRequests.{ServerRequests, Under}
 use Rattle.st_rules.specs.declared.client.Request.{Request}
-use Rattle.st_rules.specs.ClientLease as lease
+use Rattle.st_rules.specs.ClientLease as leases
 use Rattle.st_rules.specs.ClientLease.{ClientLease}
 use Rattle.st_rules.specs.ClientState.{ClientSession}
 use Rattle.st_rules.specs.Keys.{server_node}
@@ -45,16 +45,16 @@ under_of life epoch (Some q) = Some (record { life = life; epoch = epoch })
 
 -- What always stands: the lease is held, the parts are of one server and one client, and the outstanding request was asked in
 -- this life and epoch.
-pub record IsSession (life : Life) (epoch : Epoch) (date : Stamp) (condemned : Bool) (held : ServerLease) (requests : ServerRequests) (locks : ServerLocks) : Type 0 where
-  pub held : held.lease ≡ Some (lease_of date condemned)
-  pub asked_there : requests.server ≡ held.server
-  pub locked_there : locks.server ≡ held.server
-  pub retries : requests.retry ≡ held.config.retry
+pub record IsSession (life : Life) (epoch : Epoch) (date : Stamp) (condemned : Bool) (lease : ServerLease) (requests : ServerRequests) (locks : ServerLocks) : Type 0 where
+  pub held : lease.lease ≡ Some (lease_of date condemned)
+  pub asked_there : requests.server ≡ lease.server
+  pub locked_there : locks.server ≡ lease.server
+  pub retries : requests.retry ≡ lease.config.retry
   pub under : requests.under ≡ under_of life epoch requests.requests.asked
 
 -- the lease is not over at this moment
 abbrev pub lasts : ServerSession → Stamp → Bool
-lasts x now = not (lease.must_discard (lease.standing_of x.of.config x.session.lease now))
+lasts x now = not (leases.must_discard (leases.standing_of x.of.config x.session.lease now))
 
 -- what stands in front of a request of the session
 abbrev pub header : ServerSession → ℕ → Stamp → Header

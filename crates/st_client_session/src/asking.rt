@@ -1,14 +1,14 @@
 // The requests of a session.
-ghost use Rattle.std.specs.Prelude.{◌≡◌, ◌+◌, ◌<◌, ◌^◌, ◌∷◌, ℕ, true, Some, None, IfOk, OnOk, OnErr, IfSome, option_map, is_some};
+ghost use Rattle.std.specs.Prelude.{◌≡◌, ◌+◌, ◌<◌, ◌^◌, true, None, IfOk, OnOk, OnErr, option_map, is_some, slice_get, drop};
 ghost use Rattle.st_client_session.specs.Sessions.{message, with_session};
-ghost use Rattle.st_requests.specs.ServerRequests.{copied, shown, body_of};
+ghost use Rattle.st_requests.specs.ServerRequests.{body_of, copied, ended, shown};
 ghost use Rattle.st_rules.specs.ClientReplies as replies;
 ghost use Rattle.st_rules.specs.ClientState as client;
 
 use crate::session::Session;
 use st_base::{Epoch, GrantNo, Mode, Stamp};
 use st_messages::{Body, Message};
-use st_requests::Reply;
+use st_requests::{Reply, Requests};
 use std::alloc::AllocError;
 
 /// Whether a body is this release.
@@ -22,6 +22,22 @@ fn releases_as(body: &Body, ino: u32, g: GrantNo, to: Mode) -> bool
             to: m,
         } => *i == ino && h.0 == g.0 && m.number() == to.number(),
         _ => false,
+    }
+}
+
+/// Ends the outstanding request, and returns its body.
+fn end_asked(requests: &mut Requests) -> Option<Body>
+    requires { requests.old.requests.asked ≡ None → requests.old.under ≡ None }
+    ensures body { result ≡ option_map body_of requests.old.requests.asked }
+    ensures left { requests.new ≡ ended requests.old }
+{
+    let number = match requests.asked() {
+        None => return None,
+        Some((number, _)) => number,
+    };
+    match requests.reply(number) {
+        Reply::Match(body) => Some(body),
+        Reply::Other => unreachable!(),
     }
 }
 
@@ -75,15 +91,9 @@ impl Session {
         ensures body { result ≡ option_map body_of self.old.session.requests.asked }
         ensures left { self.new ≡ with_session (client.without_request self.old.session) self.old }
     {
+        let body = end_asked(&mut self.requests);
         self.cutting = None;
-        let number = match self.requests.asked() {
-            None => return None,
-            Some((number, _)) => number,
-        };
-        match self.requests.reply(number) {
-            Reply::Match(body) => Some(body),
-            Reply::Other => unreachable!(),
-        }
+        body
     }
 
     /// A newer epoch begins: requests, waits, releases and demands are forgotten, and the locks are to be reasserted. It does not

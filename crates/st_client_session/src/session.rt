@@ -1,17 +1,13 @@
-ghost use Rattle.std.specs.Prelude.{◌≡◌, ◌+◌, ◌<◌, ◌≤◌, ◌^◌, true, IsOk, Some};
-ghost use Rattle.st_base.specs.Config as settings;
-ghost use Rattle.st_client_session.specs.Sessions.{Parties, with_session};
+ghost use Rattle.std.specs.Prelude.{◌≡◌, false};
+ghost use Rattle.st_client_session.specs.Sessions.{with_session};
 ghost use Rattle.st_rules.specs.ClientLease as leases;
-ghost use Rattle.st_rules.specs.ClientReplies as replies;
 ghost use Rattle.st_rules.specs.ClientState as client;
 
-use crate::permits::close;
-use st_base::{ClientId, Config, Epoch, Life, ServerId, Stamp};
-use st_lease_client::{Lease, Standing};
+use st_base::{Epoch, Life, Stamp};
+use st_lease_client::Lease;
 use st_lock_cache::LockCache;
 use st_requests::Requests;
 use st_rules::{LockWait, Phase, Release, StandingKind};
-use std::alloc::Global;
 use std::marker::Model;
 
 /// A client's session with one server. Contracts see its parties and the definitions' session.
