@@ -1,5 +1,5 @@
 -- A client's session with a server, as its parties see it; what always stands of it, and the messages of its requests.
-use Rattle.std.specs.Prelude.{◌≡◌, ℕ, Bool, true, false, not, Option, Some, None, option_map}
+use Rattle.std.specs.Prelude.{◌≡◌, ℕ, Bool, true, false, not, [], ◌∷◌, Option, Some, None}
 use Rattle.st_base.specs.declared.config.Config.{Config}
 use Rattle.st_base.specs.declared.ids.ClientId.{ClientId}
 use Rattle.st_base.specs.declared.ids.ServerId.{ServerId}
@@ -12,10 +12,11 @@ use Rattle.st_messages.specs.declared.message.Body.{Body}
 use Rattle.st_messages.specs.declared.message.Header.{Header}
 use Rattle.st_messages.specs.declared.message.Message.{Message}
 use Rattle.st_requests.specs.ServerRequests.{ServerRequests, Under}
+use Rattle.st_rules.specs.declared.client.Release.{Release}
 use Rattle.st_rules.specs.declared.client.Request.{Request}
 use Rattle.st_rules.specs.ClientLease as leases
 use Rattle.st_rules.specs.ClientLease.{ClientLease}
-use Rattle.st_rules.specs.ClientState.{ClientSession}
+use Rattle.st_rules.specs.ClientState.{ClientSession, asked_again, is_again_due}
 use Rattle.st_rules.specs.Keys.{server_node}
 
 -- a client, its life at a server, the server, and the settings
@@ -63,3 +64,19 @@ header x number now = record { from = x.of.client.0; to = server_node x.of.serve
 -- the message of a request of the session
 abbrev pub message : ServerSession → ℕ → Body → Stamp → Message
 message x number body now = record { header = header x number now; body = body }
+
+-- the outstanding request, sent now
+abbrev pub again : Request → Stamp → ServerSession → ServerSession
+again q now x = with_session (record x.session { requests = asked_again q now x.session.requests }) x
+
+-- Asking again: the message of the outstanding request where it was last sent long ago, and else none.
+abbrev pub Again : ServerSession → ServerSession → Option Message → Stamp → Option Request → Type 0
+Again old new None now None = new ≡ old
+Again old new (Some m) now None = ⊥
+Again old new None now (Some q) = record { early : is_again_due old.of.config.retry now q ≡ false; same : new ≡ old }
+Again old new (Some m) now (Some q) = record { due : is_again_due old.of.config.retry now q ≡ true; told : m ≡ message old q.number q.body now; left : new ≡ again q now old }
+
+-- the first release is taken, and the others are left
+abbrev pub TakesRelease : ServerSession → ServerSession → Option Release → Type 0
+TakesRelease old new None = record { none : old.session.releases ≡ []; same : new ≡ old }
+TakesRelease old new (Some r) = record { first : old.session.releases ≡ r ∷ new.session.releases; is : new ≡ with_session (record old.session { releases = new.session.releases }) old }

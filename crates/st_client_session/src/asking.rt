@@ -1,6 +1,6 @@
 // The requests of a session.
-ghost use Rattle.std.specs.Prelude.{◌≡◌, ◌+◌, ◌<◌, ◌^◌, true, None, IfOk, OnOk, OnErr, option_map, is_some, slice_get, drop};
-ghost use Rattle.st_client_session.specs.Sessions.{message, with_session};
+ghost use Rattle.std.specs.Prelude.{◌≡◌, ◌+◌, ◌<◌, ◌^◌, true, None, IfOk, OnOk, OnErr, option_map, is_some};
+ghost use Rattle.st_client_session.specs.Sessions.{Again, TakesRelease, message, with_session};
 ghost use Rattle.st_requests.specs.ServerRequests.{body_of, copied, ended, shown};
 ghost use Rattle.st_rules.specs.ClientReplies as replies;
 ghost use Rattle.st_rules.specs.ClientState as client;
@@ -9,6 +9,7 @@ use crate::session::Session;
 use st_base::{Epoch, GrantNo, Mode, Stamp};
 use st_messages::{Body, Message};
 use st_requests::{Reply, Requests};
+use st_rules::Release;
 use std::alloc::AllocError;
 
 /// Whether a body is this release.
@@ -110,11 +111,24 @@ impl Session {
         self.releases.clear();
     }
 
-    /// The first release is taken out. It does not allocate.
-    pub fn drop_release(&mut self)
-        requires { is_some (slice_get self.old.session.releases 0) ≡ true }
-        ensures { self.new ≡ with_session (record self.old.session { releases = drop 1 self.old.session.releases }) self.old }
+    /// Asks again: the message of the outstanding request, sent now, or `None` where none is outstanding or it was last sent a
+    /// short time ago. If the call runs out of memory, nothing changes.
+    pub fn again(&mut self, now: Stamp) -> Result<Option<Message>, AllocError>
+        ensures ok { IfOk result (λ m. Again self.old self.new m now self.old.session.requests.asked) }
+        ensures err { OnErr result (self.new ≡ self.old) }
     {
-        self.releases.remove(0);
+        let message = self.requests.again(now)?;
+        Ok(message)
+    }
+
+    /// Takes out the first release. It does not allocate.
+    pub fn take_release(&mut self) -> Option<Release>
+        ensures { TakesRelease self.old self.new result }
+    {
+        if self.releases.is_empty() {
+            None
+        } else {
+            Some(self.releases.remove(0))
+        }
     }
 }

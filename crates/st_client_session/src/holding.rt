@@ -84,6 +84,7 @@ impl Session {
     fn decline(&mut self, ino: u32, g: GrantNo) -> Result<(), AllocError>
         requires { locks.is_above_seen self.old.session.locks ino g ≡ true }
         ensures ok { OnOk result (self.new ≡ with_session (replies.decline self.old.session ino g) self.old) }
+        ensures asked { self.new.session.requests ≡ self.old.session.requests }
         ensures err { OnErr result (self.new ≡ self.old) }
     {
         self.releases.reserve(1)?;
@@ -101,6 +102,7 @@ impl Session {
     fn accept_grant(&mut self, ino: u32, g: GrantNo, mode: Mode) -> Result<(), AllocError>
         requires { locks.is_above_seen self.old.session.locks ino g ≡ true }
         ensures ok { OnOk result (self.new ≡ with_session (replies.accept_grant self.old.session ino g mode) self.old) }
+        ensures asked { self.new.session.requests ≡ self.old.session.requests }
         ensures err { OnErr result (self.new ≡ self.old) }
     {
         let _taken = self.locks.install(ino, g, mode)?;
@@ -111,6 +113,7 @@ impl Session {
     fn grant_new(&mut self, ino: u32, g: GrantNo, mode: Mode) -> Result<(), AllocError>
         requires { locks.is_above_seen self.old.session.locks ino g ≡ true }
         ensures ok { OnOk result (self.new ≡ with_session (replies.grant_new self.old.session ino g mode) self.old) }
+        ensures asked { self.new.session.requests ≡ self.old.session.requests }
         ensures err { OnErr result (self.new ≡ self.old) }
     {
         if self.locks.has_place(ino) {
@@ -125,6 +128,7 @@ impl Session {
     #[tactic(auto, unfolding(st_rules::specs::ClientReplies::grant))]
     pub fn grant(&mut self, ino: u32, g: GrantNo, mode: Mode) -> Result<(), AllocError>
         ensures ok { OnOk result (self.new ≡ with_session (replies.grant self.old.session ino g mode) self.old) }
+        ensures asked { self.new.session.requests ≡ self.old.session.requests }
         ensures err { OnErr result (self.new ≡ self.old) }
     {
         if self.locks.is_above_seen(ino, g) {
@@ -138,6 +142,7 @@ impl Session {
     #[tactic(auto, unfolding(st_rules::specs::ClientReplies::wait_told))]
     fn wait_told(&mut self, ino: u32, mode: Mode, now: Stamp) -> Result<(), AllocError>
         ensures ok { OnOk result (self.new ≡ with_session (replies.wait_told self.old.session ino mode now) self.old) }
+        ensures asked { self.new.session.requests ≡ self.old.session.requests }
         ensures err { OnErr result (self.new ≡ self.old) }
     {
         self.waits.reserve(1)?;
@@ -149,6 +154,7 @@ impl Session {
     #[tactic(auto, unfolding(st_rules::specs::ClientReplies::wait_unless_held))]
     pub fn queued(&mut self, ino: u32, mode: Mode, now: Stamp) -> Result<(), AllocError>
         ensures ok { OnOk result (self.new ≡ with_session (replies.wait_unless_held self.old.session ino mode now) self.old) }
+        ensures asked { self.new.session.requests ≡ self.old.session.requests }
         ensures err { OnErr result (self.new ≡ self.old) }
     {
         if self.locks.mode(ino).covers(mode) {
@@ -180,6 +186,7 @@ impl Session {
     #[tactic(auto, unfolding(st_rules::specs::ClientReplies::release_unheld))]
     pub fn release_unheld(&mut self, ino: u32, g: GrantNo) -> Result<(), AllocError>
         ensures ok { OnOk result (self.new ≡ with_session (replies.release_unheld self.old.session ino g) self.old) }
+        ensures asked { self.new.session.requests ≡ self.old.session.requests }
         ensures err { OnErr result (self.new ≡ self.old) }
     {
         if self.has_release(ino, g) {
