@@ -1,7 +1,9 @@
 //! A client's association with one server, and a step at it. `docs/PROTOCOL.md`, "The client", has the rules.
 #![tactic(auto)]
 
+mod commands;
 mod disks;
+mod losing;
 mod outputs;
 mod pending;
 mod sessions;
