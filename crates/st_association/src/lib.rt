@@ -1,0 +1,11 @@
+//! A client's association with one server, and a step at it. `docs/PROTOCOL.md`, "The client", has the rules.
+#![tactic(auto)]
+
+mod disks;
+mod outputs;
+mod pending;
+mod sessions;
+mod stores;
+mod turn;
+
+pub use turn::Turn;
