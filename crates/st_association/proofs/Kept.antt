@@ -1,6 +1,6 @@
 -- What always stands of a step at a server stands after its changes.
-use Rattle.std.proofs.Common.{◌≡◌, ℕ, ◌⊎◌, ◌+◌, ◌<◌, ◌≤◌, ◌^◌, Bool, true, false, List, [], ◌∷◌, ◌++◌, length, refl, sym, ap, ◌∙◌, subst, inl, inr, arith}
-use Rattle.std.specs.Prelude.{Option, Some, None, nat_lt, filter, Result, Ok, Err, if◌then◌else◌}
+use Rattle.std.proofs.Common.{◌≡◌, ℕ, ◌⊎◌, ◌+◌, ◌<◌, ◌≤◌, Bool, true, false, List, [], ◌∷◌, ◌++◌, refl, sym, ap, ◌∙◌, subst, inl, inr, arith}
+use Rattle.std.specs.Prelude.{Option, Some, None, filter, Result, Ok, Err, if◌then◌else◌}
 use Rattle.std.specs.List.{list_all}
 use Rattle.std.proofs.lemmas.Bool.{ltb-true, lt-ltb}
 use Rattle.st_base.specs.declared.config.Config.{Config}
@@ -22,7 +22,7 @@ use Rattle.st_rules.specs.declared.client.WriteRefusal.{WriteRefusal}
 use Rattle.st_rules.specs.declared.client.WriteRefusal.TheVariants as writing
 use Rattle.st_rules.specs.declared.pages.DirtyPage.{DirtyPage}
 use Rattle.st_store.specs.Stores.{ServerStore}
-use Rattle.st_association.specs.Turns.{AsksBelow, IsOf, IsTurn, most_of}
+use Rattle.st_association.specs.Turns.{IsTurn, most_of}
 
 -- versions stay where a page is used
 pub versions_used : (ps : Pages) (ino : ℕ) (p : PageNo) → (use_page ps ino p).next_version ≡ ps.next_version

@@ -314,10 +314,11 @@ impl Turn {
         requires { has_session self.old ≡ true }
         ensures { IfOk result (λ m. SendsAgain self.old self.new m now (session_of self.old).requests.asked) }
     {
-        match &mut self.session {
-            Some(session) => session.again(now),
+        let message = match &mut self.session {
+            Some(session) => session.again(now)?,
             None => unreachable!(),
-        }
+        };
+        Ok(message)
     }
 
     /// The outstanding request is sent once more, where it was last sent long ago.

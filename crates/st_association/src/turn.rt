@@ -1,8 +1,10 @@
-ghost use Rattle.std.specs.Prelude.{◌≡◌, Some, is_some, true};
+ghost use Rattle.std.specs.Prelude.{◌≡◌, ◌+◌, ◌<◌, ◌≤◌, ◌^◌, true};
 ghost use Rattle.st_association.specs.Turns.{has_session, parties_of, session_of};
 ghost use Rattle.st_rules.specs.ClientPasses as passes;
+ghost use Rattle.st_rules.specs.ClientReplies as replies;
+ghost use Rattle.st_rules.specs.Keys.{server_node};
 
-use st_base::{ClientId, Config, FileId, Life, ServerId, Stamp};
+use st_base::{ClientId, Config, Epoch, FileId, Life, ServerId, Stamp};
 use st_client_session::Session;
 use st_messages::Output;
 use st_operations::Operations;
@@ -118,6 +120,33 @@ impl Turn {
             server: self.server,
             ino,
         }
+    }
+
+    /// The server's number as a node.
+    pub fn node(&self) -> u16
+        ensures { result ≡ server_node self.now.here.server }
+    {
+        32_768 + self.server.0
+    }
+
+    /// A session begins in this epoch. Its lease has this stamp, and is not over yet.
+    pub fn begin_session(&mut self, epoch: Epoch, stamp: Stamp, now: Stamp)
+        requires past { stamp.0 ≤ now.0 }
+        requires living { now.0 < stamp.0 + self.old.config.lease }
+        requires reading { now.0 ≤ 2 ^ 62 }
+        ensures { self.new ≡ replies.begin_here (replies.new_session epoch stamp) self.old }
+    {
+        self.greeting = None;
+        self.session = Some(Session::begin(
+            self.alloc,
+            self.id,
+            self.server,
+            self.life,
+            &self.config,
+            epoch,
+            stamp,
+            now,
+        ));
     }
 
     /// Whether there is a session.

@@ -1,4 +1,4 @@
-use Rattle.std.proofs.Common.{ap, subst, refl, ◌∙◌}
+use Rattle.std.proofs.Common.{ap, subst}
 use Rattle.std.specs.Prelude.{Option}
 use Rattle.st_client_session.specs.Sessions.{ServerSession}
 use Rattle.st_rules.specs.ClientState.{asking}

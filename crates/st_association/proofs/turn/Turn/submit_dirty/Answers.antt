@@ -1,5 +1,5 @@
-use Rattle.std.proofs.Common.{ap, subst, refl, sym}
-use Rattle.std.specs.Prelude.{Option, Some}
+use Rattle.std.proofs.Common.{subst, refl}
+use Rattle.std.specs.Prelude.{Option}
 use Rattle.st_client_session.specs.Sessions.{ServerSession}
 use Rattle.st_flush.proofs.Places.{no_number}
 use Rattle.st_rules.specs.declared.client.IoKind.TheVariants.{Write}

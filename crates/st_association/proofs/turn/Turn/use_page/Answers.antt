@@ -1,5 +1,5 @@
-use Rattle.std.proofs.Common.{ap, subst, refl, sym}
-use Rattle.std.specs.Prelude.{Option, Some}
+use Rattle.std.proofs.Common.{subst, refl}
+use Rattle.std.specs.Prelude.{Option}
 use Rattle.st_client_session.specs.Sessions.{ServerSession}
 use Rattle.st_association.specs.Turns.{IsTurn}
 use Rattle.st_association.proofs.Kept.{turn_changed, versions_used}
