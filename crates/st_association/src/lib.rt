@@ -2,6 +2,7 @@
 #![tactic(auto)]
 
 mod disks;
+mod ending;
 mod outputs;
 mod pending;
 mod sessions;
