@@ -1,8 +1,8 @@
 //! A client's association with one server, and a step at it. `docs/PROTOCOL.md`, "The client", has the rules.
 #![tactic(auto)]
 
-mod commands;
 mod disks;
+mod ending;
 mod losing;
 mod outputs;
 mod pending;

@@ -8,7 +8,7 @@ mod picks;
 mod releases;
 mod waits;
 
-pub use asks::{file_of, is_cut_or_name, is_file, is_sent, is_sync, server_of};
+pub use asks::{file_of, is_cut_or_name, is_file, is_of, is_sent, is_sync, server_of};
 pub use operations::Operations;
 pub use picks::{Asked, ChangesPage, CutOn, OfServer, OnFile, ReadsPage, SentOn, SyncOn, WorksOn};
 pub use releases::Releases;

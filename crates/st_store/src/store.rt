@@ -1,7 +1,7 @@
 ghost use Rattle.std.specs.Prelude.{◌≡◌, ◌<◌, ◌+◌, ◌^◌, true, false, None, Some, IfOk, OnOk, OnErr, is_some, length, slice_get};
 ghost use Rattle.std.specs.List.{list_any};
 ghost use Rattle.std.specs.Option.{option_copied, option_map};
-ghost use Rattle.st_flush.specs.Calls.{told};
+ghost use Rattle.st_flush.specs.Calls.{AreApart, told, told_on};
 ghost use Rattle.st_rules.specs.ClientPages as pages;
 ghost use Rattle.st_rules.specs.declared.client.IoKind.TheVariants as kinds;
 ghost use Rattle.st_store.specs.Stores.{AreMatched, Changes, Ends, empty_store_of, with_commands, with_pages, with_store};
@@ -126,6 +126,14 @@ impl Store {
         ensures { result ≡ option_map told (pages.command_of self.now.store.commands number) }
     {
         self.commands.of(number)
+    }
+
+    /// The number and the kind of the page's command, or `None` where it has none.
+    pub fn command_on(&self, ino: u32, page: PageNo) -> Option<(u64, IoKind)>
+        ensures command { result ≡ option_map told_on (pages.command_on self.now.store.commands ino page) }
+        ensures apart { AreApart self.now.store.commands }
+    {
+        self.commands.on(ino, page)
     }
 
     /// Whether a read of the page is outstanding.
