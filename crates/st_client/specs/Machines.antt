@@ -5,7 +5,7 @@ use Rattle.st_association.specs.Turns.{most_of}
 use Rattle.st_base.specs.declared.config.Config.{Config}
 use Rattle.st_base.specs.declared.ids.ClientId.{ClientId}
 use Rattle.st_messages.specs.declared.output.Output.{Output}
-use Rattle.st_rules.specs.ClientState.{Association, ClientTurn}
+use Rattle.st_rules.specs.ClientState.{Association, ClientTurn, Turn}
 
 -- the definitions' association
 abbrev pub here_of : ClientAssociation → Association
@@ -33,3 +33,7 @@ pub record Goes (t u : ClientTurn) : Type 0 where
   pub config : u.state.config ≡ t.state.config
   pub next : t.state.next_command ≤ u.state.next_command
   pub out : length t.out ≤ length u.out
+
+-- a step at one server stays one of the same client, with the same settings
+abbrev pub Stays : Turn → Turn → Type 0
+Stays t u = (u.id ≡ t.id) × (u.config ≡ t.config)

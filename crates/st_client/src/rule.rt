@@ -1,6 +1,7 @@
 // A rule for one association, as it is done at each server in turn.
 ghost use Rattle.std.specs.Prelude.{◌≡◌, true, OnOk};
 ghost use Rattle.st_association.specs.Associations.{Grows};
+ghost use Rattle.st_client.specs.Machines.{Stays};
 
 use st_association::Turn;
 use std::alloc::AllocError;
@@ -19,5 +20,6 @@ pub trait Rule {
     fn apply(&self, turn: &mut Turn) -> Result<(), AllocError>
         requires { is_ready self.now turn.old.config turn.old.here ≡ true }
         ensures run { OnOk result (turn.new ≡ run self.now turn.old) }
-        ensures grows { OnOk result (Grows turn.old turn.new) };
+        ensures grows { OnOk result (Grows turn.old turn.new) }
+        ensures same { OnOk result (Stays turn.old turn.new) };
 }
