@@ -1,14 +1,16 @@
 -- What always stands of associations stands where numbers of commands and outputs grow.
-use Rattle.std.proofs.Common.{◌≡◌, ℕ, ◌+◌, ◌<◌, ◌≤◌, ◌^◌, true, List, [], ◌∷◌, ◌++◌, length, refl, sym, ap, ◌∙◌, arith}
-use Rattle.std.specs.Prelude.{Option, Some, None, ⊤}
+use Rattle.std.proofs.Common.{◌≡◌, ℕ, ◌+◌, ◌<◌, ◌≤◌, ◌^◌, Bool, true, List, [], ◌∷◌, ◌++◌, length, map, refl, sym, ap, subst, ◌∙◌, arith}
+use Rattle.std.specs.Prelude.{Option, Some, None, ⊤, ◌&&◌}
+use Rattle.std.specs.List.{list_all}
+use Rattle.st_lemmas.proofs.Tables.{and_true}
 use Rattle.st_association.proofs.Kept.{below_more}
 use Rattle.st_association.specs.Associations.{ClientAssociation, IsCounted, RequestsBelow}
 use Rattle.st_association.specs.Turns.{most_of}
 use Rattle.st_base.specs.declared.config.Config.{Config}
 use Rattle.st_base.specs.declared.ids.ClientId.{ClientId}
 use Rattle.st_messages.specs.declared.output.Output.{Output}
-use Rattle.st_rules.specs.ClientState.{Association, ClientSession}
-use Rattle.st_client.specs.Machines.{AreIn, IsIn}
+use Rattle.st_rules.specs.ClientState.{Association, ClientSession, ClientTurn, Turn, at_these, enter, leave}
+use Rattle.st_client.specs.Machines.{AreIn, Goes, IsIn, here_of}
 
 module _ (n m : ℕ) (out more : List Output) (l : n ≤ m) (g : length out ≤ length more) (c : m < most_of more) where
   asks_more : (o : Option ClientSession) → RequestsBelow (most_of out) o → RequestsBelow (most_of more) o
@@ -37,3 +39,28 @@ pub in_last : (id : ClientId) (config : Config) (n : ℕ) (out : List Output) (x
     AreIn id config n out (xs ++ a ∷ [])
 in_last id config n out [] a i j = (j, tt)
 in_last id config n out (x ∷ xs) a i j = (i.0, in_last id config n out xs a i.1 j)
+
+-- the others, after a rule at one of them
+pub in_goes : (t u : ClientTurn) (items xs : List ClientAssociation) (a : ClientAssociation) → items ≡ a ∷ xs → Goes t u → AreIn t.state.id t.state.config t.state.next_command t.out items →
+    AreIn u.state.id u.state.config u.state.next_command u.out xs
+in_goes t u items xs a e g i =
+    let j = subst (λ (ys : List ClientAssociation). AreIn t.state.id t.state.config t.state.next_command t.out ys) e i in
+    let k = in_more t.state.next_command u.state.next_command t.out u.out g.next g.out g.below t.state.id t.state.config xs j.1 in
+    subst (λ (c : Config). AreIn u.state.id c u.state.next_command u.out xs) (sym g.config)
+    (subst (λ (c : ClientId). AreIn c t.state.config u.state.next_command u.out xs) (sym g.id) k)
+
+pub first_in : (t : ClientTurn) (items xs : List ClientAssociation) (a : ClientAssociation) → items ≡ a ∷ xs → AreIn t.state.id t.state.config t.state.next_command t.out items →
+    IsIn t.state.id t.state.config t.state.next_command t.out a
+first_in t items xs a e i = (subst (λ (ys : List ClientAssociation). AreIn t.state.id t.state.config t.state.next_command t.out ys) e i).0
+
+module _ (run : Turn → Turn) (ready : Config → Association → Bool) where
+  pub run_goes : (t u s : ClientTurn) (items xs : List ClientAssociation) (a : ClientAssociation) → items ≡ a ∷ xs → u ≡ leave t (run (enter t a.here)) →
+      at_these run (map here_of items) t ≡ s → at_these run (map here_of xs) u ≡ s
+  unfolding at_these
+  run_goes t u s items xs a e n h = ap (at_these run (map here_of xs)) n ∙ ap (λ ys. at_these run (map here_of ys) t) (sym e) ∙ h
+
+  pub ready_goes : (t u : ClientTurn) (items xs : List ClientAssociation) (a : ClientAssociation) → items ≡ a ∷ xs → Goes t u →
+      list_all (ready t.state.config) (map here_of items) ≡ true → list_all (ready u.state.config) (map here_of xs) ≡ true
+  ready_goes t u items xs a e g h =
+      let k : list_all (ready t.state.config) (a.here ∷ map here_of xs) ≡ true = ap (λ ys. list_all (ready t.state.config) (map here_of ys)) (sym e) ∙ h in
+      ap (λ c. list_all (ready c) (map here_of xs)) g.config ∙ (and_true (ready t.state.config a.here) (list_all (ready t.state.config) (map here_of xs)) k).1

@@ -33,6 +33,7 @@ pub record Goes (t u : ClientTurn) : Type 0 where
   pub config : u.state.config ≡ t.state.config
   pub next : t.state.next_command ≤ u.state.next_command
   pub out : length t.out ≤ length u.out
+  pub below : u.state.next_command < most_of u.out
 
 -- a step at one server stays one of the same client, with the same settings
 abbrev pub Stays : Turn → Turn → Type 0

@@ -76,4 +76,34 @@ impl Machine {
             out,
         })
     }
+
+    /// A rule at each association, in order.
+    #[tactic(auto, unfolding(st_rules::specs::ClientState::at_each, st_rules::specs::ClientState::at_these))]
+    pub(crate) fn at_each<R: Rule>(self, rule: &R) -> Result<Machine, AllocError>
+        requires { list_all (R.is_ready rule.now self.state.config) self.state.associations ≡ true }
+        ensures { IfOk result (λ m. m ≡ client.at_each (R.run rule.now) self) }
+    {
+        let Machine {
+            alloc,
+            id,
+            config,
+            mut associations,
+            operations,
+            next_command,
+            out,
+        } = self;
+        let mut machine = Machine {
+            alloc,
+            id,
+            config,
+            associations: VecDeque::new(alloc),
+            operations,
+            next_command,
+            out,
+        };
+        while let Some(a) = associations.pop_front() {
+            machine = machine.at_one(rule, a)?;
+        }
+        Ok(machine)
+    }
 }
