@@ -1,3 +1,5 @@
 pub mod Placed
 pub mod Commands
 pub mod Latest
+pub mod Saying
+pub mod Keeping
