@@ -3,3 +3,6 @@ pub mod Commands
 pub mod Latest
 pub mod Saying
 pub mod Keeping
+pub mod Stepping
+pub mod FlushSteps
+pub mod Events
