@@ -9,7 +9,6 @@ use Rattle.st_base.specs.declared.ids.PageNo.{PageNo}
 use Rattle.st_base.specs.declared.ids.ServerId.{ServerId}
 use Rattle.st_base.specs.declared.ids.NodeId.{NodeId}
 use Rattle.st_base.specs.declared.ids.NodeId.TheVariants as nodes
-use Rattle.st_messages.specs.declared.message.Message.{Message}
 use Rattle.st_messages.specs.declared.event.Event.{Event}
 use Rattle.st_messages.specs.declared.event.Event.TheVariants as events
 use Rattle.st_messages.specs.declared.output.Note.{Note}
@@ -373,7 +372,7 @@ module _ (past : List Step) (x : Step) where
 
   -- An effect.
   effect_writes : (w : World) (k : ℕ) → adm.refusal w (events.Effect k) ≡ None → Writes_stand w → Writes_stand (ev.effects w k).world
-  unfolding adm.refusal adm.refused_effect
+  unfolding adm.refusal adm.refused_effect disks.effect_of
   effect_writes w k r h = go (disks.command w.disks k) refl
     where
       no : adm.refused_effect w k None ≡ None → ⊥
@@ -389,7 +388,6 @@ module _ (past : List Step) (x : Step) where
           })
         where
           what_of : (n : ℕ) (c : Command) → d.what ≡ c → (e : DiskCommand) × ((disks.effect_of w.disks (suc n) d c).commands ≡ Rattle.std.specs.Prelude.set w.disks.commands n e) × (e.what ≡ d.what)
-          unfolding disks.effect_of
           what_of n (commands.Read at) z = (disks.sampled (disks.block w.disks at) d, refl, refl)
           what_of n (commands.Write at tag bytes) z = (disks.effected d, refl, refl)
 
@@ -444,7 +442,7 @@ module _ (past : List Step) (x : Step) where
   advance_writes w steps h =
       record {
         commands = lives_end w.commands (ev.lives_reached w steps) w.log w.commands w.disks.commands h.commands;
-        latest_own = latest_marked w _ refl (owners_ended w.commands (ev.lives_reached w steps) w.log) h.latest_own;
+        latest_own = latest_marked w (ev.with_log (ev.log_ended_all w.commands (ev.lives_reached w steps) w.log) (ev.with_clocks steps w)) refl (owners_ended w.commands (ev.lives_reached w steps) w.log) h.latest_own;
       }
 
   -- A crash of a client, and its start.

@@ -6,3 +6,4 @@ pub mod Keeping
 pub mod Stepping
 pub mod FlushSteps
 pub mod Events
+pub mod Drops
