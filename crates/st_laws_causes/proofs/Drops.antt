@@ -55,8 +55,7 @@ use Rattle.st_laws_pages.proofs.GoneLaw.{Over}
 use Rattle.st_laws_pages.proofs.Owing.{crash_owes, last_more, lives_owe, over_apart}
 use Rattle.st_laws_asks.proofs.Places.{Knows, On}
 use Rattle.st_laws_asks.proofs.Says.{client_leaves}
-use Rattle.st_laws_asks.proofs.World.{Places, sent_told}
-use Rattle.st_laws_causes.proofs.Placed.{Input_tells, Placed, Placed_one, step_placed}
+use Rattle.st_laws_causes.proofs.Placed.{Input_tells, Places_at, Placed, Placed_one, step_placed}
 
 one_failed : (size : ℕ) (c : ClientId) (before : ClientState) (o : LogOwner) (after : ClientState) → (o.client.0 ≡ c.0 → (life_with after o.file.server).0 ≡ o.life.0 → ⊥) → (x : Output) (sc : Scene) →
     ((s : ServerId) → ev.present_life sc.world c s ≡ life_with after s) → Placed_one size x → length sc.world.servers ≡ size → last_write (client_says sc c before x).world.commands o ≡ last_write sc.world.commands o
@@ -106,7 +105,7 @@ failed_all : (cs ds : List IssuedCommand) (P : LogOwner → Type 0) (es : List L
 failed_all cs ds P [] f h = record {}
 failed_all cs ds P (e ∷ es) f h = record { one = λ k q. f e.of (inl refl) (h.one (ap log.counts q)); rest = failed_all cs ds P es (λ o i. f o (inr i)) h.rest }
 
-module _ (w : World) (size : ℕ) (l : LivesHold w) (pl : Places size w) (g : Gone_hold w) where
+module _ (w : World) (size : ℕ) (l : LivesHold w) (pl : Places_at size w) (g : Gone_hold w) where
   client_failed : (c : ClientId) (old site : ClientSite) (input : ClientInput) → site_of w c ≡ Some old → old.node ≡ site.node → site.node.running ≡ true → Input_tells size input →
       Failed_stay w.commands (ev.client_took w c site (Ok (cl.node_turn site.node (cl.client_step site.node.state (clock_of w (nodes.Client c)) input)))).world.commands w.log
   unfolding ev.client_took
@@ -176,7 +175,7 @@ at_server_failed w s input (Some node) = go (server.node_step node (clock_of w (
     go (Ok t) = subst (λ cs. Failed_stay w.commands cs w.log) (sym (server_commands s t.out (ev.quiet (ev.with_node s t.node w)))) (same_failed w.commands w.log)
 
 -- the report of a command
-report_failed : (w : World) (size : ℕ) (k : ℕ) (ok : Bool) → LivesHold w → Places size w → Gone_hold w → Failed_stay w.commands (ev.reports_of w k ok).world.commands w.log
+report_failed : (w : World) (size : ℕ) (k : ℕ) (ok : Bool) → LivesHold w → Places_at size w → Gone_hold w → Failed_stay w.commands (ev.reports_of w k ok).world.commands w.log
 unfolding ev.reports_of ev.tells ev.tells_client ev.tells_site
 report_failed w size k ok l pl g = go (issued_of w k)
   where
@@ -186,8 +185,8 @@ report_failed w size k ok l pl g = go (issued_of w k)
     lives : LivesHold v
     lives = record { lives = l.lives; known = l.known }
 
-    places : Places size v
-    places = record { count = pl.count; few = pl.few; nodes = pl.nodes; told = pl.told; known = pl.known }
+    places : Places_at size v
+    places = record { count = pl.count; told = pl.told; known = pl.known }
 
     gone : Gone_hold v
     gone = Rattle.st_laws_pages.proofs.GoneLaw.gone_known (Over w) (Over v) w.log (λ o i z. Rattle.st_laws_pages.proofs.GoneLaw.kept w o v (λ x. record { row = x.row; is = x.is; crashed = x.crashed }) (λ x. record { end = x.end; is = x.is; late = x.late }) z) g
@@ -225,7 +224,7 @@ advances_owe past w [] f o = record {}
 advances_owe past w (l ∷ ls) f o = record { one = o.one; known = f l (inl refl); rest = advances_owe past w ls (λ x i. f x (inr i)) o.rest }
 
 -- What is owed at an event for the causes of drops follows from lives and fates, from places, and from the flush at an advance.
-pub causes_owed : (past : List Step) (w : World) (size : ℕ) (e : Event) → ((steps : List ℕ) → e ≡ events.Advance steps → Flush_owes past w (ev.lives_reached w steps)) → FatesHold w → Places size w → Crashes_known past w.ended →
+pub causes_owed : (past : List Step) (w : World) (size : ℕ) (e : Event) → ((steps : List ℕ) → e ≡ events.Advance steps → Flush_owes past w (ev.lives_reached w steps)) → FatesHold w → Places_at size w → Crashes_known past w.ended →
     Causes_owed past w e (ev.happens w e).world
 unfolding ev.happens ev.ticks ev.asks_at ev.delivers ev.delivers_to ev.loses_message ev.marks ev.effects ev.crashes ev.crashes_server ev.starts ev.starts_client ev.starts_server ev.lives_reached
 causes_owed past w size (events.Tick (nodes.Client c)) d f pl k = at_client_failed w size f.lives pl f.gone c inputs.Tick (site_of w c) refl tt
@@ -238,7 +237,7 @@ causes_owed past w size (events.App c ask) d f pl k = go (site_of w c) refl
 causes_owed past w size (events.Deliver n) d f pl k = go (world.message_of w n) refl
   where
     to : (m : SentMessage) → Has m w.net.messages → (x : NodeId) → Failed_stay w.commands (ev.delivers_to w m.message x).world.commands w.log
-    to m i (nodes.Client c) = at_client_failed w size f.lives pl f.gone c (inputs.Control m.message) (site_of w c) refl (sent_told size m.message.header.from m.message.body (pl.told m i))
+    to m i (nodes.Client c) = at_client_failed w size f.lives pl f.gone c (inputs.Control m.message) (site_of w c) refl (pl.told m i)
     to m i (nodes.Server s) = at_server_failed w s _ (node_of w s)
 
     go : (m : Option SentMessage) → world.message_of w n ≡ m → Failed_stay w.commands (ev.delivers w m).world.commands w.log

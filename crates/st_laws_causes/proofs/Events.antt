@@ -65,11 +65,10 @@ use Rattle.st_rules.specs.ClientPages as pages
 use Rattle.st_rules.specs.declared.pages.DirtyPage.{DirtyPage}
 use Rattle.st_laws_pages.specs.Losses.{Fit}
 use Rattle.st_laws_asks.proofs.Places.{Knows}
-use Rattle.st_laws_asks.proofs.World.{Places, sent_told}
 use Rattle.st_laws_causes.specs.Stands.{Commands_stand, Latest_own, Latest_stand, Writes_stand}
 use Rattle.st_laws_causes.proofs.Commands.{effect_stands, entry_joins, lives_end, picked_drop, report_stands}
 use Rattle.st_laws_causes.proofs.Latest.{latest_elsewhere, latest_owned}
-use Rattle.st_laws_causes.proofs.Placed.{Input_tells, step_placed}
+use Rattle.st_laws_causes.proofs.Placed.{Input_tells, Places_at, step_placed}
 use Rattle.st_laws_causes.proofs.FlushSteps.{Both_hold, client_after}
 
 -- Behind one more step.
@@ -124,7 +123,7 @@ module _ (past : List Step) (x : Step) where
       }
 
   -- A client's step.
-  module _ (w : World) (size : ℕ) (l : LivesHold w) (pl : Places size w) where
+  module _ (w : World) (size : ℕ) (l : LivesHold w) (pl : Places_at size w) where
     takes_both : (c : ClientId) (input : ClientInput) (old site : ClientSite) → site_of w c ≡ Some old → old.node ≡ site.node → old.starts ≡ site.starts → Input_tells size input →
         ((sc : Scene) → sc.world.commands ≡ w.commands → sc.world.disks ≡ w.disks → Input_told more sc c site.starts input) → Both_hold past w → Both_hold more (ev.client_takes w c input site).world
     unfolding cl.node_step ev.client_takes ev.client_took
@@ -351,7 +350,7 @@ module _ (past : List Step) (x : Step) where
   lacks_none true d e q = not_false d.effected e
   lacks_none false d e q = cc
 
-  report_both : (w : World) (size : ℕ) (k : ℕ) (ok : Bool) → adm.refusal w (events.Report k ok) ≡ None → x.event ≡ events.Report k ok → LivesHold w → Places size w → Both_hold past w → Both_hold more (ev.reports_of w k ok).world
+  report_both : (w : World) (size : ℕ) (k : ℕ) (ok : Bool) → adm.refusal w (events.Report k ok) ≡ None → x.event ≡ events.Report k ok → LivesHold w → Places_at size w → Both_hold past w → Both_hold more (ev.reports_of w k ok).world
   report_both w size k ok r e l pl h = go (disks.command w.disks k) refl
     where
       go : (d : Option DiskCommand) → disks.command w.disks k ≡ d → Both_hold more (ev.reports_of w k ok).world
@@ -359,7 +358,7 @@ module _ (past : List Step) (x : Step) where
       go (Some d) q =
           let f = report_finds w k ok d q r in
           subst (λ (s : Scene). Both_hold more s.world) (sym (report_is w k ok d f))
-          (told_both (reported_world w k ok d) size (record { lives = l.lives; known = l.known }) (record { count = pl.count; few = pl.few; nodes = pl.nodes; told = pl.told; known = pl.known }) k ok (disks.reported ok d) (own_set k q) (lacks_none ok d f.done) e (issued_of w k) refl
+          (told_both (reported_world w k ok d) size (record { lives = l.lives; known = l.known }) (record { count = pl.count; told = pl.told; known = pl.known }) k ok (disks.reported ok d) (own_set k q) (lacks_none ok d f.done) e (issued_of w k) refl
           (record { flush = still_same w (reported_world w k ok d) refl refl refl refl refl refl refl h.flush; writes = record { commands = set_stands k q; latest_own = latest_marked w (reported_world w k ok d) refl refl h.writes.latest_own } }))
         where
           own_set : (n : ℕ) → disks.command w.disks n ≡ Some d → disks.command (disks.with_command n (disks.reported ok d) w.disks) n ≡ Some (disks.reported ok d)
@@ -487,7 +486,7 @@ module _ (past : List Step) (x : Step) where
   still_both w v k ts cs xs fl ns l ds h = record { flush = still w v k ts cs xs fl ns l h.flush; writes = still_writes w v cs l xs ds h.writes }
 
   -- Every event.
-  pub happens_both : (w : World) (e : Event) (size : ℕ) → adm.refusal w e ≡ None → x.event ≡ e → LivesHold w → Places size w → Both_hold past w → Both_hold more (ev.happens w e).world
+  pub happens_both : (w : World) (e : Event) (size : ℕ) → adm.refusal w e ≡ None → x.event ≡ e → LivesHold w → Places_at size w → Both_hold past w → Both_hold more (ev.happens w e).world
   unfolding ev.happens ev.ticks ev.asks_at ev.delivers ev.delivers_to ev.loses_message ev.marks ev.effects ev.crashes ev.crashes_client ev.crashes_server ev.starts ev.starts_client ev.starts_server
   happens_both w (events.Tick (nodes.Client c)) size r q l p h = at_client_both w size l p c inputs.Tick (site_of w c) refl tt (λ s sc. tt) h
   happens_both w (events.Tick (nodes.Server s)) size r q l p h = at_server_both w s serving.Tick (node_of w s) h
@@ -499,7 +498,7 @@ module _ (past : List Step) (x : Step) where
   happens_both w (events.Deliver k) size r q l p h = go (world.message_of w k) refl
     where
       to : (m : SentMessage) → Has m w.net.messages → (n : NodeId) → Both_hold more (ev.delivers_to w m.message n).world
-      to m i (nodes.Client c) = at_client_both w size l p c (inputs.Control m.message) (site_of w c) refl (sent_told size m.message.header.from m.message.body (p.told m i)) (λ s sc. tt) h
+      to m i (nodes.Client c) = at_client_both w size l p c (inputs.Control m.message) (site_of w c) refl (p.told m i) (λ s sc. tt) h
       to m i (nodes.Server s) = at_server_both w s (serving.Control m.message) (node_of w s) h
 
       go : (m : Option SentMessage) → world.message_of w k ≡ m → Both_hold more (ev.delivers w m).world

@@ -7,3 +7,4 @@ pub mod Stepping
 pub mod FlushSteps
 pub mod Events
 pub mod Drops
+pub mod Law

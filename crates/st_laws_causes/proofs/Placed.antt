@@ -35,6 +35,20 @@ use Rattle.st_laws_pages.proofs.Replying.{c_hear}
 use Rattle.st_laws_pages.proofs.Stepping.{Goes, Left_all, input_left, Lost_or_not, Losses_left, losses_left, pairs_has}
 use Rattle.st_laws_pages.proofs.Nexts.{change_next, empty_right}
 use Rattle.st_laws_pages.proofs.Losing.{Finished, finish_is, is_done, lose_is}
+use Rattle.std.proofs.Common.{arith, leb-true, ◌-◌, ◌%◌, ◌+◌, pred, Some}
+use Rattle.st_base.specs.declared.disk.BlockAt.{BlockAt}
+use Rattle.std.specs.Prelude.{length, nat_le}
+use Rattle.std.proofs.lemmas.Bool.{eqb-true}
+use Rattle.st_base.specs.declared.ids.NodeId.TheVariants as nodes
+use Rattle.st_messages.specs.declared.message.Body.TheVariants as bodies
+use Rattle.st_rules.specs.declared.world.SentMessage.{SentMessage}
+use Rattle.st_rules.specs.Keys.{client}
+use Rattle.st_rules.specs.World as world
+use Rattle.st_rules.specs.World.{World, ClientSite, site_of}
+use Rattle.st_rules.specs.WorldInvariants.{is_on_disk_of, is_own_known, is_own_mapping, is_own_row, knows_own, knows_own_at, tells_own, tells_own_rows}
+use Rattle.st_lemmas.proofs.Numbers.{numbered_has}
+use Rattle.st_lemmas.proofs.Tables.{each_passes}
+use Rattle.st_laws_asks.specs.Law.{PlacesHold}
 use Rattle.st_laws_asks.proofs.Places.{On, Knows, Own_body}
 use Rattle.st_laws_asks.proofs.Client.{Begun, Lasting, Lasts, Neutral, Stands, Usable, g_hear, s_passes, w_finish, w_lose}
 use Rattle.st_rules.specs.Safety.{block_of}
@@ -324,3 +338,36 @@ step_placed n c s now input told f k = whole (since_then _ [] t.out v.out a.plac
 
     whole : Since (Placed_one n) [] v.out → Placed n v.out
     whole z = subst (Placed n) (sym z.out) z.each
+
+-- What is known and told of places in a world of so many servers.
+pub record Places_at (size : ℕ) (w : World) : Type 0 where
+  pub count : length w.servers ≡ size
+  pub told : (m : SentMessage) → Has m w.net.messages → (s : ServerId) → m.message.header.from ≡ server_node s → Own_body size s m.message.body
+  pub known : (c : ClientId) (site : ClientSite) → site_of w c ≡ Some site → (a : Association) → Has a site.node.state.associations → Knows size a.server a.store.extents
+
+from_server : (from : ℕ) (s : ServerId) → from ≡ server_node s → world.node_at from ≡ nodes.Server s
+unfolding world.node_at
+from_server from s e = go (nat_le from 16) refl
+  where
+    go : (b : Bool) → nat_le from 16 ≡ b → (if b then nodes.Client (client from) else nodes.Server (world.server (from - 32768))) ≡ nodes.Server s
+    go true q = let z = leb-true from 16 q in absurd (omega (arith, z, e))
+    go false q = ap (λ m. nodes.Server (record { 0 = m })) (let z : from - 32768 ≡ s.0 = omega (arith, e) in z)
+
+pub places_at : (w : World) → PlacesHold w → Places_at (length w.servers) w
+places_at w h = record { count = refl; told = told; known = known }
+  where
+    on : (s : ServerId) (at : BlockAt) → is_on_disk_of w s at ≡ true → On (length w.servers) s at
+    on s at e = eqb-true (pred at.disk.0 % length w.servers + 1) s.0 e
+
+    told : (m : SentMessage) → Has m w.net.messages → (s : ServerId) → m.message.header.from ≡ server_node s → Own_body (length w.servers) s m.message.body
+    told m i s e = by m.message.body (subst (λ r. tells_own_rows w r m.message.body ≡ true) (from_server m.message.header.from s e) (each_passes (tells_own w) w.net.messages h.told m i))
+      where
+        by : (b : Body) → tells_own_rows w (nodes.Server s) b ≡ true → Own_body (length w.servers) s b
+        by (bodies.Extents ino rows) q = λ r j. on s r.at (each_passes (is_own_row w s) rows q r j)
+        by b q = tt
+
+    known : (c : ClientId) (site : ClientSite) → site_of w c ≡ Some site → (a : Association) → Has a site.node.state.associations → Knows (length w.servers) a.server a.store.extents
+    known c site e a i x j m q =
+        on a.server m.at
+        (subst (λ o. is_own_mapping w a.server o ≡ true) q
+        (each_passes (is_own_known w a.server) a.store.extents (each_passes (knows_own_at w) site.node.state.associations (each_passes (knows_own w) w.clients h.known site (numbered_has w.clients c.0 site e)) a i) x j))
