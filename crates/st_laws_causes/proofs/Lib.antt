@@ -7,4 +7,6 @@ pub mod Stepping
 pub mod FlushSteps
 pub mod Events
 pub mod Drops
+pub mod Unhard
+pub mod Operating
 pub mod Law

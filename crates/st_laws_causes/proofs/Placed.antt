@@ -50,7 +50,7 @@ use Rattle.st_lemmas.proofs.Numbers.{numbered_has}
 use Rattle.st_lemmas.proofs.Tables.{each_passes}
 use Rattle.st_laws_asks.specs.Law.{PlacesHold}
 use Rattle.st_laws_asks.proofs.Places.{On, Knows, Own_body}
-use Rattle.st_laws_asks.proofs.Client.{Begun, Lasting, Lasts, Neutral, Stands, Usable, g_hear, s_passes, w_finish, w_lose}
+use Rattle.st_laws_asks.proofs.Client.{key, Begun, Lasting, Lasts, Neutral, Stands, Usable, g_hear, s_passes, w_finish, w_lose}
 use Rattle.st_rules.specs.Safety.{block_of}
 
 -- a fact of each output
@@ -166,19 +166,33 @@ finished_tagged now number ok t u f =
     let q = ends_quiet number ok t f.mid f.ends in
     since_then _ t.out f.mid.out u.out (since_same _ t.out f.mid.out q.0) (subst (λ s. Since (Tagged_one s) f.mid.out u.out) q.1 (changes_tagged now f.mid u f.then_))
 
--- Blocks, by what stands of places at one server.
-abbrev Blocks : ℕ → ServerId → List Output → List Operation → List Output → Type 0
-Blocks n s os ops out = Since (Block_one n s) os out
+-- the keys of operations are among these
+abbrev pub From : List (ℕ × Ask) → List Operation → Type 0
+From ks ops = (k : ℕ × Ask) → Has k (map key ops) → Has k ks
 
-blocks_last : (n : ℕ) (s : ServerId) (c : ClientId) (os : List Output) → Lasts n (λ v. v ≡ s) c (Blocks n s os)
-blocks_last n s c os =
+fewer_has : (xs ys : List Operation) (o : Operation) (k : ℕ × Ask) → Has k (map key (xs ++ ys)) → Has k (map key (xs ++ o ∷ ys))
+fewer_has [] ys o k h = inr h
+fewer_has (x ∷ xs) ys o k (inl e) = inl e
+fewer_has (x ∷ xs) ys o k (inr h) = inr (fewer_has xs ys o k h)
+
+-- Blocks and operations, by what stands of places at one server.
+record Blocks (n : ℕ) (s : ServerId) (os : List Output) (ks : List (ℕ × Ask)) (ops : List Operation) (out : List Output) : Type 0 where
+  since : Since (Block_one n s) os out
+  from : From ks ops
+
+blocks_last : (n : ℕ) (s : ServerId) (c : ClientId) (os : List Output) (ks : List (ℕ × Ask)) → Lasts n (λ v. v ≡ s) c (Blocks n s os ks)
+blocks_last n s c os ks =
     record {
-      says = λ ops out o m z. since_then _ os out _ z (since_one _ out o (neutral o m));
-      submits = λ ops out v number at what u on z. since_then _ os out _ z (since_one (Block_one n s) out (outputs.Submit number at what) (subst (λ w. On n w (block_of what)) u on));
-      answered = λ xs ys out o a m z. since_then _ os out _ z (since_one (Block_one n s) out (outputs.Answer o.op a) tt);
-      reads = λ xs ys out o bytes u z. since_then _ os out _ z (since_one (Block_one n s) out _ tt);
-      changes = λ xs ys out o x m u z. since_then _ os (out ++ outputs.Note x ∷ []) _ (since_then _ os out _ z (since_one (Block_one n s) out (outputs.Note x) tt)) (since_one (Block_one n s) (out ++ outputs.Note x ∷ []) _ tt);
-      stages = λ xs ys out e z. z;
+      says = λ ops out o m z. record { since = since_then _ os out _ z.since (since_one _ out o (neutral o m)); from = z.from };
+      submits = λ ops out v number at what u on z. record { since = since_then _ os out _ z.since (since_one (Block_one n s) out (outputs.Submit number at what) (subst (λ w. On n w (block_of what)) u on)); from = z.from };
+      answered = λ xs ys out o a m z. record { since = since_then _ os out _ z.since (since_one (Block_one n s) out (outputs.Answer o.op a) tt); from = λ k i. z.from k (fewer_has xs ys o k i) };
+      reads = λ xs ys out o bytes u z. record { since = since_then _ os out _ z.since (since_one (Block_one n s) out _ tt); from = λ k i. z.from k (fewer_has xs ys o k i) };
+      changes = λ xs ys out o x m u z.
+          record {
+            since = since_then _ os (out ++ outputs.Note x ∷ []) _ (since_then _ os out _ z.since (since_one (Block_one n s) out (outputs.Note x) tt)) (since_one (Block_one n s) (out ++ outputs.Note x ∷ []) _ tt);
+            from = λ k i. z.from k (fewer_has xs ys o k i);
+          };
+      stages = λ xs ys out e z. record { since = z.since; from = λ k i. z.from k (subst (λ l. Has k l) (sym e) i) };
     }
   where
     neutral : (o : Output) → Neutral c o → Block_one n s o
@@ -192,35 +206,43 @@ pub record Rule_left (n : ℕ) (t u : Turn) : Type 0 where
   pub knows : Knows n u.here.server u.here.store.extents
   pub placed : Since (Placed_one n) t.out u.out
 
+-- It leaves no other operations than there were.
+pub record Rule_keeps (n : ℕ) (t u : Turn) : Type 0 where
+  pub left : Rule_left n t u
+  pub from : From (map key t.operations) u.operations
+
 abbrev pub Rule_places : ℕ → (Turn → Turn) → Type 0
 Rule_places n rule = (t : Turn) → Fit t.here → Knows n t.here.server t.here.store.extents → Rule_left n t (rule t)
 
+abbrev pub Rule_kept : ℕ → (Turn → Turn) → Type 0
+Rule_kept n rule = (t : Turn) → Fit t.here → Knows n t.here.server t.here.store.extents → Rule_keeps n t (rule t)
+
 abbrev Own : ℕ → Turn → (ServerId → Option ClientSession → Option Stamp → Type 0) → Turn → Type 0
-Own n t C u = Stands n t.id t.config (Blocks n t.here.server t.out) C u
+Own n t C u = Stands n t.id t.config (Blocks n t.here.server t.out (map key t.operations)) C u
 
 own_begins : (n : ℕ) (t : Turn) (C : ServerId → Option ClientSession → Option Stamp → Type 0) → C t.here.server t.here.session t.here.greeting → Knows n t.here.server t.here.store.extents → Own n t C t
-own_begins n t C c k = record { id = refl; config = refl; done = since_none _ t.out; own = k; cond = c }
+own_begins n t C c k = record { id = refl; config = refl; done = record { since = since_none _ t.out; from = λ k i. i }; own = k; cond = c }
 
-joined : (n : ℕ) (t u : Turn) (C : ServerId → Option ClientSession → Option Stamp → Type 0) → Since (Tagged_one t.here.server) t.out u.out → Own n t C u → Rule_left n t u
-joined n t u C a w = record { knows = w.own; placed = since_with _ _ _ (both_placed n t.here.server) t.out u.out a w.done }
+joined : (n : ℕ) (t u : Turn) (C : ServerId → Option ClientSession → Option Stamp → Type 0) → Since (Tagged_one t.here.server) t.out u.out → Own n t C u → Rule_keeps n t u
+joined n t u C a w = record { left = record { knows = w.own; placed = since_with _ _ _ (both_placed n t.here.server) t.out u.out a w.done.since }; from = w.done.from }
 
-pub passes_place : (n : ℕ) (now : Stamp) (tick : Bool) → Rule_places n (cp.passes now tick)
+pub passes_place : (n : ℕ) (now : Stamp) (tick : Bool) → Rule_kept n (cp.passes now tick)
 passes_place n now tick t f k =
     let s = t.here.server in
     joined n t (cp.passes now tick t) (Usable (λ v. v ≡ s)) (changes_tagged now t _ (c_passes now tick t))
-    (s_passes n (λ v. v ≡ s) t.id t.config (Blocks n s t.out) (blocks_last n s t.id t.out) now tick t (own_begins n t (Usable (λ v. v ≡ s)) (λ e. refl) k))
+    (s_passes n (λ v. v ≡ s) t.id t.config (Blocks n s t.out (map key t.operations)) (blocks_last n s t.id t.out (map key t.operations)) now tick t (own_begins n t (Usable (λ v. v ≡ s)) (λ e. refl) k))
 
-pub hear_places : (n : ℕ) (now : Stamp) (h : Header) (b : Body) → ((s : ServerId) → h.from ≡ server_node s → Own_body n s b) → Rule_places n (cr.hear now h b)
+pub hear_places : (n : ℕ) (now : Stamp) (h : Header) (b : Body) → ((s : ServerId) → h.from ≡ server_node s → Own_body n s b) → Rule_kept n (cr.hear now h b)
 hear_places n now h b o t f k =
     let s = t.here.server in
     joined n t (cr.hear now h b t) (Usable (λ v. v ≡ s)) (changes_tagged now t _ (c_hear now h b t f.fresh))
-    (g_hear n (λ v. v ≡ s) t.id t.config (Blocks n s t.out) (blocks_last n s t.id t.out) now h b t o (own_begins n t (Begun (λ v. v ≡ s)) (λ e. refl) k))
+    (g_hear n (λ v. v ≡ s) t.id t.config (Blocks n s t.out (map key t.operations)) (blocks_last n s t.id t.out (map key t.operations)) now h b t o (own_begins n t (Begun (λ v. v ≡ s)) (λ e. refl) k))
 
-pub finish_places : (n : ℕ) (now : Stamp) (number : ℕ) (r : Option (Option (Tag × List ℕ))) → Rule_places n (cl.finish number r)
+pub finish_places : (n : ℕ) (now : Stamp) (number : ℕ) (r : Option (Option (Tag × List ℕ))) → Rule_kept n (cl.finish number r)
 finish_places n now number r t f k =
     let s = t.here.server in
     joined n t (cl.finish number r t) (Usable (λ v. v ≡ s)) (finished_tagged now number (is_done r) t _ (finish_is now number r t))
-    (w_finish n (λ v. v ≡ s) t.id t.config (Blocks n s t.out) (blocks_last n s t.id t.out) (Usable (λ v. v ≡ s)) number r t (own_begins n t (Usable (λ v. v ≡ s)) (λ e. refl) k))
+    (w_finish n (λ v. v ≡ s) t.id t.config (Blocks n s t.out (map key t.operations)) (blocks_last n s t.id t.out (map key t.operations)) (Usable (λ v. v ≡ s)) number r t (own_begins n t (Usable (λ v. v ≡ s)) (λ e. refl) k))
 
 lose_tagged : (now : Stamp) (t u : Turn) → Loses now t u → Since (Tagged_one t.here.server) t.out u.out
 lose_tagged now t _ (Is_lasting n) = since_none _ t.out
@@ -228,11 +250,11 @@ lose_tagged now t _ (Is_lost s e n v c) =
     since_then _ t.out (t.out ++ outputs.Note (notes.Lost t.here.server t.here.life) ∷ []) v.out (since_one (Tagged_one t.here.server) t.out (outputs.Note (notes.Lost t.here.server t.here.life)) tt)
     (changes_tagged now (note t (notes.Lost t.here.server t.here.life)) v c)
 
-pub lose_places : (n : ℕ) (now : Stamp) → Rule_places n (cl.lose now)
+pub lose_places : (n : ℕ) (now : Stamp) → Rule_kept n (cl.lose now)
 lose_places n now t f k =
     let s = t.here.server in
     joined n t (cl.lose now t) (Begun (λ v. v ≡ s)) (lose_tagged now t _ (lose_is now t))
-    (w_lose n (λ v. v ≡ s) t.id t.config (Blocks n s t.out) (blocks_last n s t.id t.out) now t (own_begins n t (Lasting t.config now (λ v. v ≡ s)) (λ e. refl) k))
+    (w_lose n (λ v. v ≡ s) t.id t.config (Blocks n s t.out (map key t.operations)) (blocks_last n s t.id t.out (map key t.operations)) now t (own_begins n t (Lasting t.config now (λ v. v ≡ s)) (λ e. refl) k))
 
 -- An ask: at most an answer is said.
 pub ask_places : (n : ℕ) (s : ServerId) (op : ℕ) (ask : Ask) → Rule_places n (only_at s (cl.take_ask op ask))
@@ -256,6 +278,9 @@ pub record All_placed (n : ℕ) (t u : ClientTurn) : Type 0 where
   pub knows : (b : Association) → Has b u.state.associations → Knows n b.server b.store.extents
   pub placed : Since (Placed_one n) t.out u.out
 
+only_left : (n : ℕ) (rule : Turn → Turn) → Rule_kept n rule → Rule_places n rule
+only_left n rule r t f k = (r t f k).left
+
 these_place : (n : ℕ) (rule : Turn → Turn) → Rule_places n rule → (al : List Association) (t : ClientTurn) → ((b : Association) → Has b al → Fit b) → ((b : Association) → Has b al → Knows n b.server b.store.extents) →
     ((b : Association) → Has b t.state.associations → Knows n b.server b.store.extents) → All_placed n t (at_these rule al t)
 unfolding at_these
@@ -275,12 +300,24 @@ pub each_place : (n : ℕ) (rule : Turn → Turn) → Rule_places n rule → (t 
 unfolding at_each
 each_place n rule one t f k = let r = these_place n rule one t.state.associations (with_associations [] t) f k (λ b i. absurd i) in record { knows = r.knows; placed = r.placed }
 
+-- the operations that a rule at each server leaves
+pub these_from : (n : ℕ) (rule : Turn → Turn) → Rule_kept n rule → (al : List Association) (t : ClientTurn) → ((b : Association) → Has b al → Fit b) → ((b : Association) → Has b al → Knows n b.server b.store.extents) →
+    From (map key t.state.operations) (at_these rule al t).state.operations
+unfolding at_these
+these_from n rule one [] t f k = λ x i. i
+these_from n rule one (a ∷ al) t f k = λ x i. (one (enter t a) (f a (inl refl)) (k a (inl refl))).from x (these_from n rule one al (leave t (rule (enter t a))) (λ b j. f b (inr j)) (λ b j. k b (inr j)) x i)
+
+pub each_from : (n : ℕ) (rule : Turn → Turn) → Rule_kept n rule → (t : ClientTurn) → ((b : Association) → Has b t.state.associations → Fit b) → ((b : Association) → Has b t.state.associations → Knows n b.server b.store.extents) →
+    From (map key t.state.operations) (at_each rule t).state.operations
+unfolding at_each
+each_from n rule one t f k = these_from n rule one t.state.associations (with_associations [] t) f k
+
 -- What an input tells of places.
 abbrev pub Input_tells : ℕ → ClientInput → Type 0
 Input_tells n (inputs.Control m) = (s : ServerId) → m.header.from ≡ server_node s → Own_body n s m.body
 Input_tells n input = Unit {0}
 
-input_places : (n : ℕ) (now : Stamp) (input : ClientInput) (t : ClientTurn) → Input_tells n input → ((b : Association) → Has b t.state.associations → Fit b) → ((b : Association) → Has b t.state.associations → Knows n b.server b.store.extents) →
+pub input_places : (n : ℕ) (now : Stamp) (input : ClientInput) (t : ClientTurn) → Input_tells n input → ((b : Association) → Has b t.state.associations → Fit b) → ((b : Association) → Has b t.state.associations → Knows n b.server b.store.extents) →
     All_placed n t (cl.take_input t now input)
 unfolding cl.take_input cl.app cl.app_known cl.done cr.receive cr.receive_here
 input_places n now inputs.Tick t told f k = record { knows = k; placed = since_none _ t.out }
@@ -296,9 +333,9 @@ input_places n now (inputs.App op ask) t told f k = full (cl.is_full t.state)
 input_places n now (inputs.Control m) t told f k = go (m.header.to == t.state.id.0)
   where
     go : (b : Bool) → All_placed n t (if b then at_each (cr.hear now m.header m.body) t else t)
-    go true = each_place n (cr.hear now m.header m.body) (hear_places n now m.header m.body told) t f k
+    go true = each_place n (cr.hear now m.header m.body) (only_left n (cr.hear now m.header m.body) (hear_places n now m.header m.body told)) t f k
     go false = record { knows = k; placed = since_none _ t.out }
-input_places n now (inputs.Done number r) t told f k = each_place n (cl.finish number r) (finish_places n now number r) t f k
+input_places n now (inputs.Done number r) t told f k = each_place n (cl.finish number r) (only_left n (cl.finish number r) (finish_places n now number r)) t f k
 
 -- The whole step.
 pub step_placed : (n : ℕ) (c : ClientId) (s : ClientState) (now : Stamp) (input : ClientInput) → Input_tells n input → ((b : Association) → Has b s.associations → Fit b) → ((b : Association) → Has b s.associations → Knows n b.server b.store.extents) →
@@ -328,13 +365,13 @@ step_placed n c s now input told f k = whole (since_then _ [] t.out v.out a.plac
     fit_u = pairs_has (Goes t.state.config now) Fit Fit (λ x y r. r.fit) t.state.associations u.state.associations heard.pairs fit_t
 
     a : All_placed n (client_turn s []) t
-    a = each_place n (cl.lose now) (lose_places n now) (client_turn s []) f k
+    a = each_place n (cl.lose now) (only_left n (cl.lose now) (lose_places n now)) (client_turn s []) f k
 
     b : All_placed n t u
     b = input_places n now input t told fit_t a.knows
 
     d : All_placed n u v
-    d = each_place n (cp.passes now (cl.is_tick input)) (passes_place n now (cl.is_tick input)) u fit_u b.knows
+    d = each_place n (cp.passes now (cl.is_tick input)) (only_left n (cp.passes now (cl.is_tick input)) (passes_place n now (cl.is_tick input))) u fit_u b.knows
 
     whole : Since (Placed_one n) [] v.out → Placed n v.out
     whole z = subst (Placed n) (sym z.out) z.each
