@@ -57,10 +57,10 @@ module _ (past : List Step) (size : ℕ) (c : ClientId) (before : ClientState) (
   abbrev pub Right_life : Association → Type 0
   Right_life a = life_with site.node.state a.server ≡ a.life
 
-  right_next : (a b : Association) → a.server ≡ b.server → a.life ≡ b.life → Right_life a → Right_life b
+  pub right_next : (a b : Association) → a.server ≡ b.server → a.life ≡ b.life → Right_life a → Right_life b
   right_next a b s l h = ap (life_with site.node.state) (sym s) ∙ h ∙ l
 
-  others_next : (s t : ServerId) (others : List Association) → s ≡ t → Of_others s others → Of_others t others
+  pub others_next : (s t : ServerId) (others : List Association) → s ≡ t → Of_others s others → Of_others t others
   others_next s t others e h b i z = h b i (z ∙ ap (λ (x : ServerId). x.0) (sym e))
 
   pub changes_around : (t u : Turn) → Changes now t u → (others : List Association) → Of_others t.here.server others → Right_life t.here → Placed size u.out → In t others → In u others
@@ -184,11 +184,11 @@ module _ (past : List Step) (size : ℕ) (c : ClientId) (before : ClientState) (
     pub latests : (b : Association) → Has b al → Latest_own c (After c before sc t.out).world.log b
 
   -- those before and behind one of them
-  has_mid : (done rest : List Association) (a : Association) → Has a (done ++ a ∷ rest)
+  pub has_mid : (done rest : List Association) (a : Association) → Has a (done ++ a ∷ rest)
   has_mid [] rest a = inl refl
   has_mid (d ∷ done) rest a = inr (has_mid done rest a)
 
-  has_others : (done rest : List Association) (a b : Association) → Has b (done ++ rest) → Has b (done ++ a ∷ rest)
+  pub has_others : (done rest : List Association) (a b : Association) → Has b (done ++ rest) → Has b (done ++ a ∷ rest)
   has_others [] rest a b i = inr i
   has_others (d ∷ done) rest a b (inl e) = inl e
   has_others (d ∷ done) rest a b (inr i) = inr (has_others done rest a b i)
@@ -203,7 +203,7 @@ module _ (past : List Step) (size : ℕ) (c : ClientId) (before : ClientState) (
       go (inl j) = inl (inr j)
       go (inr j) = inr j
 
-  others_apart : (done rest : List Association) (a : Association) → Once (map server_number (done ++ a ∷ rest)) → Of_others a.server (done ++ rest)
+  pub others_apart : (done rest : List Association) (a : Association) → Once (map server_number (done ++ a ∷ rest)) → Of_others a.server (done ++ rest)
   others_apart [] rest a o b i e = o.first (server_number b) (has_number rest b i) (sym e)
   others_apart (d ∷ done) rest a o b (inl q) e = o.first (server_number a) (has_number (done ++ a ∷ rest) a (has_mid done rest a)) (ap server_number (sym q) ∙ e)
   others_apart (d ∷ done) rest a o b (inr i) e = others_apart done rest a o.rest b i e
@@ -213,7 +213,7 @@ module _ (past : List Step) (size : ℕ) (c : ClientId) (before : ClientState) (
   numbers_kept (d ∷ done) rest a u e = ap (λ z. server_number d ∷ z) (numbers_kept done rest a u e)
 
   -- with one of them after the rule
-  all_left : (t : ClientTurn) (a : Association) (rest : List Association) (u : Turn) → Next now (enter t a) u → In u (t.state.associations ++ rest) → All t (t.state.associations ++ a ∷ rest) → All (leave t u) ((t.state.associations ++ u.here ∷ []) ++ rest)
+  pub all_left : (t : ClientTurn) (a : Association) (rest : List Association) (u : Turn) → Next now (enter t a) u → In u (t.state.associations ++ rest) → All t (t.state.associations ++ a ∷ rest) → All (leave t u) ((t.state.associations ++ u.here ∷ []) ++ rest)
   all_left t a rest u x r h =
       record {
         cared = λ b i. each b (λ z. Cared past (After c before sc u.out).world.commands (After c before sc u.out).world.log c site.starts u.next_command z) r.around.here (r.around.cared b) (has_split t.state.associations rest u.here b i);
@@ -229,7 +229,7 @@ module _ (past : List Step) (size : ℕ) (c : ClientId) (before : ClientState) (
       each b P p f (inl j) = f j
       each b P p f (inr e) = subst P (sym e) p
 
-  these_grow : (rule : Turn → Turn) → ((t : Turn) → Fit t.here → Next now t (rule t)) → (al : List Association) (t : ClientTurn) → ((b : Association) → Has b al → Fit b) → Grows t.out (at_these rule al t).out
+  pub these_grow : (rule : Turn → Turn) → ((t : Turn) → Fit t.here → Next now t (rule t)) → (al : List Association) (t : ClientTurn) → ((b : Association) → Has b al → Fit b) → Grows t.out (at_these rule al t).out
   unfolding at_these
   these_grow rule next [] t f = grows_none t.out
   these_grow rule next (a ∷ rest) t f =

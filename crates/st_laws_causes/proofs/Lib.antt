@@ -9,4 +9,5 @@ pub mod Events
 pub mod Drops
 pub mod Unhard
 pub mod Operating
+pub mod Hardly
 pub mod Law
