@@ -10,4 +10,5 @@ pub mod Drops
 pub mod Unhard
 pub mod Operating
 pub mod Hardly
+pub mod Answering
 pub mod Law

@@ -278,7 +278,7 @@ pub record All_placed (n : ℕ) (t u : ClientTurn) : Type 0 where
   pub knows : (b : Association) → Has b u.state.associations → Knows n b.server b.store.extents
   pub placed : Since (Placed_one n) t.out u.out
 
-only_left : (n : ℕ) (rule : Turn → Turn) → Rule_kept n rule → Rule_places n rule
+pub only_left : (n : ℕ) (rule : Turn → Turn) → Rule_kept n rule → Rule_places n rule
 only_left n rule r t f k = (r t f k).left
 
 these_place : (n : ℕ) (rule : Turn → Turn) → Rule_places n rule → (al : List Association) (t : ClientTurn) → ((b : Association) → Has b al → Fit b) → ((b : Association) → Has b al → Knows n b.server b.store.extents) →

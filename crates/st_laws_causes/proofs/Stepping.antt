@@ -160,13 +160,13 @@ module _ (past : List Step) (w : World) (c : ClientId) (old site : ClientSite) (
   lost : Losses_left c s now (client_turn s []) t
   lost = losses_left c s now (client_turn s []) refl m.fit
 
-  fit_t : (a : Association) → Has a t.state.associations → Fit a
+  pub fit_t : (a : Association) → Has a t.state.associations → Fit a
   fit_t = pairs_has (Lost_or_not s.config now) Fit Fit (λ a b r. r.fit) s.associations t.state.associations lost.pairs m.fit
 
   heard : Left_all c s t.state.config now t u
   heard = input_left c s now input t fit_t
 
-  fit_u : (a : Association) → Has a u.state.associations → Fit a
+  pub fit_u : (a : Association) → Has a u.state.associations → Fit a
   fit_u = pairs_has (Goes t.state.config now) Fit Fit (λ a b r. r.fit) t.state.associations u.state.associations heard.pairs fit_t
 
   passed : (x : Turn) → Fit x.here → Next now x (cp.passes now (cl.is_tick input) x)
@@ -287,7 +287,7 @@ module _ (past : List Step) (w : World) (c : ClientId) (old site : ClientSite) (
           latests = λ b i. subst (λ es. Latest_own c es b) (sym z.log) (g.latests b i);
         }
 
-    input_all : (i : ClientInput) → Input_told past sc c site.starts i → Placed size (cl.take_input t now i).out → A (cl.take_input t now i)
+    pub input_all : (i : ClientInput) → Input_told past sc c site.starts i → Placed size (cl.take_input t now i).out → A (cl.take_input t now i)
     unfolding cl.take_input cl.app cl.app_known cl.done cr.receive cr.receive_here
     input_all inputs.Tick told o = begins
     input_all (inputs.App op ask) told o = full (cl.is_full t.state) o
@@ -312,7 +312,7 @@ module _ (past : List Step) (w : World) (c : ClientId) (old site : ClientSite) (
         each_all past size c s sc after own count holds now (cl.finish number result) (λ y f. finish_next now number result y)
         (λ y f others n live p r. finished_around past size c s sc after own count holds now number (is_done result) y (cl.finish number result y) (finish_is now number result y) told others n live p r) t o begins
 
-    work_grows : Grows u.out v.out
+    pub work_grows : Grows u.out v.out
     unfolding cl.work
     work_grows = each_grows past size c s sc after own count holds now (cp.passes now (cl.is_tick input)) passed u fit_u
 
