@@ -72,7 +72,7 @@ use Rattle.st_laws_causes.proofs.Placed.{Input_tells, Places_at, step_placed}
 use Rattle.st_laws_causes.proofs.FlushSteps.{Both_hold, client_after}
 
 -- Behind one more step.
-up_one : (past : List Step) (x : Step) (n : ℕ) → list_any (reports_failure n) past ≡ true → list_any (reports_failure n) (past ++ x ∷ []) ≡ true
+pub up_one : (past : List Step) (x : Step) (n : ℕ) → list_any (reports_failure n) past ≡ true → list_any (reports_failure n) (past ++ x ∷ []) ≡ true
 up_one [] x n h = cc
 up_one (y ∷ past) x n h = go (reports_failure n y) h (up_one past x n)
   where
@@ -122,6 +122,34 @@ module _ (past : List Step) (x : Step) where
         latest_own = latest_marked w v cs (ap (map owner_of) l) h.latest_own;
       }
 
+  -- what is told at the end of a command: it was reported among these steps, or had its effect
+  pub told_of : (w : World) (k : ℕ) (ok : Bool) (d : DiskCommand) → disks.command w.disks k ≡ Some d → (ok ≡ true → d.effected ≡ true) → x.event ≡ events.Report k ok → (y : IssuedCommand) → issued_of w k ≡ Some y → (site : ClientSite) → ev.is_same_instance y site ≡ true →
+      (sc : Scene) → sc.world.commands ≡ w.commands → sc.world.disks ≡ w.disks → Input_told more sc y.client site.starts (ev.end_told w k ok y)
+  told_of w k ok d is done e y q site t sc a b = by ok refl
+    where
+      instance_ : y.starts ≡ site.starts
+      instance_ = sym (eqb-true site.starts y.starts (and_true site.node.running (site.starts == y.starts) t).1)
+
+      by : (b' : Bool) → ok ≡ b' → Told more sc y.client site.starts y.number (Rattle.st_laws_pages.proofs.Losing.is_done (ev.result_of b' (disks.sample w.disks k)))
+      by true z =
+          record {
+            k = k;
+            command = y;
+            is = ap (λ xs. numbered xs k) a ∙ q;
+            its = record { client = refl; instance_ = instance_; number_is = refl };
+            failed = λ f. cc f;
+            done = λ f. (d, ap (λ ds. disks.command ds k) b ∙ is, done z);
+          }
+      by false z =
+          record {
+            k = k;
+            command = y;
+            is = ap (λ xs. numbered xs k) a ∙ q;
+            its = record { client = refl; instance_ = instance_; number_is = refl };
+            failed = λ f. reported_one past x k (e ∙ ap (events.Report k) z);
+            done = λ f. cc f;
+          }
+
   -- A client's step.
   module _ (w : World) (size : ℕ) (l : LivesHold w) (pl : Places_at size w) where
     takes_both : (c : ClientId) (input : ClientInput) (old site : ClientSite) → site_of w c ≡ Some old → old.node ≡ site.node → old.starts ≡ site.starts → Input_tells size input →
@@ -155,34 +183,8 @@ module _ (past : List Step) (x : Step) where
     told_both k ok d is done e None q h = both_same w h
     told_both k ok d is done e (Some y) q h = at_site (site_of w y.client) refl
       where
-        instance_ : (site : ClientSite) → ev.is_same_instance y site ≡ true → y.starts ≡ site.starts
-        instance_ site t = sym (eqb-true site.starts y.starts (and_true site.node.running (site.starts == y.starts) t).1)
-
-        told : (site : ClientSite) → ev.is_same_instance y site ≡ true → (sc : Scene) → sc.world.commands ≡ w.commands → sc.world.disks ≡ w.disks → Input_told more sc y.client site.starts (ev.end_told w k ok y)
-        told site t sc a b = by ok refl
-          where
-            by : (b' : Bool) → ok ≡ b' → Told more sc y.client site.starts y.number (Rattle.st_laws_pages.proofs.Losing.is_done (ev.result_of b' (disks.sample w.disks k)))
-            by true z =
-                record {
-                  k = k;
-                  command = y;
-                  is = ap (λ xs. numbered xs k) a ∙ q;
-                  its = record { client = refl; instance_ = instance_ site t; number_is = refl };
-                  failed = λ f. cc f;
-                  done = λ f. (d, ap (λ ds. disks.command ds k) b ∙ is, done z);
-                }
-            by false z =
-                record {
-                  k = k;
-                  command = y;
-                  is = ap (λ xs. numbered xs k) a ∙ q;
-                  its = record { client = refl; instance_ = instance_ site t; number_is = refl };
-                  failed = λ f. reported_one past x k (e ∙ ap (events.Report k) z);
-                  done = λ f. cc f;
-                }
-
         at : (site : ClientSite) → site_of w y.client ≡ Some site → (b : Bool) → ev.is_same_instance y site ≡ b → Both_hold more (if b then ev.client_takes w y.client (ev.end_told w k ok y) site else ev.quiet w).world
-        at site s true t = takes_both y.client (ev.end_told w k ok y) site site s refl refl tt (told site t) h
+        at site s true t = takes_both y.client (ev.end_told w k ok y) site site s refl refl tt (told_of w k ok d is done e y q site t) h
         at site s false t = both_same w h
 
         at_site : (s : Option ClientSite) → site_of w y.client ≡ s → Both_hold more (ev.tells_client w k ok y s).world
@@ -339,16 +341,29 @@ module _ (past : List Step) (x : Step) where
                 bad u = cc
         cover z f y r (inr q) = f.covered y q r
 
-  no_report : (w : World) (k : ℕ) (ok : Bool) → disks.command w.disks k ≡ None → adm.refusal w (events.Report k ok) ≡ None → ⊥
+  pub no_report : (w : World) (k : ℕ) (ok : Bool) → disks.command w.disks k ≡ None → adm.refusal w (events.Report k ok) ≡ None → ⊥
   unfolding adm.refusal adm.refused_report
   no_report w k ok e r = no (ap (adm.refused_report w k ok) (sym e) ∙ r)
     where
       no : adm.refused_report w k ok None ≡ None → ⊥
       no q = cc
 
-  lacks_none : (ok : Bool) (d : DiskCommand) → disks.lacks_effect ok d ≡ false → ok ≡ true → d.effected ≡ true
+  pub lacks_none : (ok : Bool) (d : DiskCommand) → disks.lacks_effect ok d ≡ false → ok ≡ true → d.effected ≡ true
   lacks_none true d e q = not_false d.effected e
   lacks_none false d e q = cc
+
+  -- in the world in which the end of a command is told
+  pub own_set : (w : World) (ok : Bool) (d : DiskCommand) (n : ℕ) → disks.command w.disks n ≡ Some d → disks.command (disks.with_command n (disks.reported ok d) w.disks) n ≡ Some (disks.reported ok d)
+  own_set w ok d zero z = cc
+  own_set w ok d (suc n) z = set_own w.disks.commands n (disks.reported ok d) d z
+
+  set_stands : (w : World) (ok : Bool) (d : DiskCommand) (n : ℕ) → disks.command w.disks n ≡ Some d → Commands_stand w.log w.commands w.disks.commands → Commands_stand w.log w.commands (disks.with_command n (disks.reported ok d) w.disks).commands
+  set_stands w ok d zero z h = cc
+  set_stands w ok d (suc n) z h = report_stands w.log w.commands w.disks.commands n ok d z h
+
+  pub reported_both : (w : World) (k : ℕ) (ok : Bool) (d : DiskCommand) → disks.command w.disks k ≡ Some d → Both_hold past w → Both_hold past (reported_world w k ok d)
+  reported_both w k ok d q h =
+      record { flush = still_same w (reported_world w k ok d) refl refl refl refl refl refl refl h.flush; writes = record { commands = set_stands w ok d k q h.writes.commands; latest_own = latest_marked w (reported_world w k ok d) refl refl h.writes.latest_own } }
 
   report_both : (w : World) (size : ℕ) (k : ℕ) (ok : Bool) → adm.refusal w (events.Report k ok) ≡ None → x.event ≡ events.Report k ok → LivesHold w → Places_at size w → Both_hold past w → Both_hold more (ev.reports_of w k ok).world
   report_both w size k ok r e l pl h = go (disks.command w.disks k) refl
@@ -358,16 +373,8 @@ module _ (past : List Step) (x : Step) where
       go (Some d) q =
           let f = report_finds w k ok d q r in
           subst (λ (s : Scene). Both_hold more s.world) (sym (report_is w k ok d f))
-          (told_both (reported_world w k ok d) size (record { lives = l.lives; known = l.known }) (record { count = pl.count; told = pl.told; known = pl.known }) k ok (disks.reported ok d) (own_set k q) (lacks_none ok d f.done) e (issued_of w k) refl
-          (record { flush = still_same w (reported_world w k ok d) refl refl refl refl refl refl refl h.flush; writes = record { commands = set_stands k q; latest_own = latest_marked w (reported_world w k ok d) refl refl h.writes.latest_own } }))
-        where
-          own_set : (n : ℕ) → disks.command w.disks n ≡ Some d → disks.command (disks.with_command n (disks.reported ok d) w.disks) n ≡ Some (disks.reported ok d)
-          own_set zero z = cc
-          own_set (suc n) z = set_own w.disks.commands n (disks.reported ok d) d z
-
-          set_stands : (n : ℕ) → disks.command w.disks n ≡ Some d → Commands_stand w.log w.commands (disks.with_command n (disks.reported ok d) w.disks).commands
-          set_stands zero z = cc
-          set_stands (suc n) z = report_stands w.log w.commands w.disks.commands n ok d z h.writes.commands
+          (told_both (reported_world w k ok d) size (record { lives = l.lives; known = l.known }) (record { count = pl.count; told = pl.told; known = pl.known }) k ok (disks.reported ok d) (own_set w ok d k q) (lacks_none ok d f.done) e (issued_of w k) refl
+          (reported_both w k ok d q h))
 
   -- An effect.
   effect_writes : (w : World) (k : ℕ) → adm.refusal w (events.Effect k) ≡ None → Writes_stand w → Writes_stand (ev.effects w k).world

@@ -1,4 +1,4 @@
--- Drops have a cause, at each step and over whole runs, with no premise.
+-- Drops have a cause and hard is hard, at each step and over whole runs, with no premise.
 use Rattle.std.proofs.Common.{◌≡◌, ℕ, ◌+◌, ◌≤◌, ◌<◌, true, inl, inr, subst, List, [], ◌∷◌, ◌++◌, Option, Some, None, Ok, Err, refl, sym, ap, ◌∙◌, arith}
 use Rattle.std.specs.Prelude.{Result, length, map, suc, zero, pred, slice_get, option_map}
 use Rattle.st_base.specs.declared.config.Config.{Config}
@@ -45,6 +45,9 @@ use Rattle.st_laws_causes.proofs.Drops.{causes_owed}
 use Rattle.st_laws_causes.proofs.Events.{counted_both, happens_both}
 use Rattle.st_laws_causes.proofs.FlushSteps.{Both_hold}
 use Rattle.st_laws_causes.proofs.Placed.{Places_at, places_at}
+use Rattle.st_rules.specs.Lines.{AtEach}
+use Rattle.st_rules.specs.Safety.{HardIsHard, Promise}
+use Rattle.st_laws_causes.proofs.HardEvents.{Asked_hold, Asked_so, happens_left}
 
 numbers_get : (a c i m : ℕ) → slice_get (numbers a c) i ≡ Some m → m ≡ a + i
 unfolding numbers
@@ -131,10 +134,12 @@ record Stand (past : List Step) (t : Traced) : Type 0 where
   fates : FatesHold t.world
   both : Both_hold past t.world
   causes : Causes_hold past t.world
+  asks : Asked_hold past t.world
 
 -- One step, in a world whose places are known.
 record Left (past : List Step) (t : Traced) (e : Event) (sc : Scene) : Type 0 where
   promise : DropsHaveACause past (step t e sc)
+  hard : HardIsHard past (step t e sc)
   stand : Stand (past ++ step t e sc ∷ []) (traced_after e t sc)
 
 one_step : (past : List Step) (t : Traced) (e : Event) (sc : Scene) → ev.world_step t.world e ≡ Ok sc → PlacesHold t.world → Stand past t → Left past t e sc
@@ -160,7 +165,12 @@ one_step past t e sc is0 places s = go (adm.refusal t.world e) refl is0
         (happens_causes past (step t e sc) u e refl (λ k s. refl) (causes_owed past u (length u.servers) e (λ steps w. advance_owed past u steps (ap (adm.refusal u) (sym w) ∙ same q) f b.flush) f pl s.causes.crashes)
         (record { caused = s.causes.caused; crashes = s.causes.crashes })) in
         let n : Both_hold (past ++ step t e sc ∷ []) sc.world = subst (λ (z : Scene). Both_hold (past ++ step t e sc ∷ []) z.world) y (happens_both past (step t e sc) u e (length u.servers) (same q) refl f.lives pl b) in
-        record { promise = c.caused; stand = record { fates = fates_law t.world e sc is0 s.fates; both = n; causes = c } }
+        let h = happens_left past (step t e sc) u e (length u.servers) (same q) refl (ap (λ (z : Scene). z.world) (sym y)) f pl b s.asks in
+        record {
+          promise = c.caused;
+          hard = subst (λ (z : Scene). AtEach (safety.IsHardAt past (step t e sc)) sc.world t.world.log z.seen) y h.hard;
+          stand = record { fates = fates_law t.world e sc is0 s.fates; both = n; causes = c; asks = subst (λ (z : Scene). Asked_hold (past ++ step t e sc ∷ []) z.world) y h.asks };
+        }
       where
         ok_is : ◌≡◌ {A = Result Scene WorldRefusal} (Ok (ev.happens u e)) (Ok sc) → ev.happens u e ≡ sc
         ok_is z = cc
@@ -172,15 +182,21 @@ one_step past t e sc is0 places s = go (adm.refusal t.world e) refl is0
         no : ◌≡◌ {A = Result Scene WorldRefusal} (Err x) (Ok sc) → ⊥
         no z = cc
 
-causes_throughout : (es : List Event) (past : List Step) (t : Traced) → PlacesHold t.world → Stand past t → Throughout Places_after past (steps es t) → Throughout DropsHaveACause past (steps es t)
+-- what is promised of a step
+record Kept (past : List Step) (x : Step) : Type 0 where
+  causes : DropsHaveACause past x
+  hard : HardIsHard past x
+
+-- a promise that each step keeps is kept throughout
+kept_throughout : (P : Promise) → ((past : List Step) (x : Step) → Kept past x → P past x) → (es : List Event) (past : List Step) (t : Traced) → PlacesHold t.world → Stand past t → Throughout Places_after past (steps es t) → Throughout P past (steps es t)
 unfolding steps safety.steps_on Throughout
-causes_throughout [] past t pl s o = tt
-causes_throughout (e ∷ es) past t pl s o = go (ev.world_step t.world e) refl o (λ past t. causes_throughout es past t)
+kept_throughout P f [] past t pl s o = tt
+kept_throughout P f (e ∷ es) past t pl s o = go (ev.world_step t.world e) refl o (λ past t. kept_throughout P f es past t)
   where
     go : (r : Result Scene WorldRefusal) → ev.world_step t.world e ≡ r → Throughout Places_after past (safety.steps_on (steps es) t e r) →
-        ((past : List Step) (t : Traced) → PlacesHold t.world → Stand past t → Throughout Places_after past (steps es t) → Throughout DropsHaveACause past (steps es t)) → Throughout DropsHaveACause past (safety.steps_on (steps es) t e r)
+        ((past : List Step) (t : Traced) → PlacesHold t.world → Stand past t → Throughout Places_after past (steps es t) → Throughout P past (steps es t)) → Throughout P past (safety.steps_on (steps es) t e r)
     go (Err r) q o g = tt
-    go (Ok sc) q o g = let z = one_step past t e sc q pl s in (z.promise, g (past ++ step t e sc ∷ []) (traced_after e t sc) o.0 z.stand o.1)
+    go (Ok sc) q o g = let z = one_step past t e sc q pl s in (f past (step t e sc) (record { causes = z.promise; hard = z.hard }), g (past ++ step t e sc ∷ []) (traced_after e t sc) o.0 z.stand o.1)
 
 -- The start.
 fresh_places : (k : Config) (clients servers d b form : ℕ) → PlacesHold (fresh_world k clients servers d b form)
@@ -218,9 +234,27 @@ fresh_writes k clients servers d b form =
         no : (x : DirtyPage) → ◌≡◌ {A = Option DirtyPage} None (Some x) → ⊥
         no x e = cc
 
+fresh_asks : (k : Config) (clients servers d b form : ℕ) → Asked_hold [] (fresh_world k clients servers d b form)
+unfolding fresh_world cl.fresh_client
+fresh_asks k clients servers d b form = λ c site e. subst (Asked_so [] c) (sym (site_is k clients servers c.0 site e).0) (record { count = refl; keys = λ k i. absurd i })
+
+fresh_stand : (k : Config) (clients servers d b form : ℕ) → Stand [] (traced (fresh_world k clients servers d b form))
+fresh_stand k clients servers d b form =
+    record {
+      fates = fresh_fates k clients servers d b form;
+      both = record { flush = fresh_flush k clients servers d b form; writes = fresh_writes k clients servers d b form };
+      causes = fresh_causes k clients servers d b form;
+      asks = fresh_asks k clients servers d b form;
+    }
+
+kept_law : (P : Promise) → ((past : List Step) (x : Step) → Kept past x → P past x) → In_every_run P
+kept_law P f k clients servers d b form es head =
+    kept_throughout P f es [] (traced (fresh_world k clients servers d b form)) (fresh_places k clients servers d b form) (fresh_stand k clients servers d b form) (places_law k clients servers d b form es head)
+
 -- drops have a cause, in every run
 pub causes_law : In_every_run DropsHaveACause
-causes_law k clients servers d b form es head =
-    causes_throughout es [] (traced (fresh_world k clients servers d b form)) (fresh_places k clients servers d b form)
-    (record { fates = fresh_fates k clients servers d b form; both = record { flush = fresh_flush k clients servers d b form; writes = fresh_writes k clients servers d b form }; causes = fresh_causes k clients servers d b form })
-    (places_law k clients servers d b form es head)
+causes_law = kept_law DropsHaveACause (λ past x k. k.causes)
+
+-- hard is hard, in every run
+pub hard_law : In_every_run HardIsHard
+hard_law = kept_law HardIsHard (λ past x k. k.hard)

@@ -11,4 +11,6 @@ pub mod Unhard
 pub mod Operating
 pub mod Hardly
 pub mod Answering
+pub mod HardSeen
+pub mod HardEvents
 pub mod Law
