@@ -1,0 +1,4 @@
+pub mod Client
+pub mod Step
+pub mod Server
+pub mod World
