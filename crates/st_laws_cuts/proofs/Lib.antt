@@ -2,3 +2,4 @@ pub mod Client
 pub mod Step
 pub mod Server
 pub mod World
+pub mod Law

@@ -176,7 +176,7 @@ answered_one c before (outputs.Send m) sc = other_seen c _ sc.seen _ tt
 answered_one c before (outputs.Submit number at what) sc = go (site_of sc.world c)
   where
     go : (o : Option ClientSite) → Answers_of c (outputs.Submit number at what ∷ []) sc.seen (ev.submits sc c o number at what).seen
-    go None d op a h = inl h
+    go None = λ d op a h. inl h
     go (Some site) = other_seen c _ sc.seen _ tt
 answered_one c before (outputs.Answer n b) sc = go
   where
@@ -200,7 +200,7 @@ answered_one c before (outputs.Note n) sc = go n
     go (notes.Lost s life) = other_seen c _ sc.seen _ tt
     go (notes.Accepted f p bytes) = other_seen c _ sc.seen _ tt
     go (notes.Patched f p at bytes) = other_seen c _ sc.seen _ tt
-    go n d op a h = inl h
+    go n = λ d op a h. inl h
 
 answered_said : (c : ClientId) (before : ClientState) (os : List Output) (sc : Scene) → Answers_of c os sc.seen (client_says_all c before os sc).seen
 unfolding client_says_all
@@ -225,7 +225,7 @@ module _ (past : List Step) (x : Step) (ms ns : List Message) (f : (m : Message)
   done_more c s life epoch number (bodies.Cut ino g p) h = record { at = h.at; among = has_left past _ h.at h.among; index = h.index; cut = h.cut; by = h.by; before = h.before; is = h.is }
   done_more c s life epoch number b h = h
 
-  acked_more : (c : ClientId) (s : ServerId) (life epoch number : ℕ) → Acked past ms c s life epoch number → Acked (past ++ x ∷ []) ns c s life epoch number
+  pub acked_more : (c : ClientId) (s : ServerId) (life epoch number : ℕ) → Acked past ms c s life epoch number → Acked (past ++ x ∷ []) ns c s life epoch number
   acked_more c s life epoch number a = record { by = a.by; among = f a.by a.among; is = a.is; done = done_more c s life epoch number a.by.body a.done }
 
 state_map : (A B : ℕ → Type 0) → ((n : ℕ) → A n → B n) → (x : SessionState) → Kept_state A x → Kept_state B x
@@ -392,7 +392,7 @@ module _ (past : List Step) (t : Traced) (e : Event) (d : Cuts_hold past t) wher
   client_step : (v : World) → v.clients ≡ t.world.clients → v.servers ≡ t.world.servers → v.net ≡ t.world.net → (c : ClientId) (i : ClientInput) (site old : ClientSite) → Takes c i site old → ((c : ClientId) → site.node.running ≡ false → ask_in c e ≡ None) →
       Next (ev.client_takes v c i site)
   unfolding ev.client_takes ev.client_took cl.node_step
-  client_step v cs ss net c i site old z quiet = go site.node.running refl
+  client_step v ps ss net c i site old z quiet = go site.node.running refl
     where
       now : Stamp
       now = clock_of v (nodes.Client c)
@@ -540,9 +540,9 @@ module _ (past : List Step) (t : Traced) (e : Event) (d : Cuts_hold past t) wher
           record {
             old = grow;
             new = λ m h. mine m (from m h);
-            clients = λ y r q. it y r (set_cases t.world.clients c.0 y.0 old (ev.at_node node site) r z.there (ap (λ w. numbered (with_numbered c.0 (ev.at_node node site) w) y.0) (sym cs) ∙ ap (λ w. numbered w y.0) (sym (f.clients ∙ said.clients)) ∙ q));
+            clients = λ y r q. it y r (set_cases t.world.clients c.0 y.0 old (ev.at_node node site) r z.there (ap (λ w. numbered (with_numbered c.0 (ev.at_node node site) w) y.0) (sym ps) ∙ ap (λ w. numbered w y.0) (sym (f.clients ∙ said.clients)) ∙ q));
             servers = λ s n q. server_more sc s n grow (d.servers s n (ap (λ w. numbered w s.0) (sym ss) ∙ ap (λ w. numbered w s.0) (sym (f.servers ∙ said.servers)) ∙ q));
-            few = subst (λ w. length w ≤ 16) (sym (f.clients ∙ said.clients)) (let y = set_length v.clients (pred c.0) (ev.at_node node site) in let w = d.few in let q = ap length cs in omega (arith, w, y, q));
+            few = subst (λ w. length w ≤ 16) (sym (f.clients ∙ said.clients)) (let y = set_length v.clients (pred c.0) (ev.at_node node site) in let w = d.few in let q = ap length ps in omega (arith, w, y, q));
             cuts = λ y op h. cut y op (answered_said c site.node.state u.out a y op answers.Cut h);
           }
         where
@@ -583,4 +583,400 @@ module _ (past : List Step) (t : Traced) (e : Event) (d : Cuts_hold past t) wher
 
       go : (b : Bool) → site.node.running ≡ b → Next (ev.client_took v c site (if b then Ok (cl.node_turn site.node u) else Err Crashed))
       go true r = taken r
-      go false r = still (ev.quiet v) (λ y. quiet y r) cs ss before none_answered
+      go false r = still (ev.quiet v) (λ y. quiet y r) ps ss before none_answered
+
+  -- A step of a server.
+  abbrev Brings : ServerInput → Type 0
+  Brings serving.Tick = Unit {0}
+  Brings (serving.Control m) = Has m (messages t.world)
+
+  server_step : (s : ServerId) (i : ServerInput) (node : ServerNode) → ((c : ClientId) → ask_in c e ≡ None) → node_of t.world s ≡ Some node → Brings i → Next (ev.server_takes (ev.counted t.world) s i node)
+  unfolding ev.server_takes ev.server_took server.node_step
+  server_step s i node q at brings = go node.running
+    where
+      w : World
+      w = ev.counted t.world
+
+      now : Stamp
+      now = clock_of w (nodes.Server s)
+
+      u : server.Turn
+      u = server.server_step node.state now i
+
+      next : ServerNode
+      next = record node { state = u.state }
+
+      a : Scene
+      a = ev.quiet (ev.with_node s next w)
+
+      sc : Scene
+      sc = ev.server_says_all s u.out a
+
+      said : Said a sc u.out
+      said = server_said s u.out a
+
+      x : Step
+      x = step t e sc
+
+      past2 : List Step
+      past2 = past ++ x ∷ []
+
+      M : List Message
+      M = messages t.world
+
+      ok : Server_ok past M s node
+      ok = d.servers s node at
+
+      from : (m : Message) → Has m (messages sc.world) → Has m M ⊎ Has (outputs.Send m) u.out
+      from m h = pick (has_numbered (messages sc.world) m h)
+        where
+          which : (k : ℕ) → (numbered M k ≡ Some m) ⊎ Has (outputs.Send m) u.out → Has m M ⊎ Has (outputs.Send m) u.out
+          which k (inl r) = inl (numbered_has M k m r)
+          which k (inr r) = inr r
+
+          pick : (k : ℕ) × (numbered (messages sc.world) k ≡ Some m) → Has m M ⊎ Has (outputs.Send m) u.out
+          pick k = which k.0 (said.get k.0 m k.1)
+
+      epoch : ℕ
+      epoch = node.state.stable.epoch.0
+
+      Old : ClientId → ℕ → ℕ → Type 0
+      Old c life number = Acked past M c s life epoch number
+
+      k : Acks s node.state.stable.epoch i Old u
+      k = served s node.state.stable.epoch i Old node.state now (record { id = ok.id; epoch = refl; kept = λ c y h. state_map _ _ (λ n r. inl r) y.state (ok.kept c y h); sent = λ y h. absurd h })
+
+      done : (c : ClientId) (life number : ℕ) (by : Message) → i ≡ serving.Control by → Keyed c s life epoch number by → (b : Body) → by.body ≡ b → Cut_noted s node.state.stable.epoch i Old b u.out → Fulfilled past2 c s life epoch number b
+      done c life number by is key (bodies.Cut ino g p) r h =
+          let z = cut_said s (record { server = s; ino = ino }) p u.out a h in
+          record { at = x; among = has_right past _ _ (inl refl); index = z.0; cut = z.1; by = by; before = subst Brings is brings; is = key }
+      done c life number by is key b r h = tt
+
+      good : (c : ClientId) (life number : ℕ) → Good s node.state.stable.epoch i Old u.out c life number → Acked past2 (messages sc.world) c s life epoch number
+      good c life number (inl o) = acked_more past x M (messages sc.world) said.old c s life epoch number o
+      good c life number (inr n) = record { by = n.by; among = said.old n.by (subst Brings n.is brings); is = key n; done = done c life number n.by n.is (key n) n.by.body refl n.noted }
+        where
+          key : (n : New s node.state.stable.epoch i Old u.out c life number) → Keyed c s life epoch number n.by
+          key n = record { between = (n.from, n.there); of_life = n.of_life; of_epoch = n.of_epoch; under = n.under }
+
+      mine : (m : Message) → Has m M ⊎ Has (outputs.Send m) u.out → Has m M ⊎ (m.body ≡ bodies.Ack → (v : ServerId) → m.header.from ≡ server_node v → Acked past2 (messages sc.world) (client m.header.to) v m.header.life m.header.epoch m.header.number)
+      mine m (inl h) = inl h
+      mine m (inr h) = inr (λ ack v r. its v r ack (k.sent m h))
+        where
+          its : (v : ServerId) → m.header.from ≡ server_node v → m.body ≡ bodies.Ack → (m.header.from ≡ server_node s) × (m.body ≡ bodies.Ack → (m.header.epoch ≡ epoch) × Good s node.state.stable.epoch i Old u.out (client m.header.to) m.header.life m.header.number) →
+              Acked past2 (messages sc.world) (client m.header.to) v m.header.life m.header.epoch m.header.number
+          its v r ack (f, g) =
+              let z = g ack in
+              let same : s.0 ≡ v.0 = omega (arith, f, r) in
+              subst (λ n. Acked past2 (messages sc.world) (client m.header.to) (record { 0 = n }) m.header.life m.header.epoch m.header.number) same
+              (subst (λ n. Acked past2 (messages sc.world) (client m.header.to) s m.header.life n m.header.number) (sym z.0) (good (client m.header.to) m.header.life m.header.number z.1))
+
+      of_server : (m : Message) (c : ClientId) (site : ClientSite) → site_of t.world c ≡ Some site → Has m M ⊎ Has (outputs.Send m) u.out → Has m M ⊎ (m.header.from ≢ c.0)
+      of_server m c site there (inl h) = inl h
+      of_server m c site there (inr h) = inr (λ r. server_not_client c.0 s.0 (let y = (numbered_below t.world.clients c.0 site there).1 in let w = d.few in omega (arith, y, w)) (sym r ∙ (k.sent m h).0))
+
+      own : Server_ok past2 (messages sc.world) s next
+      own =
+          record {
+            id = k.id;
+            kept = λ c y h. subst (λ (n : Rattle.st_base.specs.declared.ids.Epoch.Epoch). Kept_state (Acked past2 (messages sc.world) c s y.life.0 n.0) y.state) (sym k.epoch) (state_map _ _ (λ n r. good c y.life.0 n r) y.state (k.kept c y h));
+          }
+
+      it : (y : ServerId) (n : ServerNode) → ((y.0 ≡ s.0) × (n ≡ next)) ⊎ ((y.0 ≢ s.0) × (node_of t.world y ≡ Some n)) → Server_ok past2 (messages sc.world) y n
+      it y n (inl z) = subst (Server_ok past2 (messages sc.world) y) (sym z.1) (subst (λ n. Server_ok past2 (messages sc.world) (record { 0 = n }) next) (sym z.0) own)
+      it y n (inr z) = server_more sc y n said.old (d.servers y n z.1)
+
+      taken : Next sc
+      taken =
+          record {
+            old = said.old;
+            new = λ m h. mine m (from m h);
+            clients = λ c site r. let there = ap (λ z. numbered z c.0) (sym said.clients) ∙ r in client_more sc c site (λ m h. of_server m c site there (from m h)) (q c) there (d.clients c site there);
+            servers = λ y n r. it y n (set_cases t.world.servers s.0 y.0 node next n at (ap (λ z. numbered z y.0) (sym said.servers) ∙ r));
+            few = subst (λ z. length z ≤ 16) (sym said.clients) d.few;
+            cuts = no_cuts sc (server_none s u.out a none_answered);
+          }
+
+      go : (b : Bool) → Next (ev.server_took w s (if b then Ok (server.node_turn node u) else Err Crashed))
+      go true = taken
+      go false = still (ev.quiet w) q refl refl refl none_answered
+
+-- a lost message is the same message
+map_set : {A B : Type 0} (f : A → B) (xs : List A) (n : ℕ) (y z : A) → f z ≡ f y → slice_get xs n ≡ Some y → map f (set xs n z) ≡ map f xs
+map_set f [] n y z e q = cc
+map_set f (x ∷ xs) zero y z e q = ap (λ v. v ∷ map f xs) (e ∙ ap f (sym (some_is q)))
+map_set f (x ∷ xs) (suc n) y z e q = ap (λ v. f x ∷ v) (map_set f xs n y z e q)
+
+lost_same : (w : World) (k : ℕ) (m : SentMessage) → world.message_of w k ≡ Some m → messages (ev.with_lost k m w) ≡ messages w
+lost_same w zero m e = cc
+lost_same w (suc n) m e = map_set message_in w.net.messages n m (record m { lost = true }) refl e
+
+-- a client that crashed or started
+crashed_ok : (past past2 : List Step) (ms : List Message) (c : ClientId) (site : ClientSite) → asks_of past2 c ≡ asks_of past c → Client_ok past ms c site → Client_ok past2 ms c (ev.stopped_site site)
+unfolding cl.crash
+crashed_ok past past2 ms c site q k =
+    record {
+      count = ap length q ∙ k.count;
+      asked = λ o h. absurd h;
+      lives = λ a h m i b. let z = has_map cl.crashed_association site.node.state.associations a h in
+          let y = k.lives z.0 z.1 m i (subst (λ (v : Association). Between c v.server m) z.2 b) in
+          subst (λ (v : Association). m.header.life ≤ v.life.0) (sym z.2) y;
+      all = λ run. absurd (none run);
+    }
+  where
+    none : false ≡ true → ⊥
+    none e = cc
+
+started_ok : (past past2 : List Step) (ms : List Message) (c : ClientId) (site : ClientSite) → asks_of past2 c ≡ asks_of past c → Client_ok past ms c site → Client_ok past2 ms c (ev.started_site site)
+unfolding cl.start
+started_ok past past2 ms c site q k =
+    record {
+      count = ap length q ∙ k.count;
+      asked = λ o h. absurd h;
+      lives = λ a h m i b. let y = below a (has_map cl.started_association site.node.state.associations a h) m i b in omega (arith, y);
+      all = λ run a h.
+          record {
+            numbers = numbers a (has_map cl.started_association site.node.state.associations a h);
+            waits = λ o i. absurd i;
+          };
+    }
+  where
+    abbrev_from : Association → Type 0
+    abbrev_from a = (b : Association) × Has b site.node.state.associations × (a ≡ cl.started_association b)
+
+    below : (a : Association) → (b : Association) × Has b site.node.state.associations × (a ≡ cl.started_association b) → (m : Message) → Has m ms → Between c a.server m → m.header.life + 1 ≤ a.life.0
+    below a (p, h, e) m i b =
+        let y = k.lives p h m i (subst (λ (v : Association). Between c v.server m) e b) in
+        let l : a.life.0 ≡ p.life.0 + 1 = ap (λ (v : Association). v.life.0) e in omega (arith, y, l)
+
+    numbers : (a : Association) → (b : Association) × Has b site.node.state.associations × (a ≡ cl.started_association b) → Numbers (λ m. Has m ms) c a.server a.life.0 (view a.session)
+    numbers a z = subst (λ o. Numbers (λ m. Has m ms) c a.server a.life.0 (view o)) (sym (ap (λ (v : Association). v.session) z.2))
+        (record { lives = λ m i b. let y = below a z m i b in omega (arith, y); placed = λ m i b l. let y = below a z m i b in absurd (omega (arith, y, l)); counts = tt })
+
+-- a server that crashed or started
+crashed_server : (past : List Step) (ms : List Message) (s : ServerId) (node : ServerNode) → node.state.id ≡ s → Server_ok past ms s (server.crash_node node)
+unfolding server.crash
+crashed_server past ms s node e = record { id = e; kept = λ c x h. none h }
+  where
+    none : {A : Type 0} {x : Session} → ◌≡◌ {A = Option Session} None (Some x) → A
+    none h = cc
+
+started_server : (past : List Step) (ms : List Message) (s : ServerId) (node : ServerNode) (now : Stamp) → node.state.id ≡ s → Server_ok past ms s (server.start_node node now)
+unfolding server.start server.begin_epoch
+started_server past ms s node now e = record { id = e; kept = λ c x h. none h }
+  where
+    none : {A : Type 0} {x : Session} → ◌≡◌ {A = Option Session} None (Some x) → A
+    none h = cc
+
+-- the client of a node number
+client_at : (n : ℕ) (c : ClientId) → world.node_at n ≡ nodes.Client c → n ≡ c.0
+unfolding world.node_at
+client_at n c e = go (nat_le n 16) e
+  where
+    go : (b : Bool) → (if b then nodes.Client (client n) else nodes.Server (world.server (Rattle.std.specs.Prelude.◌-◌ n 32768))) ≡ nodes.Client c → n ≡ c.0
+    go true q = same q
+      where
+        same : nodes.Client (client n) ≡ nodes.Client c → n ≡ c.0
+        same q = cc
+    go false q = cc
+
+-- Every event.
+module _ (past : List Step) (t : Traced) (d : Cuts_hold past t) where
+  abbrev w : World
+  w = ev.counted t.world
+
+  -- an event that is no ask
+  plain : (e : Event) → ((c : ClientId) → ask_in c e ≡ None) → (c : ClientId) (i : ClientInput) (site : ClientSite) → site_of t.world c ≡ Some site → Tells past t e d c i → Takes past t e d c i site site
+  plain e q c i site at k =
+      let o = d.clients c site at in
+      let same = asked_same past t e d c (q c) in
+      record { same = refl; there = at; count = ap length same ∙ o.count; known = λ y h. ap (λ z. numbered z y.op) same ∙ o.asked y h; input = k; others = λ x n. q x }
+
+  at_client : (e : Event) → ((c : ClientId) → ask_in c e ≡ None) → (c : ClientId) (i : ClientInput) → Tells past t e d c i → Next past t e d (ev.at_client w c i (site_of w c))
+  unfolding ev.at_client
+  at_client e q c i k = go (site_of w c) refl
+    where
+      go : (o : Option ClientSite) → site_of w c ≡ o → Next past t e d (ev.at_client w c i o)
+      go None r = still past t e d (ev.quiet w) q refl refl refl none_answered
+      go (Some site) r = client_step past t e d w refl refl refl c i site site (plain e q c i site r k) (λ x f. q x)
+
+  at_server : (e : Event) → ((c : ClientId) → ask_in c e ≡ None) → (s : ServerId) (i : ServerInput) → Brings past t e d i → Next past t e d (ev.at_server w s i (node_of w s))
+  unfolding ev.at_server
+  at_server e q s i k = go (node_of w s) refl
+    where
+      go : (o : Option ServerNode) → node_of w s ≡ o → Next past t e d (ev.at_server w s i o)
+      go None r = still past t e d (ev.quiet w) q refl refl refl none_answered
+      go (Some node) r = server_step past t e d s i node q r k
+
+  asks_take : (c : ClientId) (ask : Ask) (site : ClientSite) → site_of t.world c ≡ Some site → Takes past t (events.App c ask) d c (inputs.App (site.asks + 1) ask) (ev.asked_once_more site) site
+  unfolding ask_of_client
+  asks_take c ask site at =
+      record {
+        same = refl;
+        there = at;
+        count = ap length more ∙ (let y = length_more (asks_of past c) ask in let z = o.count in omega (arith, y, z));
+        known = λ y h. ap (λ l. numbered l y.op) more ∙ numbered_old (asks_of past c) ask y.op y.ask (o.asked y h);
+        input = ap (λ l. numbered l (site.asks + 1)) more ∙ last;
+        others = λ x n. ap (λ b. if b then Some ask else None) (other x n);
+      }
+    where
+      o : Client_ok past (messages t.world) c site
+      o = d.clients c site at
+
+      self : safety.ask_in c (events.App c ask) ≡ Some ask
+      self = ap (λ b. if b then Some ask else None) (eq-eqb c.0 c.0 refl)
+
+      more : asks_of past c ++ cons_option (ask_in c (events.App c ask)) [] ≡ asks_of past c ++ ask ∷ []
+      more = ap (λ z. asks_of past c ++ cons_option z []) self
+
+      last : numbered (asks_of past c ++ ask ∷ []) (site.asks + 1) ≡ Some ask
+      last = subst (λ n. numbered (asks_of past c ++ ask ∷ []) n ≡ Some ask) (let z = o.count in let y : suc (length (asks_of past c)) ≡ site.asks + 1 = omega (arith, z) in y) (get_last (asks_of past c) ask)
+
+      other : (x : ClientId) → x.0 ≢ c.0 → Rattle.st_rules.specs.Keys.same_client x c ≡ false
+      other x n = go (x.0 == c.0) refl
+        where
+          go : (b : Bool) → (x.0 == c.0) ≡ b → b ≡ false
+          go true q = absurd (n (eqb-true x.0 c.0 q))
+          go false q = refl
+
+  asks_happen : (c : ClientId) (ask : Ask) → world.is_running t.world (nodes.Client c) ≡ true → Next past t (events.App c ask) d (ev.asks_at w c ask (site_of w c))
+  unfolding ev.asks_at
+  asks_happen c ask run = go (site_of w c) refl
+    where
+      clash : {b : Bool} → b ≡ true → b ≡ false → ⊥
+      clash x y = cc
+
+      runs : (o : Option ClientSite) → site_of t.world c ≡ o → world.site_runs o ≡ true
+      runs o r = subst (λ v. world.site_runs v ≡ true) r run
+
+      stopped : site_of t.world c ≡ None → ⊥
+      stopped r = no (runs None r)
+        where
+          no : false ≡ true → ⊥
+          no e = cc
+
+      go : (o : Option ClientSite) → site_of w c ≡ o → Next past t (events.App c ask) d (ev.asks_at w c ask o)
+      go None r = absurd (stopped r)
+      go (Some site) r = client_step past t (events.App c ask) d w refl refl refl c (inputs.App (site.asks + 1) ask) (ev.asked_once_more site) site (asks_take c ask site r) (λ x f. absurd (clash (runs (Some site) r) f))
+
+  delivers : (k : ℕ) → Next past t (events.Deliver k) d (ev.delivers w (world.message_of w k))
+  unfolding ev.delivers ev.delivers_to
+  delivers k = go (world.message_of w k) refl
+    where
+      e : Event
+      e = events.Deliver k
+
+      to : (m : Message) (n : NodeId) → world.node_at m.header.to ≡ n → Has m (messages t.world) → Next past t e d (ev.delivers_to w m n)
+      to m (nodes.Client c) r h = at_client e (λ c. refl) c (inputs.Control m) (h, client_at m.header.to c r)
+      to m (nodes.Server s) r h = at_server e (λ c. refl) s (serving.Control m) h
+
+      go : (o : Option SentMessage) → world.message_of w k ≡ o → Next past t e d (ev.delivers w o)
+      go None q = still past t e d (ev.quiet w) (λ c. refl) refl refl refl none_answered
+      go (Some m) q = to m.message (world.receiver_of m) refl (has_map_in message_in t.world.net.messages m (numbered_has t.world.net.messages k m q))
+
+  loses : (k : ℕ) → Next past t (events.Lose k) d (ev.quiet (ev.loses_message w k (world.message_of w k)))
+  unfolding ev.loses_message
+  loses k = go (world.message_of w k) refl
+    where
+      go : (o : Option SentMessage) → world.message_of w k ≡ o → Next past t (events.Lose k) d (ev.quiet (ev.loses_message w k o))
+      go None q = still past t (events.Lose k) d (ev.quiet w) (λ c. refl) refl refl refl none_answered
+      go (Some m) q = still past t (events.Lose k) d (ev.quiet (ev.with_lost k m w)) (λ c. refl) refl refl (lost_same w k m q) none_answered
+
+  reports : (k : ℕ) (ok : Bool) → Next past t (events.Report k ok) d (ev.reports_of w k ok)
+  unfolding ev.reports_of ev.tells ev.tells_client ev.tells_site
+  reports k ok = go (world.issued_of w k)
+    where
+      e : Event
+      e = events.Report k ok
+
+      v : World
+      v = ev.with_disks (ev.disks_after w.disks (Rattle.st_rules.specs.Disks.done w.disks k ok)) w
+
+      none : Next past t e d (ev.quiet v)
+      none = still past t e d (ev.quiet v) (λ c. refl) refl refl refl none_answered
+
+      same : (x : IssuedCommand) (site : ClientSite) → site_of w x.client ≡ Some site → (b : Bool) → Next past t e d (if b then ev.client_takes v x.client (ev.end_told v k ok x) site else ev.quiet v)
+      same x site q true = client_step past t e d v refl refl refl x.client (ev.end_told v k ok x) site site (plain e (λ c. refl) x.client (ev.end_told v k ok x) site q tt) (λ c f. refl)
+      same x site q false = none
+
+      at : (x : IssuedCommand) (o : Option ClientSite) → site_of w x.client ≡ o → Next past t e d (ev.tells_client v k ok x o)
+      at x None q = none
+      at x (Some site) q = same x site q (ev.is_same_instance x site)
+
+      go : (o : Option IssuedCommand) → Next past t e d (ev.tells v k ok o)
+      go None = none
+      go (Some x) = at x (site_of w x.client) refl
+
+  crashes_client : (c : ClientId) → Next past t (events.Crash (nodes.Client c)) d (ev.crashes_client w c (site_of w c))
+  unfolding ev.crashes_client ev.marks
+  crashes_client c = go (site_of w c) refl
+    where
+      e : Event
+      e = events.Crash (nodes.Client c)
+
+      go : (o : Option ClientSite) → site_of w c ≡ o → Next past t e d (ev.crashes_client w c o)
+      go None q = still past t e d (ev.quiet w) (λ c. refl) refl refl refl none_answered
+      go (Some site) q = client_placed past t e d c site (ev.stopped_site site) _ (λ c. refl) q refl refl refl (λ past2 k r. crashed_ok past past2 (messages t.world) c site r k) (fates_none 1 w.log (ev.log_crashed w c))
+
+  starts_client : (c : ClientId) → Next past t (events.Start (nodes.Client c)) d (ev.quiet (ev.starts_client w c (site_of w c)))
+  unfolding ev.starts_client
+  starts_client c = go (site_of w c) refl
+    where
+      e : Event
+      e = events.Start (nodes.Client c)
+
+      go : (o : Option ClientSite) → site_of w c ≡ o → Next past t e d (ev.quiet (ev.starts_client w c o))
+      go None q = still past t e d (ev.quiet w) (λ c. refl) refl refl refl none_answered
+      go (Some site) q = client_placed past t e d c site (ev.started_site site) _ (λ c. refl) q refl refl refl (λ past2 k r. started_ok past past2 (messages t.world) c site r k) none_answered
+
+  crashes_server : (s : ServerId) → Next past t (events.Crash (nodes.Server s)) d (ev.quiet (ev.crashes_server w s (node_of w s)))
+  unfolding ev.crashes_server
+  crashes_server s = go (node_of w s) refl
+    where
+      e : Event
+      e = events.Crash (nodes.Server s)
+
+      go : (o : Option ServerNode) → node_of w s ≡ o → Next past t e d (ev.quiet (ev.crashes_server w s o))
+      go None q = still past t e d (ev.quiet w) (λ c. refl) refl refl refl none_answered
+      go (Some node) q = server_placed past t e d s node (server.crash_node node) _ (λ c. refl) q refl refl refl (λ past2 ms r. crashed_server past2 ms s node r) none_answered
+
+  starts_server : (s : ServerId) → Next past t (events.Start (nodes.Server s)) d (ev.quiet (ev.starts_server w s (node_of w s)))
+  unfolding ev.starts_server
+  starts_server s = go (node_of w s) refl
+    where
+      e : Event
+      e = events.Start (nodes.Server s)
+
+      go : (o : Option ServerNode) → node_of w s ≡ o → Next past t e d (ev.quiet (ev.starts_server w s o))
+      go None q = still past t e d (ev.quiet w) (λ c. refl) refl refl refl none_answered
+      go (Some node) q = server_placed past t e d s node (server.start_node node (clock_of w (nodes.Server s))) _ (λ c. refl) q refl refl refl (λ past2 ms r. started_server past2 ms s node (clock_of w (nodes.Server s)) r) none_answered
+
+  -- an ask that is admitted is of a client that runs
+  can_step : (k : NodeId) → adm.cannot_step t.world k ≡ None → world.is_running t.world k ≡ true
+  unfolding adm.stands
+  can_step k e = go (world.is_running t.world k) e
+    where
+      go : (b : Bool) → Rattle.std.specs.Option.option_or (adm.stands (not b) (Rattle.st_rules.specs.declared.observation.WorldRefusal.TheVariants.NotRunning k)) (adm.net_full t.world) ≡ None → b ≡ true
+      go true e = refl
+      go false e = cc
+
+  or_second : (a b : Option Rattle.st_rules.specs.declared.observation.WorldRefusal.WorldRefusal) → Rattle.std.specs.Option.option_or a b ≡ None → b ≡ None
+  or_second None b e = e
+  or_second (Some x) b e = cc
+
+  pub happens : (e : Event) → adm.refusal t.world e ≡ None → Next past t e d (ev.happens w e)
+  unfolding ev.happens ev.ticks ev.crashes ev.starts ev.advances ev.effects ev.marks adm.refusal
+  happens (events.Tick (nodes.Client c)) f = at_client (events.Tick (nodes.Client c)) (λ c. refl) c inputs.Tick tt
+  happens (events.Tick (nodes.Server s)) f = at_server (events.Tick (nodes.Server s)) (λ c. refl) s serving.Tick tt
+  happens (events.App c ask) f = asks_happen c ask (can_step (nodes.Client c) (or_second (adm.no_node t.world (nodes.Client c)) _ f))
+  happens (events.Deliver k) f = delivers k
+  happens (events.Lose k) f = loses k
+  happens (events.Cut from to) f = still past t (events.Cut from to) d _ (λ c. refl) refl refl refl none_answered
+  happens (events.Heal from to) f = still past t (events.Heal from to) d _ (λ c. refl) refl refl refl none_answered
+  happens (events.Advance steps) f = still past t (events.Advance steps) d _ (λ c. refl) refl refl refl (fates_none 1 w.log _)
+  happens (events.Effect k) f = still past t (events.Effect k) d _ (λ c. refl) refl refl refl (fates_none 1 w.log _)
+  happens (events.Report k ok) f = reports k ok
+  happens (events.Crash (nodes.Client c)) f = crashes_client c
+  happens (events.Crash (nodes.Server s)) f = crashes_server s
+  happens (events.Start (nodes.Client c)) f = starts_client c
+  happens (events.Start (nodes.Server s)) f = starts_server s
