@@ -1,6 +1,6 @@
 -- The rules of a client, walked once: what they do to the requests of a session, to the operations that wait for one, and to what is
 -- sent and answered.
-use Rattle.std.proofs.Common.{◌≡◌, ℕ, ◌+◌, ◌≤◌, ◌<◌, ◌⊎◌, Bool, true, false, not, ◌&&◌, ◌||◌, ◌==◌, List, [], ◌∷◌, ◌++◌, Option, Some, None, Ok, Err, refl, sym, ap, ◌∙◌, subst, inl, inr, arith, if◌then◌else◌, append_assoc}
+use Rattle.std.proofs.Common.{◌≡◌, ℕ, ◌≤◌, ◌<◌, ◌⊎◌, Bool, true, false, not, ◌&&◌, ◌==◌, List, [], ◌∷◌, ◌++◌, Option, Some, None, Ok, Err, refl, sym, ap, ◌∙◌, subst, inl, inr, arith, if◌then◌else◌, append_assoc}
 use Rattle.std.specs.Prelude.{filter, is_some, map}
 use Rattle.std.proofs.lemmas.Bool.{eqb-true, eq-eqb}
 use Rattle.st_base.specs.declared.disk.Tag.{Tag}
@@ -13,7 +13,6 @@ use Rattle.st_base.specs.declared.ids.ServerId.{ServerId}
 use Rattle.st_base.specs.declared.ids.Stamp.{Stamp}
 use Rattle.st_base.specs.declared.mode.Mode.{Mode}
 use Rattle.st_base.specs.declared.mode.Mode.TheVariants as modes
-use Rattle.st_base.specs.declared.names.NameAsk.{NameAsk}
 use Rattle.st_base.specs.declared.rows.ExtentRow.{ExtentRow}
 use Rattle.st_messages.specs.declared.answer.AppAnswer.{AppAnswer}
 use Rattle.st_messages.specs.declared.answer.AppAnswer.TheVariants as answers
@@ -43,7 +42,6 @@ use Rattle.st_rules.specs.declared.client.Operation.{Operation}
 use Rattle.st_rules.specs.declared.client.PageCommand.{PageCommand}
 use Rattle.st_rules.specs.declared.client.Release.{Release}
 use Rattle.st_rules.specs.declared.client.Request.{Request}
-use Rattle.st_rules.specs.declared.client.Stage.{Stage}
 use Rattle.st_rules.specs.declared.client.Stage.TheVariants as stages
 use Rattle.st_rules.specs.declared.client.WriteRefusal.TheVariants.{DirtyFull}
 use Rattle.st_rules.specs.declared.pages.DirtyPage.{DirtyPage}
@@ -60,7 +58,7 @@ use Rattle.st_rules.specs.Keys.{server_node}
 use Rattle.st_lemmas.specs.Lists.{Has}
 use Rattle.st_lemmas.proofs.Lookups.{some_is}
 use Rattle.st_lemmas.proofs.Tables.{and_true, has_append, has_filter, has_map, not_true}
-use Rattle.st_laws_cuts.specs.Cuts.{All_wait, Asks_for, Between, Counts, Given, Keyed, Numbered, Numbers, Placed, Same_body, Waits, Waits_at, view}
+use Rattle.st_laws_cuts.specs.Cuts.{All_wait, Asks_for, Between, Counts, Given, Keyed, Numbers, Placed, Same_body, Waits, Waits_at, view}
 
 -- an operation's server and stage
 pub asked_of : (s : ServerId) (o : Operation) → cs.is_asked s o ≡ true → (cs.is_of s o ≡ true) × (cs.is_asked_at o.stage ≡ true)
@@ -731,7 +729,7 @@ module _ (M : List Message) (c : ClientId) (Known : ℕ → Ask → Type 0) (Bef
       -- Replies.
       module _ (now : Stamp) (m : Message) (Told : ServerId → Type 0)
           (ends_cut : (sv : ServerId) → Told sv → (q : Request) (o : Operation) → server_of o.ask ≡ sv → 1 ≤ q.number → m.header.number ≡ q.number → Asks_for o.ask q.body → cs.is_acknowledged q.body ≡ true →
-              ((y : Message) → Has y M → Keyed c sv m.header.life m.header.epoch q.number y → y.body ≡ q.body) → Before sv m.header.life m.header.epoch q.number o.op → Done o.op o.ask) where
+          ((y : Message) → Has y M → Keyed c sv m.header.life m.header.epoch q.number y → y.body ≡ q.body) → Before sv m.header.life m.header.epoch q.number o.op → Done o.op o.ask) where
         abbrev h : Header
         h = m.header
 

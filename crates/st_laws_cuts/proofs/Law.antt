@@ -1,11 +1,10 @@
 -- Answers are logged: at the start, behind every event, and over whole runs.
-use Rattle.std.proofs.Common.{◌≡◌, ℕ, ◌+◌, ◌⊎◌, Bool, true, false, List, [], ◌∷◌, ◌++◌, Option, Some, None, Ok, refl, sym, ap, ◌∙◌, subst, inl, inr, arith}
+use Rattle.std.proofs.Common.{◌≡◌, ℕ, ◌+◌, ◌⊎◌, List, [], ◌∷◌, ◌++◌, Option, Some, None, Ok, refl, sym, ap, ◌∙◌, subst, inl, inr, arith}
 use Rattle.std.specs.Prelude.{map, length, zero, suc, slice_get, option_map, nat_le}
 use Rattle.std.proofs.lemmas.Bool.{leb-true}
 use Rattle.st_base.specs.declared.config.Config.{Config}
 use Rattle.st_base.specs.declared.ids.ClientId.{ClientId}
 use Rattle.st_base.specs.declared.ids.ServerId.{ServerId}
-use Rattle.st_messages.specs.declared.answer.AppAnswer.{AppAnswer}
 use Rattle.st_messages.specs.declared.answer.AppAnswer.TheVariants as answers
 use Rattle.st_messages.specs.declared.event.Event.{Event}
 use Rattle.st_messages.specs.declared.message.Body.TheVariants as bodies
@@ -16,10 +15,9 @@ use Rattle.st_rules.specs.declared.sessions.Session.{Session}
 use Rattle.st_rules.specs.Extents.{numbers}
 use Rattle.st_rules.specs.Keys.{client, server_node}
 use Rattle.st_rules.specs.Client as cl
-use Rattle.st_rules.specs.ClientState.{Association}
 use Rattle.st_rules.specs.Server as server
 use Rattle.st_rules.specs.Server.{ServerNode}
-use Rattle.st_rules.specs.World.{ClientSite, fresh_site, fresh_world, node_at_start, numbered}
+use Rattle.st_rules.specs.World.{fresh_site, fresh_world, node_at_start, numbered}
 use Rattle.st_rules.specs.Events.{Scene, world_step}
 use Rattle.st_rules.specs.History.{Traced, traced, traced_after}
 use Rattle.st_rules.specs.Safety.{AnswersAreLogged, AreLogged, IsHead, IsLogged, Step, Throughout, step, steps}

@@ -6,7 +6,6 @@ use Rattle.std.proofs.lemmas.Bool.{eqb-true, eq-eqb, ltb-false}
 use Rattle.st_base.specs.declared.ids.ClientId.{ClientId}
 use Rattle.st_base.specs.declared.ids.Epoch.{Epoch}
 use Rattle.st_base.specs.declared.ids.ServerId.{ServerId}
-use Rattle.st_base.specs.declared.ids.FileId.{FileId}
 use Rattle.st_base.specs.declared.ids.GrantNo.{GrantNo}
 use Rattle.st_base.specs.declared.ids.Life.{Life}
 use Rattle.st_base.specs.declared.ids.PageNo.{PageNo}
@@ -495,9 +494,9 @@ module _ (s : ServerId) (e : Epoch) (i : ServerInput) (Old : ClientId → ℕ �
         go (Some b) f =
             o_reply _ m.header b (λ k. good (f ∙ ap Some k))
             (o_sessions a.turn _
-              (kept_stored (Good a.turn.out) a.turn.state.sessions (sender m.header) m.header.number b
-                (λ k x j. subst (λ l. Good a.turn.out (sender m.header) l m.header.number) (sym (its_life x j)) (good (f ∙ ap Some k))) r.0.kept)
-              r.0)
+            (kept_stored (Good a.turn.out) a.turn.state.sessions (sender m.header) m.header.number b
+            (λ k x j. subst (λ l. Good a.turn.out (sender m.header) l m.header.number) (sym (its_life x j)) (good (f ∙ ap Some k))) r.0.kept)
+            r.0)
 
     o_request_by : (t : Turn) (now : Stamp) (x : Taken Body) → sv.take t m.header ≡ x → m.header.epoch ≡ e.0 → O t → O (request_by t now m.header m.body x)
     unfolding request_by refuse_epoch

@@ -1,7 +1,7 @@
 -- A whole step of a client keeps what stands of its requests at all its servers.
-use Rattle.std.proofs.Common.{◌≡◌, ℕ, ◌+◌, ◌≤◌, ◌⊎◌, Bool, true, false, ◌==◌, List, [], ◌∷◌, ◌++◌, Option, Some, None, refl, sym, ap, ◌∙◌, subst, inl, inr, arith, if◌then◌else◌}
+use Rattle.std.proofs.Common.{◌≡◌, ℕ, ◌≤◌, ◌⊎◌, Bool, true, false, ◌==◌, List, [], ◌∷◌, ◌++◌, refl, sym, ap, ◌∙◌, subst, inl, inr, arith, if◌then◌else◌}
 use Rattle.std.specs.Prelude.{map}
-use Rattle.std.proofs.lemmas.Bool.{eqb-true, eq-eqb}
+use Rattle.std.proofs.lemmas.Bool.{eqb-true}
 use Rattle.st_base.specs.declared.ids.ClientId.{ClientId}
 use Rattle.st_base.specs.declared.ids.ServerId.{ServerId}
 use Rattle.st_base.specs.declared.ids.Stamp.{Stamp}
@@ -26,7 +26,7 @@ use Rattle.st_lemmas.specs.Lists.{Has}
 use Rattle.st_lemmas.proofs.Tables.{has_append, has_map_in}
 use Rattle.st_laws_pages.specs.Lives.{Once, server_number}
 use Rattle.st_laws_cuts.specs.Cuts.{All_wait, Asks_for, Between, Keyed, Numbers, view}
-use Rattle.st_laws_cuts.proofs.Client.{Base, Sent, Whole, asked_of, w_finish, w_hear, w_lose, w_passes, w_take}
+use Rattle.st_laws_cuts.proofs.Client.{Sent, Whole, asked_of, w_finish, w_hear, w_lose, w_passes, w_take}
 
 -- associations of servers that differ
 abbrev pub Onces : List Association → Type 0
@@ -192,7 +192,7 @@ module _ (M : List Message) (c : ClientId) (Known : ℕ → Ask → Type 0) (Bef
   module _ (fresh : (sv : ServerId) (life epoch number op : ℕ) → ((m : Message) → Has m M → Keyed c sv life epoch number m → ⊥) → Before sv life epoch number op)
       (Told : Message → ServerId → Type 0)
       (ends_cut : (m : Message) (sv : ServerId) → Told m sv → (q : Request) (o : Operation) → server_of o.ask ≡ sv → 1 ≤ q.number → m.header.number ≡ q.number → Asks_for o.ask q.body → cs.is_acknowledged q.body ≡ true →
-          ((y : Message) → Has y M → Keyed c sv m.header.life m.header.epoch q.number y → y.body ≡ q.body) → Before sv m.header.life m.header.epoch q.number o.op → Done o.op o.ask) where
+      ((y : Message) → Has y M → Keyed c sv m.header.life m.header.epoch q.number y → y.body ≡ q.body) → Before sv m.header.life m.header.epoch q.number o.op → Done o.op o.ask) where
     -- what an input tells
     abbrev pub Input_ok : ClientInput → Type 0
     Input_ok inputs.Tick = Unit {0}

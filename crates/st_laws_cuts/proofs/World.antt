@@ -47,10 +47,9 @@ use Rattle.st_rules.specs.ClientState as cs
 use Rattle.st_rules.specs.ClientState.{Association, ClientState, ClientTurn, client_turn}
 use Rattle.st_rules.specs.Events as ev
 use Rattle.st_rules.specs.Events.{Scene, client_says, client_says_all, server_says, server_says_all}
-use Rattle.st_rules.specs.History.{Traced, traced_after}
+use Rattle.st_rules.specs.History.{Traced}
 use Rattle.st_rules.specs.Server as server
 use Rattle.st_rules.specs.Server.{ServerNode}
-use Rattle.st_rules.specs.Sessions.{session_of}
 use Rattle.st_rules.specs.World as world
 use Rattle.st_rules.specs.World.{World, ClientSite, site_of, node_of, numbered, with_numbered, clock_of}
 use Rattle.st_rules.specs.Safety as safety
@@ -65,7 +64,7 @@ use Rattle.st_laws_dates.proofs.Said.{Alike, Said, client_said, flushed, server_
 use Rattle.st_laws_dates.proofs.Steps.{has_numbered}
 use Rattle.st_laws_asks.proofs.World.{asks_more}
 use Rattle.st_laws_pages.specs.Lives.{Node_holds}
-use Rattle.st_laws_cuts.specs.Cuts.{Acked, All_wait, Asks_for, Association_ok, Between, Client_ok, Cut_done, Cuts_hold, Early, Fulfilled, Kept_state, Keyed, Numbers, Placed, Server_ok, Waits, Waits_at, asks_of, view}
+use Rattle.st_laws_cuts.specs.Cuts.{Acked, Asks_for, Between, Client_ok, Cut_done, Cuts_hold, Early, Fulfilled, Kept_state, Keyed, Numbers, Server_ok, Waits, Waits_at, asks_of, view}
 use Rattle.st_laws_cuts.specs.Law.{CutsAreLogged}
 use Rattle.st_laws_cuts.proofs.Client.{Sent}
 use Rattle.st_laws_cuts.proofs.Step.{At, Held, onces, stepped}

@@ -1,5 +1,5 @@
 -- Why `cut` is logged: what stands of the messages, of each client and of each server behind every event.
-use Rattle.std.specs.Prelude.{◌≡◌, ◌⊎◌, ℕ, ◌≤◌, ◌<◌, Bool, true, List, filter_map, length, map, Option, Some, None}
+use Rattle.std.specs.Prelude.{◌≡◌, ℕ, ◌≤◌, ◌<◌, true, List, filter_map, length, map, Option, Some, None}
 use Rattle.st_base.specs.declared.ids.ClientId.{ClientId}
 use Rattle.st_base.specs.declared.ids.ServerId.{ServerId}
 use Rattle.st_base.specs.declared.ids.PageNo.{PageNo}
@@ -23,7 +23,6 @@ use Rattle.st_rules.specs.History.{Traced}
 use Rattle.st_rules.specs.Safety.{Step, ask_in, event_of, is_after_ask}
 use Rattle.st_lemmas.specs.Lists.{Has}
 use Rattle.st_laws_dates.specs.Dates.{messages}
-use Rattle.st_laws_pages.specs.Lives.{LivesHold}
 use Rattle.st_laws_pages.specs.Owed.{FatesHold}
 
 -- The messages.
