@@ -7,9 +7,9 @@ use Rattle.st_assoc.proofs.Locks.{Locks}
 use Rattle.st_assoc.proofs.Claims.{inside, not_lost}
 use Rattle.st_assoc.proofs.Lives.{first_in_grace}
 use Rattle.st_assoc.proofs.Steps.{bool_cases, same_or_less}
-use Rattle.st_assoc.proofs.Exact.{held_exact}
+use Rattle.st_assoc.proofs.Exact.{Exclusive_at, Holds, Comes, held_exact}
 use Rattle.st_assoc.proofs.Invariant.{Invariant}
-use Rattle.st_assoc.proofs.World.{invariant, exclusive, alone, same_all}
+use Rattle.st_assoc.proofs.World.{invariant, exclusive, alone, no_conflict, same_all}
 use Rattle.st_lemmas.proofs.Tables.{same_or_not}
 use Rattle.st_laws_order.specs.Order.{Below}
 
@@ -261,6 +261,160 @@ module _ (k : Config) (ok : Config_ok k) where
             go : (c ≡ d) ⊎ (c ≢ d) → 2 ≤ (locks i).mode → x ≤ (locks i).g
             go (inl e) t = own d e u g y lt
             go (inr n) t = absurd (no_reassertion_there d n u g ti life stamp locks y lt t)
+
+        top : (j : ℕ) → upd H i x j ≤ a.s.top
+        top j = by j a.s.top (λ e. low d) ((o d).top j)
+
+  -- A cut under a row.
+  module _ (w : World) (r : Reached k w) (c i : ℕ) (two : 2 ≤ ((w.at c).s.row i).mode) where
+    invs : (d : ℕ) → Invariant k (w.at d)
+    invs d = invariant k w ok r d
+
+    up_here : (w.at c).s.up ≡ true
+    up_here = go (bool_cases (w.at c).s.up)
+      where
+        go : ((w.at c).s.up ≡ true) ⊎ ((w.at c).s.up ≡ false) → (w.at c).s.up ≡ true
+        go (inl u) = u
+        go (inr u) = let z = ((invs c).locks_.down u).1 i in absurd (omega (arith, two, z))
+
+    -- the rows of a file are compatible, in grace too
+    no_other_lock : (d : ℕ) → d ≢ c → Alive k (w.at d).c → 2 ≤ ((w.at d).c.held i).mode → ⊥
+    no_other_lock d ne al x = apart_row w d c i (w.at d) (w.at c) r ne refl refl al up_here x two
+
+    no_other_grant : (d : ℕ) → d ≢ c → Alive k (w.at d).c → (stamp g mode : ℕ) → In (msg (w.at d).c.life (w.at d).c.epoch stamp (Granted i g mode)) (w.at d).net → 2 ≤ mode → (w.at d).c.seen i < g → ⊥
+    no_other_grant d ne al stamp g mode y x lt = apart_row (moved w r d b) d c i b (w.at c) next ne (moved_is w r d b) (stays w r d b c (λ e. ne (sym e))) al up_here there two
+      where
+        a : Assoc
+        a = w.at d
+
+        b : Assoc
+        b = client (record a.c { held = upd a.c.held i (record { g = g; mode = mode }); seen = upd a.c.seen i g }) a
+
+        rows_same : (e : ℕ) → ((moved w r d b).at e).s.row ≡ (w.at e).s.row
+        rows_same e = go (upd_tells w.at d b e)
+          where
+            go : ((e ≡ d) × ((moved w r d b).at e ≡ b)) ⊎ ((e ≢ d) × ((moved w r d b).at e ≡ w.at e)) → ((moved w r d b).at e).s.row ≡ (w.at e).s.row
+            go (inl (q, f)) = ap (λ (z : Assoc). z.s.row) f ∙ ap (λ n. (w.at n).s.row) (sym q)
+            go (inr (n, f)) = ap (λ (z : Assoc). z.s.row) f
+
+        compat : Rows_compat w → Rows_compat (moved w r d b)
+        compat f e h j n p q =
+            let m1 = ap (λ (z : ℕ → Row). (z j).mode) (rows_same e) in
+            let m2 = ap (λ (z : ℕ → Row). (z j).mode) (rows_same h) in
+            let z = f e h j n (omega (arith, m1, p)) (omega (arith, m2, q)) in omega (arith, m1, m2, z)
+
+        next : Reached k (moved w r d b)
+        next = reached w r d b (Installs a stamp i g mode y al lt) refl refl (λ s f. compat f)
+
+        there : 2 ≤ (b.c.held i).mode
+        there = let z = ap (λ (l : Lock). l.mode) (upd-same a.c.held i (record { g = g; mode = mode })) in omega (arith, z, x)
+
+    no_other_reassertion : (d : ℕ) → d ≢ c → (w.at d).s.up ≡ true → (w.at d).s.grace ≡ true → (life stamp : ℕ) (locks : ℕ → Lock) → In (msg life (w.at d).s.epoch stamp (Reassert locks)) (w.at d).net → 2 ≤ (locks i).mode → ⊥
+    no_other_reassertion d ne u g life stamp locks y x = let z = no_conflict k w ok r d c i life stamp locks ne u g y (omega (arith, x)) (omega (arith, two)) in omega (arith, z, x, two)
+
+    -- the client's own association is of the session, where its lease lasts
+    own_session : Alive k (w.at c).c → ((w.at c).c.epoch ≡ (w.at c).s.epoch) × ((w.at c).s.session ≡ (w.at c).c.life)
+    own_session al = go (bool_cases a.s.grace)
+      where
+        a : Assoc
+        a = w.at c
+
+        v : Invariant k a
+        v = invs c
+
+        session : 1 ≤ a.s.session
+        session = let z = (v.locks_.rows i (omega (arith, two))).of_session in let q = v.born_.rows i (omega (arith, two)) in omega (arith, z, q)
+
+        -- a client whose life is past the epoch's is not leased
+        past : a.s.glife < a.c.life → a.s.session < a.c.life → ⊥
+        past lt ls = by (same_or_less a.c.epoch a.s.epoch v.timing_.ahead)
+          where
+            settled : a.c.epoch ≡ a.s.epoch → (a.c.due ≡ true) ⊎ (a.c.due ≡ false) → ⊥
+            settled e (inl f) = let z = v.lives_.due up_here al.leased f e in omega (arith, z, lt)
+            settled e (inr f) = let z = v.locks_.joined up_here e al.leased f in omega (arith, z, ls)
+
+            by : (a.c.epoch ≡ a.s.epoch) ⊎ (a.c.epoch < a.s.epoch) → ⊥
+            by (inl e) = settled e (bool_cases a.c.due)
+            by (inr l) =
+                let q = v.timing_.dated al.leased in
+                let el = q.3 in
+                let z = v.lives_.former up_here _ q.4 (renews_of q.1 q.2) (omega (arith, l, el)) in omega (arith, z, lt)
+
+        graced : a.s.grace ≡ true → (a.s.session ≡ a.c.life) ⊎ (a.s.session < a.c.life) → (a.c.epoch ≡ a.s.epoch) × (a.s.session ≡ a.c.life)
+        graced g (inl e) = (v.locks_.graced up_here g e, e)
+        graced g (inr l) = let z = v.lives_.graced up_here g session in absurd (past (omega (arith, z, l)) l)
+
+        go : (a.s.grace ≡ true) ⊎ (a.s.grace ≡ false) → (a.c.epoch ≡ a.s.epoch) × (a.s.session ≡ a.c.life)
+        go (inl g) = graced g (same_or_less a.s.session a.c.life v.timing_.lives)
+        go (inr g) = inside k a v.timing_ up_here g al
+
+    own_exclusive : Alive k (w.at c).c → (x : ℕ) → Exclusive_at (w.at c) i x → ((w.at c).s.row i).g ≤ x
+    own_exclusive al x e = let p = own_session al in (invs c).exact_.exact (record { up = up_here; epoch = p.0; session = p.1 }) al i x e
+
+    no_own_reassertion : (w.at c).s.grace ≡ true → (life stamp : ℕ) (locks : ℕ → Lock) → In (msg life (w.at c).s.epoch stamp (Reassert locks)) (w.at c).net → (w.at c).s.session < life → ⊥
+    no_own_reassertion g life stamp locks y lt =
+        let n = first_in_grace k (w.at c) (invs c).lives_ up_here g life stamp locks y lt in
+        let z = ((invs c).locks_.rows i (omega (arith, two))).of_session in
+        let q = (invs c).born_.rows i (omega (arith, two)) in omega (arith, n, z, q)
+
+    -- all of a client's: of this file, and of the others
+    pub cut : (H : ℕ → ℕ) → ((d : ℕ) → Below k H (w.at d)) → ((d : ℕ) → d ≢ c → ((w.at d).s.row i).mode < 2) → ((d : ℕ) → ((w.at c).s.row i).g ≤ (w.at d).s.top) → (d : ℕ) → Below k (upd H i ((w.at c).s.row i).g) (w.at d)
+    cut H o single low d = record { rows = rows; held = held; comes = comes; asserts = asserts; top = top }
+      where
+        a : Assoc
+        a = w.at d
+
+        x : ℕ
+        x = ((w.at c).s.row i).g
+
+        by : (j : ℕ) (y : ℕ) → (j ≡ i → x ≤ y) → H j ≤ y → upd H i x j ≤ y
+        by j y f h = go (upd_tells H i x j)
+          where
+            go : ((j ≡ i) × (upd H i x j ≡ x)) ⊎ ((j ≢ i) × (upd H i x j ≡ H j)) → upd H i x j ≤ y
+            go (inl (e, q)) = let z = f e in omega (arith, q, z)
+            go (inr (n, q)) = omega (arith, q, h)
+
+        same_client : (d ≡ c) ⊎ (d ≢ c)
+        same_client = same_or_not d c
+
+        rows : (j : ℕ) → 2 ≤ (a.s.row j).mode → upd H i x j ≤ (a.s.row j).g
+        rows j t = by j (a.s.row j).g (λ e. subst (λ n. x ≤ (a.s.row n).g) (sym e) (go same_client (subst (λ n. 2 ≤ (a.s.row n).mode) e t))) ((o d).rows j t)
+          where
+            go : (d ≡ c) ⊎ (d ≢ c) → 2 ≤ (a.s.row i).mode → x ≤ (a.s.row i).g
+            go (inl e) t = subst (λ n. x ≤ ((w.at n).s.row i).g) (sym e) (omega arith)
+            go (inr n) t = let z = single d n in absurd (omega (arith, z, t))
+
+        held : Alive k a.c → (j : ℕ) → 2 ≤ (a.c.held j).mode → upd H i x j ≤ (a.c.held j).g
+        held al j t = by j (a.c.held j).g (λ e. subst (λ n. x ≤ (a.c.held n).g) (sym e) (go same_client al (subst (λ n. 2 ≤ (a.c.held n).mode) e t))) ((o d).held al j t)
+          where
+            own : Alive k (w.at c).c → 2 ≤ ((w.at c).c.held i).mode → x ≤ ((w.at c).c.held i).g
+            own al t = let e = (invs c).locks_.seen i (omega (arith, t)) in own_exclusive al ((w.at c).c.held i).g (Holds t e)
+
+            go : (d ≡ c) ⊎ (d ≢ c) → Alive k a.c → 2 ≤ (a.c.held i).mode → x ≤ (a.c.held i).g
+            go (inl e) = subst (λ n. Alive k (w.at n).c → 2 ≤ ((w.at n).c.held i).mode → x ≤ ((w.at n).c.held i).g) (sym e) own
+            go (inr n) = λ al t. absurd (no_other_lock d n al t)
+
+        comes : Alive k a.c → (stamp j g mode : ℕ) → In (msg a.c.life a.c.epoch stamp (Granted j g mode)) a.net → 2 ≤ mode → a.c.seen j < g → upd H i x j ≤ g
+        comes al stamp j g mode y t lt =
+            by j g (λ e. go same_client al (subst (λ n. In (msg a.c.life a.c.epoch stamp (Granted n g mode)) a.net) e y) (subst (λ n. a.c.seen n < g) e lt)) ((o d).comes al stamp j g mode y t lt)
+          where
+            own : Alive k (w.at c).c → In (msg (w.at c).c.life (w.at c).c.epoch stamp (Granted i g mode)) (w.at c).net → (w.at c).c.seen i < g → x ≤ g
+            own al y lt = own_exclusive al g (Comes stamp mode y t lt)
+
+            go : (d ≡ c) ⊎ (d ≢ c) → Alive k a.c → In (msg a.c.life a.c.epoch stamp (Granted i g mode)) a.net → a.c.seen i < g → x ≤ g
+            go (inl e) = subst (λ n. Alive k (w.at n).c → In (msg (w.at n).c.life (w.at n).c.epoch stamp (Granted i g mode)) (w.at n).net → (w.at n).c.seen i < g → x ≤ g) (sym e) own
+            go (inr n) = λ al y lt. absurd (no_other_grant d n al stamp g mode y t lt)
+
+        asserts : a.s.up ≡ true → a.s.grace ≡ true → a.s.timed ≡ false → (life stamp : ℕ) (locks : ℕ → Lock) → In (msg life a.s.epoch stamp (Reassert locks)) a.net → a.s.session < life → (j : ℕ) → 2 ≤ (locks j).mode → upd H i x j ≤ (locks j).g
+        asserts u g ti life stamp locks y lt j t =
+            by j (locks j).g (λ e. subst (λ n. x ≤ (locks n).g) (sym e) (go same_client u g y lt (subst (λ n. 2 ≤ (locks n).mode) e t))) ((o d).asserts u g ti life stamp locks y lt j t)
+          where
+            own : (w.at c).s.up ≡ true → (w.at c).s.grace ≡ true → In (msg life (w.at c).s.epoch stamp (Reassert locks)) (w.at c).net → (w.at c).s.session < life → 2 ≤ (locks i).mode → x ≤ (locks i).g
+            own u g y lt t = absurd (no_own_reassertion g life stamp locks y lt)
+
+            go : (d ≡ c) ⊎ (d ≢ c) → a.s.up ≡ true → a.s.grace ≡ true → In (msg life a.s.epoch stamp (Reassert locks)) a.net → a.s.session < life → 2 ≤ (locks i).mode → x ≤ (locks i).g
+            go (inl e) = subst (λ n. (w.at n).s.up ≡ true → (w.at n).s.grace ≡ true → In (msg life (w.at n).s.epoch stamp (Reassert locks)) (w.at n).net → (w.at n).s.session < life → 2 ≤ (locks i).mode → x ≤ (locks i).g) (sym e) own
+            go (inr n) = λ u g y lt t. absurd (no_other_reassertion d n u g life stamp locks y t)
 
         top : (j : ℕ) → upd H i x j ≤ a.s.top
         top j = by j a.s.top (λ e. low d) ((o d).top j)

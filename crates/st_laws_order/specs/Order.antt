@@ -1,5 +1,5 @@
 -- The order of locks in the association machine: the greatest number under which a file was changed, and who may change it next.
-use Rattle.std.specs.Prelude.{◌≡◌, ℕ, ◌<◌, ◌≤◌, true, false}
+use Rattle.std.specs.Prelude.{◌≡◌, ◌≢◌, ℕ, ◌<◌, ◌≤◌, true, false}
 use Rattle.st_assoc.specs.Assoc.{Alive, Assoc, Config, Config_ok, Granted, In, Lock, Move, Moves, Reached, Reassert, World, msg, upd}
 
 -- Numbers, one for each file, below every exclusive lock that a client has or may come to have without a new grant: below each
@@ -27,3 +27,9 @@ abbrev pub Changes_stay_below : Type 0
 Changes_stay_below =
     (k : Config) (H : ℕ → ℕ) (w : World) (c i : ℕ) → Config_ok k → Reached k w → ((d : ℕ) → Below k H (w.at d)) → Alive k (w.at c).c → 2 ≤ ((w.at c).c.held i).mode →
     ((d : ℕ) → ((w.at c).c.held i).g ≤ (w.at d).s.top) → (d : ℕ) → Below k (upd H i ((w.at c).c.held i).g) (w.at d)
+
+-- So does a cut under a client's exclusive row, where no other client has such a row on the file.
+abbrev pub Cuts_stay_below : Type 0
+Cuts_stay_below =
+    (k : Config) (H : ℕ → ℕ) (w : World) (c i : ℕ) → Config_ok k → Reached k w → ((d : ℕ) → Below k H (w.at d)) → 2 ≤ ((w.at c).s.row i).mode →
+    ((d : ℕ) → d ≢ c → ((w.at d).s.row i).mode < 2) → ((d : ℕ) → ((w.at c).s.row i).g ≤ (w.at d).s.top) → (d : ℕ) → Below k (upd H i ((w.at c).s.row i).g) (w.at d)
