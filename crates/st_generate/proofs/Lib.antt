@@ -1,0 +1,4 @@
+mod Sizes
+mod Drawn
+mod Choices
+mod Runs
