@@ -68,8 +68,8 @@ def candidates():
     lines = [
         FIRST,
         "ghost use Rattle.std.specs.Prelude.{◌≡◌, None, Some, codes};",
-        "ghost use Rattle.st_generate.specs.Generator.{candidate, generator_world, state_after};",
-        "ghost use Rattle.st_generate_rows.specs.Words.{line_of, world_with};",
+        "ghost use Rattle.st_generate.specs.Generator.{candidate};",
+        "ghost use Rattle.st_generate_rows.specs.Words.{line_of};",
     ]
     for name, kind in KINDS.items():
         seed = seed_of(name, kind, 30, 4)
@@ -77,8 +77,8 @@ def candidates():
         for which, (sent, commands) in {"full": (30, 4), "first": (1, 1), "none": (0, 0)}.items():
             event, state = candidate(seed, sent, commands)
             text = "None" if event is None else f'Some (codes "{print_event(event)}\\n")'
-            clauses.append(f"    ensures {which} {{ line_of (candidate (world_with {sent} {commands}) {seed}).0 ≡ {text} }}")
-            clauses.append(f"    ensures {which}_state {{ (candidate (world_with {sent} {commands}) {seed}).1 ≡ {state} }}")
+            clauses.append(f"    ensures {which} {{ line_of (candidate {sent} {commands} {seed}).0 ≡ {text} }}")
+            clauses.append(f"    ensures {which}_state {{ (candidate {sent} {commands} {seed}).1 ≡ {state} }}")
         word = name.replace("_", " ")
         lines += ["", f"/// A candidate from {seed} (kind {kind}, {word}): after 30 messages and 4 commands, after one of each, and at the start.", OPEN, f"pub fn {name}()", *clauses, "{}"]
         if name == "write":

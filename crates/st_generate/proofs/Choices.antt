@@ -39,7 +39,7 @@ tried_stands w later (Some e) x h = go (refusal w e) refl
 choice_stands : (tries : ℕ) (w : World) → refusal w g.fallback ≡ None → (x : ℕ) → refusal w (g.choice tries w x).0 ≡ None
 unfolding g.choice
 choice_stands zero w f x = f
-choice_stands (suc tries) w f x = tried_stands w (g.choice tries w) (g.candidate w x).0 (g.candidate w x).1 (choice_stands tries w f)
+choice_stands (suc tries) w f x = tried_stands w (g.choice tries w) (g.candidate_in w x).0 (g.candidate_in w x).1 (choice_stands tries w f)
 
 pub chosen_stands : (w : World) (x : ℕ) → length w.clients ≡ 3 → length w.servers ≡ 2 → refusal w (g.chosen w x).0 ≡ None
 chosen_stands w x c s = choice_stands 16 w (fallback_stands w c s) x
@@ -58,7 +58,7 @@ tried_good w later (Some e) x d h = go (refusal w e)
 choice_good : (tries : ℕ) (w : World) (x : ℕ) → Good (length w.net.messages) (length w.commands) (g.choice tries w x).0
 unfolding g.choice
 choice_good zero w x = record { range = refl; line = λ a b. ((omega arith, omega arith), (omega arith, omega arith)) }
-choice_good (suc tries) w x = tried_good w (g.choice tries w) (g.candidate w x).0 (g.candidate w x).1 (candidate_good w x) (choice_good tries w)
+choice_good (suc tries) w x = tried_good w (g.choice tries w) (g.candidate_in w x).0 (g.candidate_in w x).1 (candidate_good (length w.net.messages) (length w.commands) x) (choice_good tries w)
 
 pub chosen_good : (w : World) (x : ℕ) → Good (length w.net.messages) (length w.commands) (g.chosen w x).0
 chosen_good w x = choice_good 16 w x

@@ -8,7 +8,6 @@ use Rattle.st_messages.specs.Fits.{is_ask}
 use Rattle.st_messages.specs.declared.event.Event.{Event}
 use Rattle.st_messages.specs.declared.event.Event.TheVariants as events
 use Rattle.st_rules.specs.Safety.{is_event, is_increment}
-use Rattle.st_rules.specs.World.{World}
 use Rattle.st_schedule.specs.Words.{MOST_NUMBER}
 use Rattle.st_schedule.specs.Grammar.{Fits, IsNode, IsFile, IsEven, IsStep, byte_of}
 use Rattle.st_lemmas.proofs.Tables.{and_both}
@@ -159,32 +158,26 @@ numbered_good : (s k count : ℕ) (event : ℕ → Event) → ((n : ℕ) → 1 �
 numbered_good s k count event h None i = tt
 numbered_good s k count event h (Some n) i = h n i.0 i.1
 
-module _ (w : World) (x : ℕ) where
-  abbrev sent : ℕ
-  sent = length w.net.messages
-
-  abbrev submitted : ℕ
-  submitted = length w.commands
-
-  deliver_good : GoodDrawn sent submitted (g.deliver w x).0
+module _ (sent submitted x : ℕ) where
+  deliver_good : GoodDrawn sent submitted (g.deliver sent x).0
   unfolding g.deliver
   deliver_good = numbered_good sent submitted sent events.Deliver (λ n a b. record { range = refl; line = λ p q. (a, omega (arith, b, p)) }) _ (recent_in sent 12 x (omega arith))
 
-  lose_good : GoodDrawn sent submitted (g.lose w x).0
+  lose_good : GoodDrawn sent submitted (g.lose sent x).0
   unfolding g.lose
   lose_good = numbered_good sent submitted sent events.Lose (λ n a b. record { range = refl; line = λ p q. (a, omega (arith, b, p)) }) _ (recent_in sent 12 x (omega arith))
 
-  effect_good : GoodDrawn sent submitted (g.effect w x).0
+  effect_good : GoodDrawn sent submitted (g.effect submitted x).0
   unfolding g.effect
   effect_good = numbered_good sent submitted submitted events.Effect (λ n a b. record { range = refl; line = λ p q. (a, omega (arith, b, q)) }) _ (recent_in submitted 6 x (omega arith))
 
-  success_good : GoodDrawn sent submitted (g.report_success w x).0
+  success_good : GoodDrawn sent submitted (g.report_success submitted x).0
   unfolding g.report_success
   success_good = numbered_good sent submitted submitted g.success (λ n a b. record { range = refl; line = λ p q. (a, omega (arith, b, q)) }) _ (recent_in submitted 6 x (omega arith))
 
-  report_good : GoodDrawn sent submitted (g.report w x).0
+  report_good : GoodDrawn sent submitted (g.report submitted x).0
   unfolding g.report g.outcome
-  report_good = go (g.recent_command w x).0 (recent_in submitted 6 x (omega arith)) (g.recent_command w x).1
+  report_good = go (g.recent submitted 6 x).0 (recent_in submitted 6 x (omega arith)) (g.recent submitted 6 x).1
     where
       go : (o : Option ℕ) → IsNumberOf submitted o → (y : ℕ) → GoodDrawn sent submitted (g.outcome o y).0
       go None i y = tt
@@ -197,15 +190,15 @@ either : {A : Type 0} (P : A → Type 0) (b : Bool) (x y : A) → P x → P y �
 either P true x y p q = p
 either P false x y p q = q
 
-module _ (w : World) where
+module _ (sent submitted : ℕ) where
   -- the candidates of this function are good
   abbrev GoodFrom : (ℕ → Option Event × ℕ) → Type 0
-  GoodFrom f = (x : ℕ) → GoodDrawn (length w.net.messages) (length w.commands) (f x).0
+  GoodFrom f = (x : ℕ) → GoodDrawn sent submitted (f x).0
 
-  network_good : GoodFrom (g.network w)
+  network_good : GoodFrom (g.network sent)
   unfolding g.network
   network_good x =
-      either GoodFrom (g.draw 1 3 x == 0) (g.lose w) _ (lose_good w)
+      either GoodFrom (g.draw 1 3 x == 0) (g.lose sent) _ (lose_good sent submitted)
       (either GoodFrom (g.draw 1 3 x == 1) g.cut g.heal (cut_good _ _) (heal_good _ _)) (g.state_after 1 x)
 
   crash_or_start_good : GoodFrom g.crash_or_start
@@ -214,7 +207,7 @@ module _ (w : World) where
       either GoodFrom (g.draw 1 20 x == 0) g.crash _ (crash_good _ _)
       (either GoodFrom (nat_le (g.draw 1 20 x) 9) g.start g.tick (start_good _ _) (tick_good _ _)) (g.state_after 1 x)
 
-  candidate_good_of : (kind : ℕ) → GoodFrom (g.candidate_of w kind)
+  candidate_good_of : (kind : ℕ) → GoodFrom (g.candidate_of sent submitted kind)
   unfolding g.candidate_of
   candidate_good_of kind =
       either GoodFrom (kind == 0) g.even_advance _ (even_good _ _)
@@ -223,12 +216,12 @@ module _ (w : World) where
       (either GoodFrom (kind == 4) g.ask_write _ (write_good _ _)
       (either GoodFrom (kind == 5) g.ask_read _ (read_good _ _)
       (either GoodFrom (kind == 6) g.ask_sync _ (sync_good _ _)
-      (either GoodFrom (nat_le kind 10) (g.deliver w) _ (deliver_good w)
-      (either GoodFrom (kind == 11) (g.effect w) _ (effect_good w)
-      (either GoodFrom (kind == 12) (g.report_success w) _ (success_good w)
-      (either GoodFrom (kind == 13) (g.report w) _ (report_good w)
-      (either GoodFrom (kind == 14) (g.network w) g.crash_or_start network_good crash_or_start_good))))))))))
+      (either GoodFrom (nat_le kind 10) (g.deliver sent) _ (deliver_good sent submitted)
+      (either GoodFrom (kind == 11) (g.effect submitted) _ (effect_good sent submitted)
+      (either GoodFrom (kind == 12) (g.report_success submitted) _ (success_good sent submitted)
+      (either GoodFrom (kind == 13) (g.report submitted) _ (report_good sent submitted)
+      (either GoodFrom (kind == 14) (g.network sent) g.crash_or_start network_good crash_or_start_good))))))))))
 
-  pub candidate_good : GoodFrom (g.candidate w)
+  pub candidate_good : GoodFrom (g.candidate sent submitted)
   unfolding g.candidate
   candidate_good x = candidate_good_of (g.draw 1 16 x) (g.state_after 1 x)

@@ -101,42 +101,38 @@ ask_read x = after 4 x (events.App (asker 1 x) (asks.Read (file 2 x) (page 4 x))
 unfoldable pub ask_sync : ℕ → Option Event × ℕ
 ask_sync x = after 3 x (events.App (asker 1 x) (asks.Sync (file 2 x)))
 
--- one of the last 12 messages
-abbrev pub recent_message : World → ℕ → Option ℕ × ℕ
-recent_message w x = recent (length w.net.messages) 12 x
+-- a delivery of one of the last 12 messages, of so many that were sent
+unfoldable pub deliver : ℕ → ℕ → Option Event × ℕ
+deliver sent x = numbered_event events.Deliver (recent sent 12 x)
 
--- one of the last 6 commands
-abbrev pub recent_command : World → ℕ → Option ℕ × ℕ
-recent_command w x = recent (length w.commands) 6 x
-
--- a delivery
-unfoldable pub deliver : World → ℕ → Option Event × ℕ
-deliver w x = numbered_event events.Deliver (recent_message w x)
-
--- an effect
-unfoldable pub effect : World → ℕ → Option Event × ℕ
-effect w x = numbered_event events.Effect (recent_command w x)
+-- an effect of one of the last 6 commands, of so many that were submitted
+unfoldable pub effect : ℕ → ℕ → Option Event × ℕ
+effect submitted x = numbered_event events.Effect (recent submitted 6 x)
 
 -- a report of success
 abbrev pub success : ℕ → Event
 success k = events.Report k true
 
--- a report of success
-unfoldable pub report_success : World → ℕ → Option Event × ℕ
-report_success w x = numbered_event success (recent_command w x)
+-- such a report of one of the last 6 commands
+unfoldable pub report_success : ℕ → ℕ → Option Event × ℕ
+report_success submitted x = numbered_event success (recent submitted 6 x)
 
 -- one report in eight is of a failure
 unfoldable pub outcome : Option ℕ → ℕ → Option Event × ℕ
 outcome None x = (None, x)
 outcome (Some k) x = after 1 x (events.Report k (not (draw 1 8 x == 0)))
 
--- a report
-unfoldable pub report : World → ℕ → Option Event × ℕ
-report w x = outcome (recent_command w x).0 (recent_command w x).1
+-- the outcome of a command's report, behind its draw
+abbrev pub with_outcome : Option ℕ × ℕ → Option Event × ℕ
+with_outcome k = outcome k.0 k.1
 
--- a loss
-unfoldable pub lose : World → ℕ → Option Event × ℕ
-lose w x = numbered_event events.Lose (recent_message w x)
+-- a report of one of the last 6 commands
+unfoldable pub report : ℕ → ℕ → Option Event × ℕ
+report submitted x = with_outcome (recent submitted 6 x)
+
+-- a loss of one of the last 12 messages
+unfoldable pub lose : ℕ → ℕ → Option Event × ℕ
+lose sent x = numbered_event events.Lose (recent sent 12 x)
 
 -- a direction is cut
 unfoldable pub cut : ℕ → Option Event × ℕ
@@ -147,12 +143,12 @@ unfoldable pub heal : ℕ → Option Event × ℕ
 heal x = after 2 x (events.Heal (node 1 x) (node 2 x))
 
 -- what happens to the network, by a number below 3
-abbrev pub network_event : World → ℕ → ℕ → Option Event × ℕ
-network_event w n = if n == 0 then lose w else if n == 1 then cut else heal
+abbrev pub network_event : ℕ → ℕ → ℕ → Option Event × ℕ
+network_event sent n = if n == 0 then lose sent else if n == 1 then cut else heal
 
 -- a loss, a cut or a heal
-unfoldable pub network : World → ℕ → Option Event × ℕ
-network w x = network_event w (draw 1 3 x) (state_after 1 x)
+unfoldable pub network : ℕ → ℕ → Option Event × ℕ
+network sent x = network_event sent (draw 1 3 x) (state_after 1 x)
 
 -- a crash
 unfoldable pub crash : ℕ → Option Event × ℕ
@@ -170,25 +166,29 @@ node_event n = if n == 0 then crash else if nat_le n 9 then start else tick
 unfoldable pub crash_or_start : ℕ → Option Event × ℕ
 crash_or_start x = node_event (draw 1 20 x) (state_after 1 x)
 
--- the candidate of a kind below 16
-unfoldable pub candidate_of : World → ℕ → ℕ → Option Event × ℕ
-candidate_of w kind =
+-- the candidate of a kind below 16, where so many messages were sent and so many commands submitted
+unfoldable pub candidate_of : ℕ → ℕ → ℕ → ℕ → Option Event × ℕ
+candidate_of sent submitted kind =
     if kind == 0 then even_advance
     else if kind == 1 then uneven_advance
     else if nat_le kind 3 then tick
     else if kind == 4 then ask_write
     else if kind == 5 then ask_read
     else if kind == 6 then ask_sync
-    else if nat_le kind 10 then deliver w
-    else if kind == 11 then effect w
-    else if kind == 12 then report_success w
-    else if kind == 13 then report w
-    else if kind == 14 then network w
+    else if nat_le kind 10 then deliver sent
+    else if kind == 11 then effect submitted
+    else if kind == 12 then report_success submitted
+    else if kind == 13 then report submitted
+    else if kind == 14 then network sent
     else crash_or_start
 
 -- a candidate: its kind is drawn first
-unfoldable pub candidate : World → ℕ → Option Event × ℕ
-candidate w x = candidate_of w (draw 1 16 x) (state_after 1 x)
+unfoldable pub candidate : ℕ → ℕ → ℕ → Option Event × ℕ
+candidate sent submitted x = candidate_of sent submitted (draw 1 16 x) (state_after 1 x)
+
+-- a candidate in a world
+abbrev pub candidate_in : World → ℕ → Option Event × ℕ
+candidate_in w x = candidate (length w.net.messages) (length w.commands) x
 
 -- The choice of an event.
 
@@ -213,7 +213,7 @@ try_first w later c = tried w later c.0 c.1
 -- the first admissible candidate of so many tries
 unfoldable pub choice : ℕ → World → ℕ → Event × ℕ
 choice zero w x = (fallback, x)
-choice (suc tries) w x = try_first w (choice tries w) (candidate w x)
+choice (suc tries) w x = try_first w (choice tries w) (candidate_in w x)
 
 -- an event of the run so far, and the state behind it: the first admissible candidate of 16
 abbrev pub chosen : World → ℕ → Event × ℕ

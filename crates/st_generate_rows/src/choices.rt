@@ -6,7 +6,7 @@ ghost use Rattle.st_generate.specs.Generator.{candidate, choice, fallback, gener
 /// From 0 the first candidate is the start of a node, which is not admissible, since every node runs.
 #[tactic(auto, unfolding(crate::specs::Words::rows_open))]
 pub fn first_candidate_of_0()
-    ensures { option_map (refusal generator_world) (candidate generator_world 0).0 ≡ Some (Some (refusals.Running (drawn_node 2))) }
+    ensures { option_map (refusal generator_world) (candidate 0 0 0).0 ≡ Some (Some (refusals.Running (drawn_node 2))) }
 {}
 
 /// Without a try the fallback is chosen, and nothing is drawn. It is admissible at the start.

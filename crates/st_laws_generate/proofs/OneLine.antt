@@ -1,6 +1,6 @@
 -- The line of an event has no newline in it.
 use Rattle.std.proofs.Common.{◌≡◌, ℕ, ◌+◌, ◌^◌, ◌<◌, ◌≤◌, Bool, true, false, cond, List, [], ◌∷◌, ◌++◌, inl, inr, length, get_or, refl, ap, sym, ◌∙◌, subst, arith}
-use Rattle.std.specs.Prelude.{◌==◌, ◌&&◌, not, nat_le, nat_lt}
+use Rattle.std.specs.Prelude.{◌==◌, not, nat_lt}
 use Rattle.std.specs.Fmt.{decimal}
 use Rattle.std.specs.List.{list_all, AllByRecursion}
 use Rattle.std.proofs.lemmas.Bool.Decides.{nat_tests}
@@ -17,7 +17,7 @@ use Rattle.st_messages.specs.declared.ask.Ask.TheVariants as asks
 use Rattle.st_messages.specs.declared.event.Event.{Event}
 use Rattle.st_messages.specs.declared.event.Event.TheVariants as events
 use Rattle.st_schedule.specs.Words.{is_digit, is_visible, line_of, spaced, MOST_NUMBER}
-use Rattle.st_schedule.specs.Grammar.{words, words_after, verb, ask_words, name_words, steps_words, in_full, are_equal, byte_of, file_text, file_name, node_text, after_text, result_text, IsWithin, IsNode, IsFile, IsPlace, IsName, IsAfter, FitsName, FitsAsk, Fits, least_step}
+use Rattle.st_schedule.specs.Grammar.{words, words_after, verb, ask_words, name_words, steps_words, in_full, are_equal, byte_of, file_text, node_text, after_text, result_text, IsWithin, IsNode, IsFile, IsPlace, IsName, IsAfter, FitsName, FitsAsk, Fits, least_step}
 use Rattle.st_schedule.proofs.Numbers.{own}
 use Rattle.st_lemmas.proofs.Tables.{and_true, and_both}
 

@@ -1,24 +1,22 @@
 -- The lines of a generated text, and what a reader makes of them.
-use Rattle.std.proofs.Common.{◌≡◌, ℕ, ◌+◌, ◌<◌, ◌≤◌, Bool, true, false, cond, List, [], ◌∷◌, ◌++◌, length, refl, sym, ap, ◌∙◌, subst, arith, leb-true}
+use Rattle.std.proofs.Common.{◌≡◌, ℕ, ◌+◌, ◌≤◌, true, cond, List, [], ◌∷◌, ◌++◌, length, refl, ap, ◌∙◌, arith, leb-true}
 use Rattle.std.specs.Prelude.{◌==◌, not, codes, Ok, map}
 use Rattle.std.specs.Fmt.{digits}
 use Rattle.std.specs.List.{flat_map, AllByRecursion}
-use Rattle.st_base.specs.Config.{check}
 use Rattle.st_messages.specs.declared.event.Event.{Event}
 use Rattle.st_schedule.specs.declared.reader.Line.TheVariants as said
-use Rattle.st_schedule.specs.declared.reader.Progress.{Progress}
 use Rattle.st_schedule.specs.declared.reader.Progress.TheVariants as progress
 use Rattle.st_schedule.specs.Words.{line_of, split}
 use Rattle.st_schedule.specs.Grammar.{Fits, head_words, words}
 use Rattle.st_schedule.specs.Reader.{MOST_EVENTS, read_line, later_line}
-use Rattle.st_schedule.specs.Reading.{line_event, end_of}
+use Rattle.st_schedule.specs.Reading.{line_event, end_of, ends}
 use Rattle.st_schedule.proofs.LinesAsSpelled.{line_is_read}
 use Rattle.st_schedule.proofs.PrintedLines.{read_as}
 use Rattle.st_lemmas.proofs.Tables.{and_true, not_true}
-use Rattle.st_tank.specs.Schedule.{Schedule, Whole, begin, lines_of, onto, schedule_of, with_told}
+use Rattle.st_tank.specs.Schedule.{begin, lines_of, onto, schedule_of, with_told}
 use Rattle.st_generate.specs.Generator as g
 use Rattle.st_generate.specs.GeneratedText as text
-use Rattle.st_generate.specs.Law.{Each_has_a_line, Has_length, Head_has_a_line, HasFew}
+use Rattle.st_generate.specs.Law.{Each_has_a_line, Has_length, Head_has_a_line}
 use Rattle.st_laws_generate.specs.ReadBack.{Head_is_read, Text_is_read, whole}
 use Rattle.st_laws_generate.proofs.OneLine.{event_unbroken, is_unbroken}
 
@@ -51,7 +49,7 @@ tail_lines (e ∷ es) f =
 
 -- The reader.
 end_is_read : (done : ℕ) → read_line (progress.Reading 1 text.counts done) (codes "end") ≡ Ok (said.End, progress.Ended)
-unfolding later_line line_event end_of
+unfolding later_line line_event end_of ends
 end_is_read done = refl
 
 tail_read : (es : List Event) (line done : ℕ) → AllByRecursion (Fits 1 5) es → done + length es ≤ MOST_EVENTS →
