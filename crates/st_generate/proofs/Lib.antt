@@ -2,3 +2,4 @@ mod Sizes
 mod Drawn
 mod Choices
 mod Runs
+mod Full

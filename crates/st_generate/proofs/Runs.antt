@@ -113,7 +113,7 @@ begins_with_a_head = record { sound = refl; some_clients = refl; some_servers = 
 -- Each has a line. A run sends and submits no less than any part of it.
 run_sized : (n : ℕ) (w : World) (x : ℕ) → IsOurs w → Sized w (run (g.generated n w x) w).world
 unfolding run g.generated
-run_sized zero w x o = record { clients = refl; servers = refl; messages = omega arith; commands = omega arith }
+run_sized zero w x o = record { clients = refl; servers = refl; messages = omega arith; commands = omega arith; bytes = omega arith }
 run_sized (suc n) w x o =
     subst (λ (r : Run). Sized w r.world) (sym (run_more n w x o))
     (sized_then w (left w x) _ (left_sized w x o) (run_sized n (left w x) (g.chosen w x).1 (ours_after w _ o (left_sized w x o))))

@@ -1,5 +1,5 @@
--- Every event leaves as many clients and servers as there were, and takes no message and no command away.
-use Rattle.std.proofs.Common.{◌≡◌, ℕ, ◌≤◌, Bool, true, false, List, [], ◌∷◌, length, Option, Some, None, Ok, Err, refl, sym, ap, ◌∙◌, subst, arith, if◌then◌else◌}
+-- Every event leaves as many clients and servers as there were, takes no message and no command away, and counts the bytes of messages.
+use Rattle.std.proofs.Common.{◌≡◌, ◌*◌, ◌+◌, ℕ, ◌≤◌, Bool, true, false, List, [], ◌∷◌, length, Option, Some, None, Ok, Err, refl, sym, ap, ◌∙◌, subst, arith, if◌then◌else◌}
 use Rattle.std.specs.Prelude.{Result, pred}
 use Rattle.st_base.specs.declared.ids.ClientId.{ClientId}
 use Rattle.st_base.specs.declared.ids.ServerId.{ServerId}
@@ -9,6 +9,7 @@ use Rattle.st_base.specs.declared.ids.Stamp.{Stamp}
 use Rattle.st_messages.specs.declared.message.Message.{Message}
 use Rattle.st_messages.specs.declared.event.Event.{Event}
 use Rattle.st_messages.specs.declared.event.Event.TheVariants as events
+use Rattle.st_messages.specs.Sizes.{size_of}
 use Rattle.st_messages.specs.declared.output.Note.{Note}
 use Rattle.st_messages.specs.declared.output.Note.TheVariants as notes
 use Rattle.st_messages.specs.declared.output.Output.{Output}
@@ -32,15 +33,17 @@ use Rattle.st_rules.specs.Events.{Scene, world_step, happens, counted}
 use Rattle.st_lemmas.proofs.Numbers.{set_length, length_more}
 use Rattle.st_lemmas.proofs.Steps.{step_happens}
 
--- Between two worlds: the numbers of clients and servers are the same, those of messages and commands have not fallen.
+-- Between two worlds: the numbers of clients and servers are the same, those of messages and commands have not fallen, and each new
+-- message has at least 38 bytes.
 pub record Sized (w v : World) : Type 0 where
   pub clients : length v.clients ≡ length w.clients
   pub servers : length v.servers ≡ length w.servers
   pub messages : length w.net.messages ≤ length v.net.messages
   pub commands : length w.commands ≤ length v.commands
+  pub bytes : 38 * length v.net.messages + w.net.bytes ≤ v.net.bytes + 38 * length w.net.messages
 
 same_size : (w : World) → Sized w w
-same_size w = record { clients = refl; servers = refl; messages = omega arith; commands = omega arith }
+same_size w = record { clients = refl; servers = refl; messages = omega arith; commands = omega arith; bytes = omega arith }
 
 pub sized_then : (u v w : World) → Sized u v → Sized v w → Sized u w
 sized_then u v w a b =
@@ -49,33 +52,36 @@ sized_then u v w a b =
       servers = b.servers ∙ a.servers;
       messages = let x = a.messages in let y = b.messages in omega (arith, x, y);
       commands = let x = a.commands in let y = b.commands in omega (arith, x, y);
+      bytes = let x = a.bytes in let y = b.bytes in omega (arith, x, y);
     }
 
 -- what a change leaves that touches none of these
-still : (w v : World) → v.clients ≡ w.clients → v.servers ≡ w.servers → v.net.messages ≡ w.net.messages → v.commands ≡ w.commands → Sized w v
-still w v c s m k =
+still : (w v : World) → v.clients ≡ w.clients → v.servers ≡ w.servers → v.net.messages ≡ w.net.messages → v.commands ≡ w.commands → v.net.bytes ≡ w.net.bytes → Sized w v
+still w v c s m k b =
     record {
       clients = ap (λ (xs : List ClientSite). length xs) c;
       servers = ap (λ (xs : List ServerNode). length xs) s;
       messages = let z = ap (λ (xs : List SentMessage). length xs) m in omega (arith, z);
       commands = let z = ap (λ (xs : List IssuedCommand). length xs) k in omega (arith, z);
+      bytes = let z = ap (λ (xs : List SentMessage). length xs) m in omega (arith, z, b);
     }
 
 site_sized : (c : ClientId) (site : ClientSite) (w : World) → Sized w (ev.with_site c site w)
-site_sized c site w = record { clients = set_length w.clients (pred c.0) site; servers = refl; messages = omega arith; commands = omega arith }
+site_sized c site w = record { clients = set_length w.clients (pred c.0) site; servers = refl; messages = omega arith; commands = omega arith; bytes = omega arith }
 
 node_sized : (s : ServerId) (node : ServerNode) (w : World) → Sized w (ev.with_node s node w)
-node_sized s node w = record { clients = refl; servers = set_length w.servers (pred s.0) node; messages = omega arith; commands = omega arith }
+node_sized s node w = record { clients = refl; servers = set_length w.servers (pred s.0) node; messages = omega arith; commands = omega arith; bytes = omega arith }
 
 -- What is sent and submitted.
 sends_sized : (m : Message) (sc : Scene) → Sized sc.world (ev.sends sc m).world
-unfolding ev.sends
+unfolding ev.sends size_of
 sends_sized m sc =
     record {
       clients = refl;
       servers = refl;
       messages = let z = length_more sc.world.net.messages (record { message = m; lost = false }) in omega (arith, z);
       commands = omega arith;
+      bytes = let z = length_more sc.world.net.messages (record { message = m; lost = false }) in omega (arith, z);
     }
 
 client_one : (c : ClientId) (before : ClientState) (o : Output) (sc : Scene) → Sized sc.world (ev.client_says sc c before o).world
@@ -91,15 +97,16 @@ client_one c before (outputs.Submit number at what) sc = go (site_of sc.world c)
           servers = refl;
           messages = omega arith;
           commands = let z = length_more sc.world.commands (ev.issued sc.world c site number at what) in omega (arith, z);
+          bytes = omega arith;
         }
-client_one c before (outputs.Answer op a) sc = still sc.world _ refl refl refl refl
+client_one c before (outputs.Answer op a) sc = still sc.world _ refl refl refl refl refl
 client_one c before (outputs.Note x) sc = note x
   where
     note : (x : Note) → Sized sc.world (ev.client_notes sc c before x).world
-    note (notes.Accepted f p bytes) = still sc.world _ refl refl refl refl
-    note (notes.Patched f p at bytes) = still sc.world _ refl refl refl refl
-    note (notes.Lost s l) = still sc.world _ refl refl refl refl
-    note x = still sc.world _ refl refl refl refl
+    note (notes.Accepted f p bytes) = still sc.world _ refl refl refl refl refl
+    note (notes.Patched f p at bytes) = still sc.world _ refl refl refl refl refl
+    note (notes.Lost s l) = still sc.world _ refl refl refl refl refl
+    note x = still sc.world _ refl refl refl refl refl
 
 client_all : (c : ClientId) (before : ClientState) (os : List Output) (sc : Scene) → Sized sc.world (ev.client_says_all c before os sc).world
 unfolding ev.client_says_all
@@ -112,9 +119,9 @@ server_one s (outputs.Send m) sc = sends_sized m sc
 server_one s (outputs.Note x) sc = note x
   where
     note : (x : Note) → Sized sc.world (ev.server_notes sc s x).world
-    note (notes.Stolen c l) = still sc.world _ refl refl refl refl
-    note (notes.CutDone f p) = still sc.world _ refl refl refl refl
-    note x = still sc.world _ refl refl refl refl
+    note (notes.Stolen c l) = still sc.world _ refl refl refl refl refl
+    note (notes.CutDone f p) = still sc.world _ refl refl refl refl refl
+    note x = still sc.world _ refl refl refl refl refl
 server_one s o sc = same_size sc.world
 
 server_all : (s : ServerId) (os : List Output) (sc : Scene) → Sized sc.world (ev.server_says_all s os sc).world
@@ -125,7 +132,7 @@ server_all s (o ∷ os) sc = sized_then sc.world (ev.server_says sc s o).world _
 -- Flush steps.
 flush_sized : (w : World) (c : ClientId) (s : ServerId) (end : Option Stamp) (phase : Option Phase) → Sized w (ev.flushed_in w c s end phase)
 flush_sized w c s None (Some phases.Flush) = same_size w
-flush_sized w c s (Some end) (Some phases.Flush) = still w _ refl refl refl refl
+flush_sized w c s (Some end) (Some phases.Flush) = still w _ refl refl refl refl refl
 flush_sized w c s end phase = same_size w
 
 flushes_sized : (c : ClientId) (state : ClientState) (ss : List ServerId) (w : World) → Sized w (ev.flushes c state ss w)
@@ -190,6 +197,7 @@ loses_sized w k (Some m) =
       servers = refl;
       messages = let z = set_length w.net.messages (pred k) (record m { lost = true }) in omega (arith, z);
       commands = omega arith;
+      bytes = let z = set_length w.net.messages (pred k) (record m { lost = true }) in omega (arith, z);
     }
 
 told_sized : (w : World) (k : ℕ) (ok : Bool) (o : Option IssuedCommand) → Sized w (ev.tells w k ok o).world
@@ -211,7 +219,7 @@ crashes_sized w (nodes.Client c) = go (site_of w c)
   where
     go : (o : Option ClientSite) → Sized w (ev.crashes_client w c o).world
     go None = same_size w
-    go (Some site) = record { clients = set_length w.clients (pred c.0) (ev.stopped_site site); servers = refl; messages = omega arith; commands = omega arith }
+    go (Some site) = record { clients = set_length w.clients (pred c.0) (ev.stopped_site site); servers = refl; messages = omega arith; commands = omega arith; bytes = omega arith }
 crashes_sized w (nodes.Server s) = go (node_of w s)
   where
     go : (o : Option ServerNode) → Sized w (ev.crashes_server w s o)
@@ -241,13 +249,13 @@ happens_sized w (events.Tick n) = ticks_sized w n
 happens_sized w (events.App c ask) = asks_sized w c ask (site_of w c)
 happens_sized w (events.Deliver k) = delivers_sized w (message_of w k)
 happens_sized w (events.Lose k) = loses_sized w k (message_of w k)
-happens_sized w (events.Cut from to) = still w _ refl refl refl refl
-happens_sized w (events.Heal from to) = still w _ refl refl refl refl
-happens_sized w (events.Advance steps) = still w _ refl refl refl refl
-happens_sized w (events.Effect k) = still w _ refl refl refl refl
-happens_sized w (events.Report k ok) = sized_then w (disks_done w k ok) _ (still w _ refl refl refl refl) (told_sized (disks_done w k ok) k ok (issued_of w k))
+happens_sized w (events.Cut from to) = still w _ refl refl refl refl refl
+happens_sized w (events.Heal from to) = still w _ refl refl refl refl refl
+happens_sized w (events.Advance steps) = still w _ refl refl refl refl refl
+happens_sized w (events.Effect k) = still w _ refl refl refl refl refl
+happens_sized w (events.Report k ok) = sized_then w (disks_done w k ok) _ (still w _ refl refl refl refl refl) (told_sized (disks_done w k ok) k ok (issued_of w k))
 happens_sized w (events.Crash n) = crashes_sized w n
 happens_sized w (events.Start n) = starts_sized w n
 
 pub step_sized : (w : World) (e : Event) (sc : Scene) → world_step w e ≡ Ok sc → Sized w sc.world
-step_sized w e sc h = subst (λ (x : Scene). Sized w x.world) (sym (step_happens w e sc h).1) (sized_then w (counted w) _ (still w _ refl refl refl refl) (happens_sized (counted w) e))
+step_sized w e sc h = subst (λ (x : Scene). Sized w x.world) (sym (step_happens w e sc h).1) (sized_then w (counted w) _ (still w _ refl refl refl refl refl) (happens_sized (counted w) e))

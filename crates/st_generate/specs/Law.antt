@@ -1,8 +1,11 @@
 -- What is promised of generated schedules, over all lengths and seeds.
-use Rattle.std.specs.Prelude.{◌≡◌, ◌≤◌, ℕ, true, List, ◌∷◌, ◌++◌, length, None}
+use Rattle.std.specs.Prelude.{◌≡◌, ◌≤◌, ◌+◌, ℕ, true, List, [], ◌∷◌, ◌++◌, length, None, Result, Ok, Err, ⊤}
 use Rattle.std.specs.List.{list_all, AllByRecursion}
 use Rattle.st_messages.specs.declared.event.Event.{Event}
+use Rattle.st_rules.specs.declared.observation.WorldRefusal.{WorldRefusal}
 use Rattle.st_rules.specs.Admissible.{refusal}
+use Rattle.st_rules.specs.Events.{Scene, world_step}
+use Rattle.st_rules.specs.World.{World}
 use Rattle.st_rules.specs.Report.{opening, lines_from, report, ended}
 use Rattle.st_rules.specs.Run.{Run, run}
 use Rattle.st_rules.specs.Safety.{IsHead, is_event}
@@ -38,6 +41,21 @@ Runs_to_the_end = (n seed : ℕ) → (run_of n seed).refused ≡ None
 -- The report has no refusal: its last line is what `work` tells.
 abbrev pub Is_reported_whole : Type 0
 Is_reported_whole = (n seed : ℕ) → report (run_of n seed) ≡ opening ++ lines_from 1 (run_of n seed).seen ++ ended (work n seed)
+
+-- Each event of a run sends at most this number of messages, the events behind the first one too.
+abbrev pub SendsFewOn : ℕ → (World → Type 0) → World → Result Scene WorldRefusal → Type 0
+SendsFewOn most rest w (Ok sc) = (length sc.world.net.messages ≤ length w.net.messages + most) × rest sc.world
+SendsFewOn most rest w (Err f) = ⊤
+
+-- of these events
+unfoldable pub SendsFew : ℕ → List Event → World → Type 0
+SendsFew most [] w = ⊤
+SendsFew most (e ∷ es) w = SendsFewOn most (SendsFew most es) w (world_step w e)
+
+-- A run sends at most 14,128,181 messages, and as many as one of its events sends at most: a message has at least 38 bytes, and where
+-- there are 536,870,912 bytes nothing is sent.
+abbrev pub Sent_is_bounded : Type 0
+Sent_is_bounded = (most n seed : ℕ) → SendsFew most (generate n seed) generator_world → (work n seed).sent ≤ 14128181 + most
 
 -- The head has a line.
 abbrev pub Head_has_a_line : Type 0

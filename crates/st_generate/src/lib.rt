@@ -1,16 +1,7 @@
 //! Generated schedules: the definition of their events and their text, and what is promised of them over all lengths and seeds.
 #![tactic(auto)]
 
-ghost use Rattle.st_generate.specs.Law.{
-  Begins_with_a_head,
-  Each_has_a_line,
-  Each_is_admissible,
-  Each_is_in_range,
-  Has_length,
-  Head_has_a_line,
-  Is_reported_whole,
-  Runs_to_the_end,
-};
+ghost use Rattle.st_generate.specs.Law.{Begins_with_a_head, Each_has_a_line, Each_is_admissible, Each_is_in_range, Has_length, Head_has_a_line, Is_reported_whole, Runs_to_the_end, Sent_is_bounded};
 
 /// A generated schedule has as many events as were asked for, and begins with a head of schedules.
 pub fn schedules_are_long_enough()
@@ -36,4 +27,9 @@ pub fn runs_come_to_the_end()
 pub fn events_have_lines()
     ensures head { Head_has_a_line }
     ensures events { Each_has_a_line }
+{}
+
+/// A run sends at most 14,128,181 messages, and as many as one of its events sends at most.
+pub fn messages_are_few()
+    ensures { Sent_is_bounded }
 {}
