@@ -58,7 +58,7 @@ module _ (k : Config) (ok : Config_ok k) (s : ℕ) (node : ServerNode) (ended : 
   same w v u b = unseen k s w v node ended G u b
 
   -- and the order is the same
-  below_same : (w v : World) → Unseen s w v → (H : ℕ → ℕ) → All_below k H s ended w node G → All_below k H s ended v node G
+  pub below_same : (w v : World) → Unseen s w v → (H : ℕ → ℕ) → All_below k H s ended w node G → All_below k H s ended v node G
   below_same w v u H o c = subst (Below k H) pair_same (o c)
     where
       clock_s : clock_of w (nodes.Server (server s)) ≡ clock_of v (nodes.Server (server s))
