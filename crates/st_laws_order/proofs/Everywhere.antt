@@ -425,17 +425,17 @@ module _ (k : Config) (count : ℕ) (H : ℕ → ℕ → ℕ) (w : World) (a : A
           let next : ServerNode = start_node node now_ in
           let now : sc ≡ quiet (with_node (server t) next (counted w)) = is ∙ start_is w t node at in
           let down : node.running ≡ false = ap node_runs (sym at) ∙ off in
-          let H : ℕ → Ghost = started_ghosts t z.ended w z.ghosts in
-          let st : Stands k t z.ended sc.world next H = starts_keep k t z.ended w sc node z.ghosts a.waits down e z.both.stands in
+          let S : ℕ → Ghost = started_ghosts t z.ended w z.ghosts in
+          let st : Stands k t z.ended sc.world next S = starts_keep k t z.ended w sc node z.ghosts a.waits down e z.both.stands in
           let v : World = with_node (server t) next (counted w) in
           subst (λ (x : Scene). After x.world) (sym now)
           (by_server t v
           (placed t node next at
           (record { stands = record {
             ended = z.ended;
-            ghosts = H;
-            both = both_on k t w v node next z.ended z.ghosts H refl refl (λ c m i. i) z.both (subst (λ (x : Scene). Stands k t z.ended x.world next H) now st);
-            timed = timed_on k t w v z.ghosts H z.timed refl refl refl refl (many_placed t next) (λ c. refl);
+            ghosts = S;
+            both = both_on k t w v node next z.ended z.ghosts S refl refl (λ c m i. i) z.both (subst (λ (x : Scene). Stands k t z.ended x.world next S) now st);
+            timed = timed_on k t w v z.ghosts S z.timed refl refl refl refl (many_placed t next) (λ c. refl);
             calm = calm_start node.state now_;
             few = few_start w.net.bytes node.state now_;
           }; below = start_keeps k t z.ended w node z.ghosts a.sound a.waits down z.both.stands (H t) y.below })))
