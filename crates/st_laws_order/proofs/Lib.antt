@@ -7,3 +7,4 @@ pub mod Runs
 pub mod Servers
 pub mod Advances
 pub mod Everywhere
+pub mod Tops

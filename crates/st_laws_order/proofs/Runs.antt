@@ -61,7 +61,7 @@ fits modes.X modes.None e a b = absurd (omega arith)
 fits modes.X modes.S e a b = cc
 fits modes.X modes.X e a b = cc
 
-rows_fit : (l : Locks) (c d : ClientId) (i : ℕ) → Compat l → c.0 ≢ d.0 → 1 ≤ (row_or (row_view (row_of l c i))).mode → 1 ≤ (row_or (row_view (row_of l d i))).mode → (row_or (row_view (row_of l c i))).mode + (row_or (row_view (row_of l d i))).mode ≤ 2
+pub rows_fit : (l : Locks) (c d : ClientId) (i : ℕ) → Compat l → c.0 ≢ d.0 → 1 ≤ (row_or (row_view (row_of l c i))).mode → 1 ≤ (row_or (row_view (row_of l d i))).mode → (row_or (row_view (row_of l c i))).mode + (row_or (row_view (row_of l d i))).mode ≤ 2
 rows_fit l c d i k ne = go (row_of l c i) (row_of l d i) refl refl
   where
     go : (o p : Option LockRow) → row_of l c i ≡ o → row_of l d i ≡ p → 1 ≤ (row_or (row_view o)).mode → 1 ≤ (row_or (row_view p)).mode → (row_or (row_view o)).mode + (row_or (row_view p)).mode ≤ 2
