@@ -8,3 +8,4 @@ pub mod Servers
 pub mod Advances
 pub mod Everywhere
 pub mod Tops
+pub mod Grants
