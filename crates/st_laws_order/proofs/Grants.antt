@@ -25,20 +25,22 @@ use Rattle.st_rules.specs.ClientState.{Association, ClientSession, is_at}
 use Rattle.st_rules.specs.Events.{Scene, counted, world_step}
 use Rattle.st_rules.specs.History.{EntryGrant, History, Traced, association_at, association_of, grant_of_lock, grant_of_row, grant_or_zero, is_exclusive_on, is_exclusive_row, lock_grant, locks_at, locks_of_session, recall, recall_all, remember, row_grant, rows_at, traced, traced_after}
 use Rattle.st_rules.specs.Keys.{client, same_file}
+use Rattle.st_rules.specs.Locks.{row_of}
+use Rattle.st_rules.specs.ServerInvariants.{are_once, same_row}
 use Rattle.st_rules.specs.Safety.{ChangesGoInTheOrderOfLocks, IsHead, Step, cuts_under, dirty_at, has_dirty_page, has_exclusive, is_before, is_change_locked, is_event, is_no_lesser, lasts, lasts_at, never_fall, step, steps}
 use Rattle.st_rules.specs.Server.{ServerNode}
 use Rattle.st_rules.specs.World.{World, ClientSite, clock_of, fresh_world, node_of, server, site_of}
-use Rattle.st_assoc.specs.Assoc.{Alive, Client, Config, upd}
+use Rattle.st_assoc.specs.Assoc.{Alive, Client, Config, Config_ok, Lock, Row, upd}
 use Rattle.st_assoc.proofs.Lists.{upd_tells, upd-same, upd-other}
 use Rattle.st_lemmas.specs.Lists.{Has}
 use Rattle.st_lemmas.proofs.Lookups.{some_is}
 use Rattle.st_lemmas.proofs.Steps.{step_happens}
 use Rattle.st_lemmas.proofs.Tables.{and_both, and_true, found_at, has_append, same_or_not}
 use Rattle.st_views.specs.Halves.{held_at, held_in, row_or, row_view}
-use Rattle.st_laws_pages.specs.Locked.{WaitsHold}
+use Rattle.st_laws_pages.specs.Locked.{WaitsHold, is_cut_locked}
 use Rattle.st_laws_pages.proofs.CutLaw.{law as cut_law}
 use Rattle.st_laws_pages.proofs.Whole.{fresh_waits}
-use Rattle.st_laws_server.specs.Pair.{terms_of}
+use Rattle.st_laws_server.specs.Pair.{client_in, terms_of}
 use Rattle.st_laws_server.proofs.OneRow.{row_found}
 use Rattle.st_laws.specs.Law.{In_every_run}
 use Rattle.st_laws.specs.World.{AllStand}
@@ -101,6 +103,32 @@ pub record Grants_stand (k : Config) (count : ℕ) (v : World) (grants : List En
   pub ordered : Ordered k count v numbers
   pub under : (e : EntryGrant) → Has e grants → e.g.0 ≤ numbers e.file.server.0 e.file.ino
   pub falls : never_fall grants ≡ true
+
+-- A server's associations with one more change, and with one more cut.
+server_change : (k : Config) → Config_ok k → (v : World) (s : ℕ) (node : ServerNode) (H : ℕ → ℕ) (o : Ordered_server k v s node H) (c i : ℕ) → Alive k (client_in v c s (o.stands.ended c)) → 2 ≤ ((client_in v c s (o.stands.ended c)).held i).mode →
+    (x : ℕ) → x ≡ ((client_in v c s (o.stands.ended c)).held i).g → (H i ≤ x) × Ordered_server k v s node (upd H i x)
+server_change k ok v s node H o c i al two x e = (let z = (o.below c).held al i two in omega (arith, z, e), subst (λ g. Ordered_server k v s node (upd H i g)) (sym e) (change k ok v s node H o c i al two))
+
+abbrev Row_at : ServerNode → ℕ → ℕ → Row
+Row_at node c i = row_or (row_view (row_of node.state.locks (client c) i))
+
+server_cut : (k : Config) → Config_ok k → (v : World) (s : ℕ) (node : ServerNode) (H : ℕ → ℕ) (o : Ordered_server k v s node H) (c i : ℕ) → 2 ≤ (Row_at node c i).mode →
+    (x : ℕ) → x ≡ (Row_at node c i).g → (H i ≤ x) × Ordered_server k v s node (upd H i x)
+server_cut k ok v s node H o c i two x e = (let z = (o.below c).rows i two in omega (arith, z, e), subst (λ g. Ordered_server k v s node (upd H i g)) (sym e) (cut_row k ok v s node H o c i two))
+
+-- the exclusive row that is found is its client's
+record Row_there (node : ServerNode) (i : ℕ) (r : LockRow) : Type 0 where
+  two : 2 ≤ (Row_at node r.client.0 i).mode
+  g : r.g.0 ≡ (Row_at node r.client.0 i).g
+
+row_there : (node : ServerNode) → are_once same_row node.state.locks.rows ≡ true → (i : ℕ) (r : LockRow) → find (is_exclusive_row i) node.state.locks.rows ≡ Some r → Row_there node i r
+row_there node once i r e = record { two = let y = leb-true 2 (number_of r.mode) (and_true (r.ino == i) _ is.0).1 in let z = ap (λ x. (row_or (row_view x)).mode) there in omega (arith, z, y); g = sym (ap (λ x. (row_or (row_view x)).g) there) }
+  where
+    is : (is_exclusive_row i r ≡ true) × Has r node.state.locks.rows
+    is = found_at (is_exclusive_row i) node.state.locks.rows r e
+
+    there : row_of node.state.locks (client r.client.0) i ≡ Some r
+    there = subst (λ n. row_of node.state.locks (client r.client.0) n ≡ Some r) (eqb-true r.ino i (and_true (r.ino == i) _ is.0).0) (row_found node.state.locks once r is.1)
 
 module _ (k : Config) (count : ℕ) (v : World) where
   -- one more grant
@@ -168,7 +196,7 @@ module _ (k : Config) (count : ℕ) (v : World) where
   -- A client's write or patch.
   module _ (known : Servers_known v) (es : List EntryGrant) (q : Grants_stand k count v es) where
     -- all stands, as the order has it
-    all : AllStand k count v
+    abbrev all : AllStand k count v
     all =
         record {
           terms = q.ordered.all.terms;
@@ -200,93 +228,65 @@ module _ (k : Config) (count : ℕ) (v : World) where
         go None e b = cc
         go (Some site) e b = by site e (cl.association_with site.node.state s) refl (and_true site.node.running _ b).1
 
-    written : (c : ClientId) (f : FileId) (p : PageNo) → lasts v c f.server ≡ true → has_dirty_page f.ino p (association_of v c f.server) ≡ true → Grants_stand k count v (es ++ record { file = f; g = lock_grant v c f } ∷ [])
-    written c f p last dirty = go (there c f.server last)
+    -- the exclusive lock of a file is the one that is found
+    lock_is : (rows : List HeldLock) (i : ℕ) (x : Option HeldLock) → find (is_lock_on i) rows ≡ x → 2 ≤ (held_at x).mode → (grant_or_zero (option_map grant_of_lock (find (is_exclusive_on i) rows))).0 ≡ (held_at x).g
+    lock_is rows i None e t = absurd (omega (arith, t))
+    lock_is rows i (Some x) e t =
+        ap (λ y. (grant_or_zero (option_map grant_of_lock y)).0)
+        (first_too (is_lock_on i) (is_exclusive_on i) (λ y h. (and_true (is_lock_on i y) _ h).0) rows x e (and_both _ _ (found_at (is_lock_on i) rows x e).0 (le-leb 2 (number_of x.mode) t)))
+
+    written_at : (c : ClientId) (f : FileId) (p : PageNo) (node : ServerNode) (at : node_of v (server f.server.0) ≡ Some node) → Lasting k count v all f.server.0 node at c.0 → has_dirty_page f.ino p (association_of v c f.server) ≡ true →
+        Grants_stand k count v (es ++ record { file = f; g = lock_grant v c f } ∷ [])
+    written_at c f p node at l dirty = one_more es q f (lock_grant v c f) z.0 (λ n x. subst (λ (m : ServerNode). Ordered_server k v f.server.0 m (upd (q.numbers f.server.0) f.ino (lock_grant v c f).0)) (some_is (sym at ∙ x)) z.1)
       where
-        go : (node : ServerNode) × (node_of v (server f.server.0) ≡ Some node) → Grants_stand k count v (es ++ record { file = f; g = lock_grant v c f } ∷ [])
-        go (node, at) = one_more es q f (lock_grant v c f) least own
-          where
-            o : Ordered_server k v f.server.0 node (q.numbers f.server.0)
-            o = q.ordered.servers f.server.0 node at
+        o : Ordered_server k v f.server.0 node (q.numbers f.server.0)
+        o = q.ordered.servers f.server.0 node at
 
-            l : Lasting k count v all f.server.0 node at c.0
-            l = lasting k count v all f.server.0 node at c.0 last
+        page : (d : DirtyPage) × Has d l.association.store.pages.dirty × (is_dirty_of f.ino p d ≡ true)
+        page = any_has (is_dirty_of f.ino p) l.association.store.pages.dirty (ap (has_dirty_page f.ino p) (sym l.found) ∙ dirty)
 
-            view : Client
-            view = Rattle.st_laws_server.specs.Pair.client_in v c.0 f.server.0 (o.stands.ended c.0)
+        two : 2 ≤ ((client_in v c.0 f.server.0 ((q.ordered.servers f.server.0 node at).stands.ended c.0)).held f.ino).mode
+        two = subst (λ i. 2 ≤ ((client_in v c.0 f.server.0 ((q.ordered.servers f.server.0 node at).stands.ended c.0)).held i).mode) (eqb-true page.0.ino f.ino (and_true (page.0.ino == f.ino) _ page.2).0)
+            (dirty_mode k count v all f.server.0 node at c.0 l page.0 page.1)
 
-            page : (d : DirtyPage) × Has d l.association.store.pages.dirty × (is_dirty_of f.ino p d ≡ true)
-            page = any_has (is_dirty_of f.ino p) l.association.store.pages.dirty (ap (has_dirty_page f.ino p) (sym l.found) ∙ dirty)
+        held_is : (client_in v c.0 f.server.0 ((q.ordered.servers f.server.0 node at).stands.ended c.0)).held f.ino ≡ held_at (lock_of l.session.locks f.ino)
+        held_is = ap (λ (x : Client). x.held f.ino) l.seen ∙ ap (λ x. held_in x f.ino) l.is
 
-            two : 2 ≤ ((Rattle.st_laws_server.specs.Pair.client_in v c.0 f.server.0 ((q.ordered.servers f.server.0 node at).stands.ended c.0)).held f.ino).mode
-            two = subst (λ i. 2 ≤ ((Rattle.st_laws_server.specs.Pair.client_in v c.0 f.server.0 ((q.ordered.servers f.server.0 node at).stands.ended c.0)).held i).mode) (eqb-true page.0.ino f.ino (and_true (page.0.ino == f.ino) _ page.2).0)
-                (dirty_mode k count v all f.server.0 node at c.0 l page.0 page.1)
+        grant_is : (lock_grant v c f).0 ≡ ((client_in v c.0 f.server.0 ((q.ordered.servers f.server.0 node at).stands.ended c.0)).held f.ino).g
+        grant_is =
+            ap (λ a. (grant_or_zero (option_map grant_of_lock (find (is_exclusive_on f.ino) (locks_at a)))).0) l.found
+            ∙ ap (λ x. (grant_or_zero (option_map grant_of_lock (find (is_exclusive_on f.ino) (locks_of_session x)))).0) l.is
+            ∙ lock_is l.session.locks.rows f.ino (lock_of l.session.locks f.ino) refl (let z = ap (λ (x : Lock). x.mode) held_is in let t = two in omega (arith, z, t))
+            ∙ sym (ap (λ (x : Lock). x.g) held_is)
 
-            held_is : (Rattle.st_laws_server.specs.Pair.client_in v c.0 f.server.0 ((q.ordered.servers f.server.0 node at).stands.ended c.0)).held f.ino ≡ held_at (lock_of l.session.locks f.ino)
-            held_is = ap (λ (x : Client). x.held f.ino) l.seen ∙ ap (λ x. held_in x f.ino) l.is
+        z : (q.numbers f.server.0 f.ino ≤ (lock_grant v c f).0) × Ordered_server k v f.server.0 node (upd (q.numbers f.server.0) f.ino (lock_grant v c f).0)
+        z = server_change k q.ordered.all.sound v f.server.0 node (q.numbers f.server.0) (q.ordered.servers f.server.0 node at) c.0 f.ino l.alive two (lock_grant v c f).0 grant_is
 
-            -- the lock that is found is the file's
-            by : (x : Option HeldLock) → lock_of l.session.locks f.ino ≡ x → 2 ≤ (held_at x).mode → (grant_or_zero (option_map grant_of_lock (find (is_exclusive_on f.ino) l.session.locks.rows))).0 ≡ (held_at x).g
-            by None e t = absurd (omega (arith, t))
-            by (Some x) e t =
-                ap (λ y. (grant_or_zero (option_map grant_of_lock y)).0)
-                (first_too (is_lock_on f.ino) (is_exclusive_on f.ino) (λ y h. (and_true (is_lock_on f.ino y) _ h).0) l.session.locks.rows x e
-                (and_both _ _ (found_at (is_lock_on f.ino) l.session.locks.rows x e).0 (le-leb 2 (number_of x.mode) t)))
-
-            grant_is : (lock_grant v c f).0 ≡ ((Rattle.st_laws_server.specs.Pair.client_in v c.0 f.server.0 ((q.ordered.servers f.server.0 node at).stands.ended c.0)).held f.ino).g
-            grant_is =
-                ap (λ a. (grant_or_zero (option_map grant_of_lock (find (is_exclusive_on f.ino) (locks_at a)))).0) l.found
-                ∙ ap (λ x. (grant_or_zero (option_map grant_of_lock (find (is_exclusive_on f.ino) (locks_of_session x)))).0) l.is
-                ∙ by (lock_of l.session.locks f.ino) refl (let z = ap (λ (x : Rattle.st_assoc.specs.Assoc.Lock). x.mode) held_is in let t = two in omega (arith, z, t))
-                ∙ sym (ap (λ (x : Rattle.st_assoc.specs.Assoc.Lock). x.g) held_is)
-
-            least : q.numbers f.server.0 f.ino ≤ (lock_grant v c f).0
-            least = let z = (o.below c.0).held l.alive f.ino two in let y = grant_is in omega (arith, z, y)
-
-            own : (n : ServerNode) → node_of v (server f.server.0) ≡ Some n → Ordered_server k v f.server.0 n (upd (q.numbers f.server.0) f.ino (lock_grant v c f).0)
-            own n e =
-                subst (λ (m : ServerNode). Ordered_server k v f.server.0 m (upd (q.numbers f.server.0) f.ino (lock_grant v c f).0)) (some_is (sym at ∙ e))
-                (subst (λ g. Ordered_server k v f.server.0 node (upd (q.numbers f.server.0) f.ino g)) (sym grant_is) (change k all.sound v f.server.0 node (q.numbers f.server.0) o c.0 f.ino l.alive two))
+    written : (c : ClientId) (f : FileId) (p : PageNo) → lasts v c f.server ≡ true → has_dirty_page f.ino p (association_of v c f.server) ≡ true → Grants_stand k count v (es ++ record { file = f; g = lock_grant v c f } ∷ [])
+    written c f p last dirty = let n = there c f.server last in written_at c f p n.0 n.1 (lasting k count v all f.server.0 n.0 n.1 c.0 last) dirty
 
     -- a server's cut
+    cut_at : (f : FileId) (node : ServerNode) → node_of v (server f.server.0) ≡ Some node → (r : LockRow) → find (is_exclusive_row f.ino) node.state.locks.rows ≡ Some r → (g : GrantNo) → g.0 ≡ r.g.0 → Grants_stand k count v (es ++ record { file = f; g = g } ∷ [])
+    cut_at f node at r e g same = one_more es q f g z.0 (λ n x. subst (λ (m : ServerNode). Ordered_server k v f.server.0 m (upd (q.numbers f.server.0) f.ino g.0)) (some_is (sym at ∙ x)) z.1)
+      where
+        o : Ordered_server k v f.server.0 node (q.numbers f.server.0)
+        o = q.ordered.servers f.server.0 node at
+
+        there_is : Row_there node f.ino r
+        there_is = row_there node o.stands.calm.once f.ino r e
+
+        z : (q.numbers f.server.0 f.ino ≤ g.0) × Ordered_server k v f.server.0 node (upd (q.numbers f.server.0) f.ino g.0)
+        z = server_cut k q.ordered.all.sound v f.server.0 node (q.numbers f.server.0) o r.client.0 f.ino there_is.two g.0 (same ∙ there_is.g)
+
     was_cut : (f : FileId) → cuts_under f.ino (node_of v f.server) ≡ true → Grants_stand k count v (es ++ record { file = f; g = row_grant v f } ∷ [])
     was_cut f h = go (node_of v f.server) refl h
       where
         go : (x : Option ServerNode) → node_of v f.server ≡ x → cuts_under f.ino x ≡ true → Grants_stand k count v (es ++ record { file = f; g = row_grant v f } ∷ [])
         go None e h = cc
-        go (Some node) e h = one_more es q f (row_grant v f) least own
-          where
-            o : Ordered_server k v f.server.0 node (q.numbers f.server.0)
-            o = q.ordered.servers f.server.0 node e
-
-            r : (r : LockRow) × (find (is_exclusive_row f.ino) node.state.locks.rows ≡ Some r)
-            r = any_found (is_exclusive_row f.ino) node.state.locks.rows (and_true node.running _ h).1
-
-            is : (is_exclusive_row f.ino r.0 ≡ true) × Has r.0 node.state.locks.rows
-            is = found_at (is_exclusive_row f.ino) node.state.locks.rows r.0 r.1
-
-            ino : r.0.ino ≡ f.ino
-            ino = eqb-true r.0.ino f.ino (and_true (r.0.ino == f.ino) _ is.0).0
-
-            there_is : Rattle.st_rules.specs.Locks.row_of node.state.locks (client r.0.client.0) f.ino ≡ Some r.0
-            there_is = subst (λ i. Rattle.st_rules.specs.Locks.row_of node.state.locks (client r.0.client.0) i ≡ Some r.0) ino (row_found node.state.locks o.stands.calm.once r.0 is.1)
-
-            two : 2 ≤ (row_or (row_view (Rattle.st_rules.specs.Locks.row_of node.state.locks (client r.0.client.0) f.ino))).mode
-            two = let z = ap (λ x. (row_or (row_view x)).mode) there_is in let y = leb-true 2 (number_of r.0.mode) (and_true (r.0.ino == f.ino) _ is.0).1 in omega (arith, z, y)
-
-            grant_is : (row_grant v f).0 ≡ (row_or (row_view (Rattle.st_rules.specs.Locks.row_of node.state.locks (client r.0.client.0) f.ino))).g
-            grant_is =
-                ap (λ x. (grant_or_zero (option_map grant_of_row (find (is_exclusive_row f.ino) (rows_at x)))).0) e
-                ∙ ap (λ x. (grant_or_zero (option_map grant_of_row x)).0) r.1
-                ∙ sym (ap (λ x. (row_or (row_view x)).g) there_is)
-
-            least : q.numbers f.server.0 f.ino ≤ (row_grant v f).0
-            least = let z = (o.below r.0.client.0).rows f.ino two in let y = grant_is in omega (arith, z, y)
-
-            own : (n : ServerNode) → node_of v (server f.server.0) ≡ Some n → Ordered_server k v f.server.0 n (upd (q.numbers f.server.0) f.ino (row_grant v f).0)
-            own n x =
-                subst (λ (m : ServerNode). Ordered_server k v f.server.0 m (upd (q.numbers f.server.0) f.ino (row_grant v f).0)) (some_is (sym e ∙ x))
-                (subst (λ g. Ordered_server k v f.server.0 node (upd (q.numbers f.server.0) f.ino g)) (sym grant_is) (cut_row k all.sound v f.server.0 node (q.numbers f.server.0) o r.0.client.0 f.ino two))
+        go (Some node) e h =
+            let r = any_found (is_exclusive_row f.ino) node.state.locks.rows (and_true node.running _ h).1 in
+            cut_at f node e r.0 r.1 (row_grant v f)
+            (ap (λ x. (grant_or_zero (option_map grant_of_row (find (is_exclusive_row f.ino) (rows_at x)))).0) e ∙ ap (λ x. (grant_or_zero (option_map grant_of_row x)).0) r.1)
 
   -- What is observed.
   one_seen : (before : World) (h : History) (o : Observation) → Servers_known v → is_change_locked v o ≡ true → Grants_stand k count v h.grants → Grants_stand k count v (recall before v h o).grants
@@ -329,7 +329,7 @@ one k count past t e sc h b taken = (grants.falls, record { grants = grants; wai
     p : (Rattle.st_rules.specs.Admissible.refusal t.world e ≡ None) × (sc ≡ Rattle.st_rules.specs.Events.happens (counted t.world) e)
     p = step_happens t.world e sc taken
 
-    cut : _
+    cut : record { locked : list_all (is_cut_locked sc.world.servers) sc.seen ≡ true; holds : WaitsHold sc.world }
     cut = cut_law t.world e sc taken (waits_owed k count t.world was e p.0) b.waits
 
     written : Written k count sc
