@@ -130,6 +130,14 @@ row_there node once i r e = record { two = let y = leb-true 2 (number_of r.mode)
     there : row_of node.state.locks (client r.client.0) i ≡ Some r
     there = subst (λ n. row_of node.state.locks (client r.client.0) n ≡ Some r) (eqb-true r.ino i (and_true (r.ino == i) _ is.0).0) (row_found node.state.locks once r is.1)
 
+-- a server that runs and has an exclusive row
+under_is : (x : Option ServerNode) (i : ℕ) → cuts_under i x ≡ true → (node : ServerNode) × (x ≡ Some node) × (list_any (is_exclusive_row i) node.state.locks.rows ≡ true)
+under_is None i e = cc
+under_is (Some node) i e = (node, refl, (and_true node.running _ e).1)
+
+row_is : (x : Option ServerNode) (node : ServerNode) → x ≡ Some node → (i : ℕ) (r : LockRow) → find (is_exclusive_row i) node.state.locks.rows ≡ Some r → (grant_or_zero (option_map grant_of_row (find (is_exclusive_row i) (rows_at x)))).0 ≡ r.g.0
+row_is x node e i r f = ap (λ y. (grant_or_zero (option_map grant_of_row (find (is_exclusive_row i) (rows_at y)))).0) e ∙ ap (λ y. (grant_or_zero (option_map grant_of_row y)).0) f
+
 module _ (k : Config) (count : ℕ) (v : World) where
   -- one more grant
   one_more : (es : List EntryGrant) (q : Grants_stand k count v es) (f : FileId) (g : GrantNo) → q.numbers f.server.0 f.ino ≤ g.0 →
@@ -279,14 +287,10 @@ module _ (k : Config) (count : ℕ) (v : World) where
         z = server_cut k q.ordered.all.sound v f.server.0 node (q.numbers f.server.0) o r.client.0 f.ino there_is.two g.0 (same ∙ there_is.g)
 
     was_cut : (f : FileId) → cuts_under f.ino (node_of v f.server) ≡ true → Grants_stand k count v (es ++ record { file = f; g = row_grant v f } ∷ [])
-    was_cut f h = go (node_of v f.server) refl h
-      where
-        go : (x : Option ServerNode) → node_of v f.server ≡ x → cuts_under f.ino x ≡ true → Grants_stand k count v (es ++ record { file = f; g = row_grant v f } ∷ [])
-        go None e h = cc
-        go (Some node) e h =
-            let r = any_found (is_exclusive_row f.ino) node.state.locks.rows (and_true node.running _ h).1 in
-            cut_at f node e r.0 r.1 (row_grant v f)
-            (ap (λ x. (grant_or_zero (option_map grant_of_row (find (is_exclusive_row f.ino) (rows_at x)))).0) e ∙ ap (λ x. (grant_or_zero (option_map grant_of_row x)).0) r.1)
+    was_cut f h =
+        let n = under_is (node_of v f.server) f.ino h in
+        let r = any_found (is_exclusive_row f.ino) n.0.state.locks.rows n.2 in
+        cut_at f n.0 n.1 r.0 r.1 (row_grant v f) (row_is (node_of v f.server) n.0 n.1 f.ino r.0 r.1)
 
   -- What is observed.
   one_seen : (before : World) (h : History) (o : Observation) → Servers_known v → is_change_locked v o ≡ true → Grants_stand k count v h.grants → Grants_stand k count v (recall before v h o).grants
