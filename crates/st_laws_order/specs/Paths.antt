@@ -37,4 +37,5 @@ pub record Ordered (k : Config) (count : ℕ) (w : World) (H : ℕ → ℕ → �
 -- Every event leaves them below.
 abbrev pub Events_keep_order : Type 0
 Events_keep_order =
-    (k : Config) (count : ℕ) (H : ℕ → ℕ → ℕ) (w : World) (e : Event) (sc : Scene) → Ordered k count w H → Is_full w e → world_step w e ≡ Ok sc → Ordered k count sc.world H
+    (k : Config) (count : ℕ) (H : ℕ → ℕ → ℕ) (w : World) (e : Event) (sc : Scene) → Ordered k count w H →
+    Is_full w e → world_step w e ≡ Ok sc → Ordered k count sc.world H
