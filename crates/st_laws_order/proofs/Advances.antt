@@ -33,7 +33,7 @@ use Rattle.st_laws_order.proofs.Below.{one_move}
 use Rattle.st_laws_server.proofs.Clocks.{Rated, accepted, clock_after}
 use Rattle.st_laws_server.proofs.Delivery.{sound_of}
 use Rattle.st_laws_server.proofs.Epochs as epochs
-use Rattle.st_laws_server.specs.Stands.{pairs, Stands, After_advance}
+use Rattle.st_laws_server.specs.Stands.{pairs, Stands}
 
 -- a clock after an advance, by its place from 1
 clock_on : (steps : List ℕ) (clocks : List Stamp) (p : ℕ) → 1 ≤ p → p ≤ length clocks → length steps ≡ length clocks →

@@ -23,7 +23,6 @@ use Rattle.st_rules.specs.declared.world.SentMessage.{SentMessage}
 use Rattle.st_rules.specs.Admissible as admissible
 use Rattle.st_rules.specs.Events as ev
 use Rattle.st_rules.specs.Events.{Scene, counted, happens, quiet, with_node, server_says_all, server_takes, world_step}
-use Rattle.st_rules.specs.Keys.{server_node}
 use Rattle.st_rules.specs.Server as sv
 use Rattle.st_rules.specs.Server.{ServerNode, crash_node, start_node, is_client_node}
 use Rattle.st_rules.specs.World.{World, ClientSite, clock_of, ended_of, is_life_of, is_running, message_of, node_of, node_runs, numbered, receiver_of, server, site_of, with_numbered}
@@ -35,8 +34,6 @@ use Rattle.st_lemmas.proofs.Steps.{step_happens}
 use Rattle.st_lemmas.proofs.Tables.{and_true, found_at, same_or_not}
 use Rattle.st_views.specs.Halves.{Ghost}
 use Rattle.st_views.proofs.Moves.{Grows}
-use Rattle.st_laws_pages.specs.Owed.{FatesHold}
-use Rattle.st_laws_pages.proofs.Steps.{fates_law}
 use Rattle.st_laws_client.proofs.Goes.{kept_any}
 use Rattle.st_laws_server.specs.Edits.{Wish_input}
 use Rattle.st_laws_server.specs.Law.{started_ghosts}
@@ -55,8 +52,8 @@ use Rattle.st_laws_server.proofs.Outputs.{all_has, step_outs}
 use Rattle.st_laws_order.proofs.Runs.{Stepped_late, delivered, ticked, wish_of}
 use Rattle.st_laws.specs.Law.{Client_event}
 use Rattle.st_laws.specs.Law.Client_event.{By_tick, By_ask, By_message, By_report, By_crash, By_start, By_loss, By_cut, By_heal, By_effect}
-use Rattle.st_laws.specs.Stands.{All_past, Standing, Both, Both_after, Grants_have_modes, Left, Unseen}
-use Rattle.st_laws.specs.World.{AllStand, Is_full, Server_stands, There}
+use Rattle.st_laws.specs.Stands.{All_past, Standing, Both, Grants_have_modes, Left, Unseen}
+use Rattle.st_laws.specs.World.{AllStand, Is_full, Server_stands}
 use Rattle.st_laws.proofs.Clients.{fine_from}
 use Rattle.st_laws_order.proofs.Fold.{law, below_same}
 use Rattle.st_laws.proofs.Fold.{not_false, not_stands, second_none}

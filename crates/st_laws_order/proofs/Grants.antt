@@ -1,6 +1,6 @@
 -- The grants of a history never fall: each new one is that of an exclusive lock, or of an exclusive row, of the world behind the event.
-use Rattle.std.proofs.Common.{◌≡◌, ◌≢◌, ℕ, ◌+◌, ◌<◌, ◌≤◌, ◌⊎◌, Bool, true, false, not, ◌&&◌, ◌||◌, ◌==◌, List, [], ◌∷◌, ◌++◌, Option, Some, None, Ok, refl, sym, ap, ◌∙◌, subst, inl, inr, arith, if◌then◌else◌}
-use Rattle.std.specs.Prelude.{find, length, map, nat_le, option_map}
+use Rattle.std.proofs.Common.{◌≡◌, ◌≢◌, ℕ, ◌+◌, ◌≤◌, ◌⊎◌, Bool, true, false, not, ◌||◌, ◌==◌, List, [], ◌∷◌, ◌++◌, Option, Some, None, Ok, refl, sym, ap, ◌∙◌, subst, inl, inr, arith, if◌then◌else◌}
+use Rattle.std.specs.Prelude.{find, nat_le, option_map}
 use Rattle.std.specs.List.{list_all, list_any}
 use Rattle.std.proofs.lemmas.Bool.{eqb-true, le-leb, leb-true}
 use Rattle.st_base.specs.declared.config.Config as base
@@ -21,21 +21,21 @@ use Rattle.st_rules.specs.declared.pages.DirtyPage.{DirtyPage}
 use Rattle.st_rules.specs.Client as cl
 use Rattle.st_rules.specs.ClientLocks.{is_lock_on, lock_of}
 use Rattle.st_rules.specs.ClientPages.{is_dirty_of}
-use Rattle.st_rules.specs.ClientState.{Association, ClientSession, is_at}
+use Rattle.st_rules.specs.ClientState.{Association, is_at}
 use Rattle.st_rules.specs.Events.{Scene, counted, world_step}
-use Rattle.st_rules.specs.History.{EntryGrant, History, Traced, association_at, association_of, grant_of_lock, grant_of_row, grant_or_zero, is_exclusive_on, is_exclusive_row, lock_grant, locks_at, locks_of_session, recall, recall_all, remember, row_grant, rows_at, traced, traced_after}
+use Rattle.st_rules.specs.History.{EntryGrant, History, Traced, association_of, grant_of_lock, grant_of_row, grant_or_zero, is_exclusive_on, is_exclusive_row, lock_grant, locks_at, locks_of_session, recall, recall_all, remember, row_grant, rows_at, traced, traced_after}
 use Rattle.st_rules.specs.Keys.{client, same_file}
 use Rattle.st_rules.specs.Locks.{row_of}
 use Rattle.st_rules.specs.ServerInvariants.{are_once, same_row}
-use Rattle.st_rules.specs.Safety.{ChangesGoInTheOrderOfLocks, IsHead, Step, cuts_under, dirty_at, has_dirty_page, has_exclusive, is_before, is_change_locked, is_event, is_no_lesser, lasts, lasts_at, never_fall, step, steps}
+use Rattle.st_rules.specs.Safety.{ChangesGoInTheOrderOfLocks, IsHead, Step, cuts_under, has_dirty_page, has_exclusive, is_before, is_change_locked, is_event, is_no_lesser, lasts, lasts_at, never_fall, step}
 use Rattle.st_rules.specs.Server.{ServerNode}
 use Rattle.st_rules.specs.World.{World, ClientSite, clock_of, fresh_world, node_of, server, site_of}
 use Rattle.st_assoc.specs.Assoc.{Alive, Client, Config, Config_ok, Lock, Row, upd}
-use Rattle.st_assoc.proofs.Lists.{upd_tells, upd-same, upd-other}
+use Rattle.st_assoc.proofs.Lists.{upd_tells, upd-same}
 use Rattle.st_lemmas.specs.Lists.{Has}
 use Rattle.st_lemmas.proofs.Lookups.{some_is}
 use Rattle.st_lemmas.proofs.Steps.{step_happens}
-use Rattle.st_lemmas.proofs.Tables.{and_both, and_true, found_at, has_append, same_or_not}
+use Rattle.st_lemmas.proofs.Tables.{and_both, and_true, found_at, has_append}
 use Rattle.st_views.specs.Halves.{held_at, held_in, row_or, row_view}
 use Rattle.st_laws_pages.specs.Locked.{WaitsHold, is_cut_locked}
 use Rattle.st_laws_pages.proofs.CutLaw.{law as cut_law}

@@ -1,22 +1,20 @@
 -- A number under which a file is changed is below all that is granted later, to any client.
-use Rattle.std.proofs.Common.{◌≡◌, ◌≢◌, ℕ, ◌+◌, ◌<◌, ◌≤◌, ◌⊎◌, Bool, true, false, Some, None, refl, sym, ap, ◌∙◌, subst, inl, inr, arith, if◌then◌else◌}
+use Rattle.std.proofs.Common.{◌≡◌, ◌≢◌, ℕ, ◌+◌, ◌<◌, ◌≤◌, Bool, true, false, refl, arith, if◌then◌else◌}
 use Rattle.std.specs.Prelude.{nat_lt}
 use Rattle.std.proofs.lemmas.Bool.{ltb-false, ltb-true}
 use Rattle.st_base.specs.declared.ids.NodeId.TheVariants as nodes
 use Rattle.st_base.specs.declared.ids.Stamp.{Stamp}
 use Rattle.st_rules.specs.Keys.{client}
 use Rattle.st_rules.specs.Server.{ServerNode, ServerState}
-use Rattle.st_rules.specs.World.{World, clock_of, node_of, server}
+use Rattle.st_rules.specs.World.{World, clock_of, server}
 use Rattle.st_assoc.specs.Assoc.{Alive, Assoc, Config, Config_ok, Moves, Rises, Stays, Goes_on, Works, Reached, World as Machine, upd}
 use Rattle.st_assoc.proofs.World.{invariant}
-use Rattle.st_lemmas.proofs.Tables.{same_or_not}
 use Rattle.st_views.specs.Halves.{Ghost}
-use Rattle.st_laws_server.specs.Pair.{Served, client_in, pair}
-use Rattle.st_laws_server.specs.Stands.{Compat, Stands, pairs}
-use Rattle.st_laws_server.specs.View.{Sound, Stands_at, Stopped}
+use Rattle.st_laws_server.specs.Pair.{client_in, pair}
+use Rattle.st_laws_server.specs.Stands.{pairs}
+use Rattle.st_laws_server.specs.View.{Stands_at}
 use Rattle.st_laws.specs.Stands.{Both}
 use Rattle.st_laws.specs.World.{Server_stands}
-use Rattle.st_laws_order.specs.Order.{Below}
 use Rattle.st_laws_order.specs.Paths.{All_below, Ordered_server}
 use Rattle.st_laws_order.proofs.Changes.{changed, cut}
 use Rattle.st_laws_order.proofs.Runs.{rows_fit}
