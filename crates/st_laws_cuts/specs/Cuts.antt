@@ -64,7 +64,8 @@ pub record Acked (past : List Step) (ms : List Message) (c : ClientId) (s : Serv
 
 -- before each of these steps before which a message of this key had been sent, the client had had this ask
 abbrev pub Early : List Step → ClientId → ServerId → ℕ → ℕ → ℕ → ℕ → Type 0
-Early past c s life epoch number op = (x : Step) (m : Message) → Has x past → Has m (messages x.before.world) → Keyed c s life epoch number m → is_after_ask c op x ≡ true
+Early past c s life epoch number op =
+    (x : Step) (m : Message) → Has x past → Has m (messages x.before.world) → Keyed c s life epoch number m → is_after_ask c op x ≡ true
 
 -- the epoch and the requests of a session
 abbrev pub view : Option ClientSession → Option (ℕ × Requests)
@@ -149,7 +150,8 @@ Kept_state A state = Unit {0}
 -- what stands of a server
 pub record Server_ok (past : List Step) (ms : List Message) (s : ServerId) (node : ServerNode) : Type 0 where
   pub id : node.state.id ≡ s
-  pub kept : (c : ClientId) (x : Session) → session_of node.state.sessions c ≡ Some x → Kept_state (Acked past ms c s x.life.0 node.state.stable.epoch.0) x.state
+  pub kept : (c : ClientId) (x : Session) → session_of node.state.sessions c ≡ Some x →
+      Kept_state (Acked past ms c s x.life.0 node.state.stable.epoch.0) x.state
 
 -- Behind every event: each acknowledgement is of a request that was sent, and what it asks was done; and so is each that is kept.
 pub record Cuts_hold (past : List Step) (t : Traced) : Type 0 where

@@ -1,12 +1,11 @@
 -- Moves leave the numbers of changes below every exclusive lock.
-use Rattle.std.proofs.Common.{◌≡◌, ◌≢◌, ℕ, ◌+◌, ◌<◌, ◌≤◌, ◌⊎◌, true, false, List, ◌∷◌, refl, sym, ap, ◌∙◌, subst, inl, inr, arith}
-use Rattle.st_assoc.specs.Assoc.{Config, Config_ok, Lock, Body, Msg, Row, no_row, upd, Client, Server, Assoc, In, Alive, msg, Move, Moves, Stays, Goes_on, World, Reached, Step, Then, of_request, of_kept, is_reassert, Reassert, Granted, Advance, Greets, Asks, Loses, Crashes, Begins, Renews, Installs, Asked_of_none, Asked, Declines, Repeats, Again, Works, Rests, Sweeps, Reduces, Adopts, Reasserts, Settles, Welcomes, Welcomes_again, Acks, Refuses, Accepts, Suspects, Steals, Grace_ends, Grants, Grants_again, Demands, Releases, Rises, Stops, Starts}
-use Rattle.st_assoc.proofs.Lists.{in_cons, swept, upd_all, upd_both, upd_up, upd_tells, upd-same, upd-other}
+use Rattle.std.proofs.Common.{◌≡◌, ℕ, ◌<◌, ◌≤◌, ◌⊎◌, true, false, ◌∷◌, refl, sym, ap, subst, inl, inr, arith}
+use Rattle.st_assoc.specs.Assoc.{Config, Config_ok, Lock, Msg, upd, Client, Assoc, In, Alive, msg, Move, Moves, Stays, Goes_on, Reassert, Granted, Advance, Greets, Asks, Loses, Crashes, Begins, Renews, Installs, Asked_of_none, Asked, Declines, Repeats, Again, Sweeps, Reduces, Adopts, Reasserts, Welcomes, Welcomes_again, Acks, Refuses, Accepts, Suspects, Steals, Grace_ends, Grants, Grants_again, Demands, Releases, Rises, Stops, Starts}
+use Rattle.st_assoc.proofs.Lists.{swept, upd_all, upd_up}
 use Rattle.st_assoc.proofs.Timing.{Timing}
 use Rattle.st_assoc.proofs.Locks.{Locks}
 use Rattle.st_assoc.proofs.Claims.{Asked_for, in_back, inside}
 use Rattle.st_assoc.proofs.Invariant.{Invariant, kept_one}
-use Rattle.st_assoc.proofs.World.{invariant}
 use Rattle.st_laws_order.specs.Order.{Below}
 
 granted_is : (i g m i2 g2 m2 : ℕ) → Granted i g m ≡ Granted i2 g2 m2 → (i ≡ i2) × (g ≡ g2) × (m ≡ m2)

@@ -1,10 +1,9 @@
 -- A change under an exclusive lock leaves the numbers of changes below the locks of all clients.
-use Rattle.std.proofs.Common.{◌≡◌, ◌≢◌, ℕ, ◌+◌, ◌<◌, ◌≤◌, ◌⊎◌, Bool, true, false, List, ◌∷◌, refl, sym, ap, ◌∙◌, subst, inl, inr, arith}
-use Rattle.st_assoc.specs.Assoc.{Config, Config_ok, Lock, Msg, Row, upd, Client, Server, Assoc, In, Alive, msg, send, server, client, Move, World, Reached, At_first, Then, Works, Shared, Step, Rows_compat, In_service, of_session, Reassert, Reasserted, Granted, Installs, Accepts}
-use Rattle.st_assoc.proofs.Lists.{upd_all, upd_tells, upd-same, upd-other}
-use Rattle.st_assoc.proofs.Timing.{Timing, renews_of}
-use Rattle.st_assoc.proofs.Locks.{Locks}
-use Rattle.st_assoc.proofs.Claims.{inside, not_lost}
+use Rattle.std.proofs.Common.{◌≡◌, ◌≢◌, ℕ, ◌<◌, ◌≤◌, ◌⊎◌, true, false, refl, sym, ap, ◌∙◌, subst, inl, inr, arith}
+use Rattle.st_assoc.specs.Assoc.{Config, Config_ok, Lock, Row, upd, Assoc, In, Alive, msg, send, server, client, Move, World, Reached, At_first, Then, Works, Shared, Rows_compat, In_service, Reassert, Reasserted, Granted, Installs, Accepts}
+use Rattle.st_assoc.proofs.Lists.{upd_tells, upd-same, upd-other}
+use Rattle.st_assoc.proofs.Timing.{renews_of}
+use Rattle.st_assoc.proofs.Claims.{inside}
 use Rattle.st_assoc.proofs.Lives.{first_in_grace}
 use Rattle.st_assoc.proofs.Steps.{bool_cases, same_or_less}
 use Rattle.st_assoc.proofs.Exact.{Exclusive_at, Holds, Comes, held_exact}

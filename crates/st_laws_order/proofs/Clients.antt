@@ -1,6 +1,6 @@
 -- A step of a client keeps the order of locks at each server: all stands again, by moves of every association.
-use Rattle.std.proofs.Common.{◌≡◌, ◌≢◌, ℕ, ◌+◌, ◌*◌, ◌<◌, ◌≤◌, ◌⊎◌, Bool, true, false, List, [], ◌∷◌, ◌++◌, ◌==◌, refl, sym, ap, ◌∙◌, subst, inl, inr, arith}
-use Rattle.std.specs.Prelude.{length, Option, Some, None, unwrap_or, option_map, if◌then◌else◌}
+use Rattle.std.proofs.Common.{◌≡◌, ◌≢◌, ℕ, ◌+◌, ◌*◌, ◌<◌, ◌≤◌, ◌⊎◌, Bool, true, false, List, [], ◌∷◌, ◌++◌, refl, sym, ap, ◌∙◌, subst, inl, inr, arith}
+use Rattle.std.specs.Prelude.{length, Option, Some, None, unwrap_or, option_map}
 use Rattle.st_base.specs.declared.ids.ClientId.{ClientId}
 use Rattle.st_base.specs.declared.ids.ServerId.{ServerId}
 use Rattle.st_base.specs.declared.ids.Life.{Life}
@@ -22,19 +22,13 @@ use Rattle.st_rules.specs.Events as ev
 use Rattle.st_rules.specs.World.{World, ClientSite, all_servers, numbered, site_of, clock_of, stamp, server}
 use Rattle.st_rules.specs.Server.{ServerNode}
 use Rattle.st_rules.specs.Client.{ClientNode}
-use Rattle.st_assoc.specs.Assoc as net
-use Rattle.st_assoc.specs.Assoc.{Config, Config_ok, Msg, Assoc, Moves, Stays, Works, upd, end_now}
+use Rattle.st_assoc.specs.Assoc.{Config, Config_ok, Msg, Moves, Stays, Works, upd, end_now}
 use Rattle.st_assoc.proofs.Lists.{upd_all, upd_both}
 use Rattle.st_lemmas.specs.Lists.{Has}
 use Rattle.st_lemmas.proofs.Tables.{has_append}
 use Rattle.st_lemmas.proofs.Numbers.{numbered_own}
-use Rattle.st_base.specs.Mode.{number_of}
-use Rattle.st_messages.specs.declared.message.Message.{Message}
-use Rattle.st_messages.specs.declared.message.Body.{Body}
-use Rattle.st_messages.specs.declared.message.Body.TheVariants as bd
-use Rattle.st_rules.specs.declared.client.ClientInput.TheVariants as inputs
 use Rattle.st_assoc.proofs.World.{invariant}
-use Rattle.st_views.specs.Messages.{Heard, Fine, Shown, Shows, shown, with_date}
+use Rattle.st_views.specs.Messages.{Heard}
 use Rattle.st_views.specs.Halves.{client_at, client_of, Ghost, half_of}
 use Rattle.st_views.proofs.Moves.{Grows, moves_grow, moved}
 use Rattle.st_laws_server.specs.View.{Stands_at}

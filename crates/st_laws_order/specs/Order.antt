@@ -9,8 +9,8 @@ pub record Below (k : Config) (H : ℕ → ℕ) (a : Assoc) : Type 0 where
   pub rows : (i : ℕ) → 2 ≤ (a.s.row i).mode → H i ≤ (a.s.row i).g
   pub held : Alive k a.c → (i : ℕ) → 2 ≤ (a.c.held i).mode → H i ≤ (a.c.held i).g
   pub comes : Alive k a.c → (stamp i g mode : ℕ) → In (msg a.c.life a.c.epoch stamp (Granted i g mode)) a.net → 2 ≤ mode → a.c.seen i < g → H i ≤ g
-  pub asserts : a.s.up ≡ true → a.s.grace ≡ true → a.s.timed ≡ false → (life stamp : ℕ) (locks : ℕ → Lock) → In (msg life a.s.epoch stamp (Reassert locks)) a.net →
-      a.s.session < life → (i : ℕ) → 2 ≤ (locks i).mode → H i ≤ (locks i).g
+  pub asserts : a.s.up ≡ true → a.s.grace ≡ true → a.s.timed ≡ false → (life stamp : ℕ) (locks : ℕ → Lock) →
+      In (msg life a.s.epoch stamp (Reassert locks)) a.net → a.s.session < life → (i : ℕ) → 2 ≤ (locks i).mode → H i ≤ (locks i).g
   pub top : (i : ℕ) → H i ≤ a.s.top
 
 -- Each move leaves them below: a new lock is above all, and every other one stood before.
@@ -25,11 +25,12 @@ Lists_stay_above = (k : Config) (H : ℕ → ℕ) (w : World) (c : ℕ) (b : Ass
 -- other client has or may come to have such a lock on the file without a new grant. The number is among those that were granted.
 abbrev pub Changes_stay_below : Type 0
 Changes_stay_below =
-    (k : Config) (H : ℕ → ℕ) (w : World) (c i : ℕ) → Config_ok k → Reached k w → ((d : ℕ) → Below k H (w.at d)) → Alive k (w.at c).c → 2 ≤ ((w.at c).c.held i).mode →
-    ((d : ℕ) → ((w.at c).c.held i).g ≤ (w.at d).s.top) → (d : ℕ) → Below k (upd H i ((w.at c).c.held i).g) (w.at d)
+    (k : Config) (H : ℕ → ℕ) (w : World) (c i : ℕ) → Config_ok k → Reached k w → ((d : ℕ) → Below k H (w.at d)) → Alive k (w.at c).c →
+    2 ≤ ((w.at c).c.held i).mode → ((d : ℕ) → ((w.at c).c.held i).g ≤ (w.at d).s.top) → (d : ℕ) → Below k (upd H i ((w.at c).c.held i).g) (w.at d)
 
 -- So does a cut under a client's exclusive row, where no other client has such a row on the file.
 abbrev pub Cuts_stay_below : Type 0
 Cuts_stay_below =
     (k : Config) (H : ℕ → ℕ) (w : World) (c i : ℕ) → Config_ok k → Reached k w → ((d : ℕ) → Below k H (w.at d)) → 2 ≤ ((w.at c).s.row i).mode →
-    ((d : ℕ) → d ≢ c → ((w.at d).s.row i).mode < 2) → ((d : ℕ) → ((w.at c).s.row i).g ≤ (w.at d).s.top) → (d : ℕ) → Below k (upd H i ((w.at c).s.row i).g) (w.at d)
+    ((d : ℕ) → d ≢ c → ((w.at d).s.row i).mode < 2) → ((d : ℕ) → ((w.at c).s.row i).g ≤ (w.at d).s.top) → (d : ℕ) →
+    Below k (upd H i ((w.at c).s.row i).g) (w.at d)
