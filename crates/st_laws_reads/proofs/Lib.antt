@@ -1,2 +1,4 @@
 pub mod Alone
 pub mod Takings
+pub mod Dropping
+pub mod Events

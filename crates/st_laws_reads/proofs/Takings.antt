@@ -1,5 +1,5 @@
 -- An event at which a client takes an input keeps the copies of all clients.
-use Rattle.std.proofs.Common.{◌≡◌, ◌≢◌, ℕ, ◌+◌, ◌≤◌, ◌⊎◌, Bool, true, false, ◌&&◌, ◌==◌, List, [], ◌∷◌, ◌++◌, Option, Some, None, Ok, Err, refl, sym, ap, ◌∙◌, subst, inl, inr, append_assoc, if◌then◌else◌}
+use Rattle.std.proofs.Common.{◌≡◌, ◌≢◌, ℕ, ◌+◌, ◌⊎◌, Bool, true, false, List, [], ◌∷◌, ◌++◌, Option, Some, None, Ok, Err, refl, sym, ap, ◌∙◌, subst, inl, inr, append_assoc, if◌then◌else◌}
 use Rattle.std.proofs.lemmas.Bool.{eqb-true, ne_eqb}
 use Rattle.st_base.specs.declared.ids.ClientId.{ClientId}
 use Rattle.st_base.specs.declared.ids.NodeId.{NodeId}
@@ -23,8 +23,7 @@ use Rattle.st_rules.specs.Events as ev
 use Rattle.st_rules.specs.Events.{Scene, counted, happens, world_step}
 use Rattle.st_rules.specs.FlatLog.{is_of_client}
 use Rattle.st_rules.specs.Keys.{client}
-use Rattle.st_rules.specs.Server.{ServerNode}
-use Rattle.st_rules.specs.World.{World, ClientSite, clock_of, issued_of, message_of, node_of, numbered, receiver_of, site_of}
+use Rattle.st_rules.specs.World.{World, ClientSite, clock_of, issued_of, message_of, numbered, receiver_of, site_of}
 use Rattle.st_assoc.specs.Assoc.{Config}
 use Rattle.st_lemmas.specs.Lists.{Has}
 use Rattle.st_lemmas.proofs.Lookups.{some_is}
@@ -43,7 +42,6 @@ use Rattle.st_laws_copies.specs.World.{All_own, Client_rests, Own_entry, Taking,
 use Rattle.st_laws_copies.proofs.Others.{entries_law}
 use Rattle.st_laws_copies.proofs.Rests.{clocks_law, rests_law}
 use Rattle.st_laws_copies.proofs.World as own
-use Rattle.st_laws_reads.specs.Law.{Running}
 use Rattle.st_laws_reads.specs.World.{All_there, CopiesHold, Site_holds, Taking_owed, Takings_keep_copies}
 use Rattle.st_laws_reads.proofs.Alone as alone
 
@@ -83,7 +81,7 @@ there_next w now s (a ∷ xs) (b ∷ ys) p t = record { one = subst (λ (v : Ser
 there_next w now s [] (b ∷ ys) p t = absurd p
 there_next w now s (a ∷ xs) [] p t = absurd p
 
-there_at : (w : World) (xs : List Association) (a : Association) → All_there w xs → Has a xs → There w a.server
+pub there_at : (w : World) (xs : List Association) (a : Association) → All_there w xs → Has a xs → There w a.server
 there_at w [] a t h = elim h [ ]
 there_at w (x ∷ xs) a t (inl e) = subst (λ (y : Association). There w y.server) (sym e) t.one
 there_at w (x ∷ xs) a t (inr h) = there_at w xs a t.rest h
