@@ -201,9 +201,10 @@ module _ (asks : ℕ → ℕ → Option Ask) (k : Config) (count : ℕ) (w : Wor
       not_true false f = refl
 
       facts : (m : ℕ) (o : LogOwner) → ev.is_of_crashed w c m o ≡ true → Pends w.log o → Of_no_present_life (client d) o state.config.lease now state.associations × Unheld o.file state.config.lease now state.associations
-      facts m o q p =
-          (no_present (client d) o state.config.lease now state.associations (λ b i l. not_true _ (others m o q b)),
-           unheld_all o.file state.config.lease now state.associations (λ b i l s. unheld_for o p (inr tt) b i l s (others m o q b)))
+      facts m o q p = (
+        no_present (client d) o state.config.lease now state.associations (λ b i l. not_true _ (others m o q b)),
+        unheld_all o.file state.config.lease now state.associations (λ b i l s. unheld_for o p (inr tt) b i l s (others m o q b)),
+      )
 
   -- An advance.
   module _ (steps : List ℕ) where
@@ -265,9 +266,10 @@ module _ (asks : ℕ → ℕ → Option Ask) (k : Config) (count : ℕ) (w : Wor
     not_true false f = refl
 
     facts : (l : LeaseLife) → Has l (ev.lives_reached w steps) → (m : ℕ) (o : LogOwner) → ev.is_of_life_over l m o ≡ true → Pends w.log o → Of_no_present_life (client d) o state.config.lease later state.associations × Unheld o.file state.config.lease later state.associations
-    facts l i m o q p =
-        (no_present (client d) o state.config.lease later state.associations (λ b j lb. not_true _ (lapsed l i o q b j lb)),
-         unheld_all o.file state.config.lease later state.associations (λ b j lb s. unheld_for o p (inr tt) b j (lasts_before state.config.lease now later up b.session lb) s (lapsed l i o q b j lb)))
+    facts l i m o q p = (
+      no_present (client d) o state.config.lease later state.associations (λ b j lb. not_true _ (lapsed l i o q b j lb)),
+      unheld_all o.file state.config.lease later state.associations (λ b j lb s. unheld_for o p (inr tt) b j (lasts_before state.config.lease now later up b.session lb) s (lapsed l i o q b j lb)),
+    )
 
     ended_all : (cs : List IssuedCommand) (ls : List LeaseLife) → ((l : LeaseLife) → Has l ls → Has l (ev.lives_reached w steps)) → (es : List LogEntry) → Pending_all (Pends w.log) es → Client_copies (asks d) (client d) es (clock_of v (nodes.Client (client d))) state →
         Client_copies (asks d) (client d) (ev.log_ended_all cs ls es) (clock_of v (nodes.Client (client d))) state

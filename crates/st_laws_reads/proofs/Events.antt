@@ -138,7 +138,7 @@ each_keeps asks w v cs l runs rests h d site e =
     }
 
 -- nothing moved but what copies do not look at
-quiet_keeps : (asks : ℕ → ℕ → Option Ask) (w v : World) → v.clients ≡ w.clients → length v.servers ≡ length w.servers → v.log ≡ w.log → v.clocks ≡ w.clocks → CopiesHold asks w → CopiesHold asks v
+pub quiet_keeps : (asks : ℕ → ℕ → Option Ask) (w v : World) → v.clients ≡ w.clients → length v.servers ≡ length w.servers → v.log ≡ w.log → v.clocks ≡ w.clocks → CopiesHold asks w → CopiesHold asks v
 quiet_keeps asks w v cs l es ts h =
     each_keeps asks w v cs l
     (λ d site r z. subst (λ y. Client_copies (asks d) (client d) y (clock_of v (nodes.Client (client d))) site.node.state) (sym es) (subst (λ y. Client_copies (asks d) (client d) w.log (clock_in y (client d)) site.node.state) (sym ts) z))
@@ -193,7 +193,7 @@ says_keeps asks w s (o ∷ os) sc cs ts g h = one o (λ f p e. g f p (inl (sym e
     one (outputs.Note n) x k = noted n x k
     one o x k = k sc cs ts h
 
-server_keeps : (asks : ℕ → ℕ → Option Ask) (w : World) (s : ServerId) (input : ServerInput) (o : Option ServerNode) → Server_free w s input o → CopiesHold asks w → CopiesHold asks (ev.at_server w s input o).world
+pub server_keeps : (asks : ℕ → ℕ → Option Ask) (w : World) (s : ServerId) (input : ServerInput) (o : Option ServerNode) → Server_free w s input o → CopiesHold asks w → CopiesHold asks (ev.at_server w s input o).world
 unfolding ev.at_server ev.server_takes ev.server_took
 server_keeps asks w s input None g h = h
 server_keeps asks w s input (Some node) g h = go (server.node_step node (clock_of w (nodes.Server s)) input) g
@@ -203,7 +203,7 @@ server_keeps asks w s input (Some node) g h = go (server.node_step node (clock_o
     go (Ok t) g = says_keeps asks w s t.out (ev.quiet (ev.with_node s t.node w)) refl refl g (quiet_keeps asks w (ev.with_node s t.node w) refl (set_length w.servers _ t.node) refl refl h)
 
 -- Effects.
-effect_keeps : (asks : ℕ → ℕ → Option Ask) (w : World) (n : ℕ) → CopiesHold asks w → CopiesHold asks (ev.effects w n).world
+pub effect_keeps : (asks : ℕ → ℕ → Option Ask) (w : World) (n : ℕ) → CopiesHold asks w → CopiesHold asks (ev.effects w n).world
 unfolding ev.effects ev.marks
 effect_keeps asks w n h =
     each_keeps asks w (ev.with_log (ev.log_hard w.log x) (ev.with_disks (ev.disks_after w.disks (disks.effect w.disks n)) w)) refl refl
@@ -213,7 +213,7 @@ effect_keeps asks w n h =
     x = ev.carried_by (issued_of w n)
 
 -- Advances.
-advance_keeps : (asks : ℕ → ℕ → Option Ask) (k : Config) (count : ℕ) (w : World) (steps : List ℕ) → AllStand k count w → Elders_alone w → CopiesHold asks w → CopiesHold asks (ev.advances w steps).world
+pub advance_keeps : (asks : ℕ → ℕ → Option Ask) (k : Config) (count : ℕ) (w : World) (steps : List ℕ) → AllStand k count w → Elders_alone w → CopiesHold asks w → CopiesHold asks (ev.advances w steps).world
 unfolding ev.advances ev.marks
 advance_keeps asks k count w steps all elders h =
     each_keeps asks w (ev.with_log (ev.log_ended_all w.commands (ev.lives_reached w steps) w.log) (ev.with_clocks steps w)) refl refl (λ d site r z. advance_drops asks k count w all h elders d site r steps)
@@ -228,7 +228,7 @@ module _ (asks : ℕ → ℕ → Option Ask) (w : World) (c : ClientId) (site ne
       go (inl q) = inl (sym q, some_is (sym (numbered_own w.clients c.0 new site there) ∙ ap (numbered (with_numbered c.0 new w.clients)) (sym q) ∙ e))
       go (inr n) = inr (λ q. n (sym q), sym (numbered_other w.clients c.0 d new (numbered_below w.clients c.0 site there).0 n) ∙ e)
 
-crash_keeps : (asks : ℕ → ℕ → Option Ask) (k : Config) (count : ℕ) (w : World) (c : ClientId) (site : ClientSite) → site_of w c ≡ Some site → site.node.running ≡ true → AllStand k count w → Elders_alone w → CopiesHold asks w → CopiesHold asks (ev.crashes_client w c (Some site)).world
+pub crash_keeps : (asks : ℕ → ℕ → Option Ask) (k : Config) (count : ℕ) (w : World) (c : ClientId) (site : ClientSite) → site_of w c ≡ Some site → site.node.running ≡ true → AllStand k count w → Elders_alone w → CopiesHold asks w → CopiesHold asks (ev.crashes_client w c (Some site)).world
 unfolding ev.crashes_client ev.marks ev.log_crashed cl.crash
 crash_keeps asks k count w c site there runs all elders h d y e = go (which asks w c site (ev.stopped_site site) there d y e)
   where
@@ -261,7 +261,7 @@ crash_keeps asks k count w c site there runs all elders h d y e = go (which asks
           rests = λ r. (rests_law (client d) w.log y.node.state (s.rests r)).drop (ev.is_of_crashed w c) (log.always Rattle.st_rules.specs.declared.log.Cause.TheVariants.Crash);
         }
 
-start_keeps : (asks : ℕ → ℕ → Option Ask) (w : World) (c : ClientId) (site : ClientSite) → site_of w c ≡ Some site → site.node.running ≡ false → CopiesHold asks w → CopiesHold asks (ev.with_site c (ev.started_site site) w)
+pub start_keeps : (asks : ℕ → ℕ → Option Ask) (w : World) (c : ClientId) (site : ClientSite) → site_of w c ≡ Some site → site.node.running ≡ false → CopiesHold asks w → CopiesHold asks (ev.with_site c (ev.started_site site) w)
 unfolding cl.start
 start_keeps asks w c site there rests h d y e = go (which asks w c site (ev.started_site site) there d y e)
   where

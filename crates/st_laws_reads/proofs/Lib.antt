@@ -2,3 +2,4 @@ pub mod Alone
 pub mod Takings
 pub mod Dropping
 pub mod Events
+pub mod Others
