@@ -3,3 +3,5 @@ pub mod Takings
 pub mod Dropping
 pub mod Events
 pub mod Others
+pub mod Reading
+pub mod Runs

@@ -1,3 +1,4 @@
 pub mod Law
 pub mod World
 pub mod Events
+pub mod Runs
