@@ -37,12 +37,14 @@ use Rattle.st_laws_reads.specs.World.{CopiesHold}
 -- an entry of no present life of a client that runs
 abbrev pub Elder : World → LogEntry → Type 0
 Elder w e =
-    (c : ℕ) (site : ClientSite) (a : Association) → Running w c site → Has a site.node.state.associations → is_of_life (client c) a.server a.life e.of ≡ true → ⊥
+    (c : ℕ) (site : ClientSite) (a : Association) → Running w c site → Has a site.node.state.associations →
+    is_of_life (client c) a.server a.life e.of ≡ true → ⊥
 
 -- What is pending of lives that are over stands alone too: no client that runs has a lock on its file, under a lease that is not over.
 abbrev pub Elders_alone : World → Type 0
 Elders_alone w =
-    (e : LogEntry) → Has e w.log → is_pending e.fate ≡ true → Elder w e → (d : ℕ) (other : ClientSite) → Running w d other → Unheld_by w d other e
+    (e : LogEntry) → Has e w.log → is_pending e.fate ≡ true → Elder w e → (d : ℕ) (other : ClientSite) → Running w d other →
+    Unheld_by w d other e
 
 -- where these associations are, a file is cut that is not locked, or of which nothing is at hand from the page on
 abbrev pub Cut_free_of : FileId → PageNo → ℕ → ℕ → List Association → Type 0

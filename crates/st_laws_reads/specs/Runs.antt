@@ -3,6 +3,8 @@ use Rattle.std.specs.Prelude.{◌≡◌, ◌+◌, ℕ, true, List, [], Option, S
 use Rattle.std.specs.List.{list_all}
 use Rattle.st_base.specs.declared.config.Config.{Config}
 use Rattle.st_messages.specs.declared.event.Event.{Event}
+use Rattle.st_rules.specs.declared.client.ClientInput.{ClientInput}
+use Rattle.st_rules.specs.declared.client.ClientInput.TheVariants as inputs
 use Rattle.st_rules.specs.Events.{counted}
 use Rattle.st_rules.specs.History.{traced}
 use Rattle.st_rules.specs.Safety.{IsHead, Promise, ReadsReturnLastWrites, Throughout, is_event, steps}
@@ -10,10 +12,16 @@ use Rattle.st_rules.specs.World.{World, fresh_world}
 use Rattle.st_laws_copies.specs.World.{Owed_of, Taking, taken}
 use Rattle.st_laws_reads.specs.Events.{Others_owed}
 
+-- of a client that hears a message or the end of a command; a tick and an ask owe nothing
+abbrev pub Input_owed : Taking → ClientInput → Type 0
+Input_owed x inputs.Tick = Unit {0}
+Input_owed x (inputs.App op ask) = Unit {0}
+Input_owed x input = Owed_of x
+
 -- what is owed where a client takes an input, and at each other event
 abbrev pub Taken_owed : World → Event → Option Taking → Type 0
 Taken_owed w e None = Others_owed w e
-Taken_owed w e (Some x) = Owed_of x
+Taken_owed w e (Some x) = Input_owed x x.input
 
 -- What is owed at a step.
 abbrev pub Is_owed : Promise
