@@ -74,7 +74,7 @@ grows : (xs : List Ask) (o : Option Ask) (op : ℕ) (y : Ask) → numbered xs op
 grows xs None op y e = ap (λ l. numbered l op) (none_more xs) ∙ e
 grows xs (Some a) op y e = numbered_old xs a op y e
 
-asks_grow : (past : List Step) (x : Step) (c : ClientId) (op : ℕ) (y : Ask) → numbered (asks_of past c) op ≡ Some y → numbered (asks_of (past ++ x ∷ []) c) op ≡ Some y
+pub asks_grow : (past : List Step) (x : Step) (c : ClientId) (op : ℕ) (y : Ask) → numbered (asks_of past c) op ≡ Some y → numbered (asks_of (past ++ x ∷ []) c) op ≡ Some y
 asks_grow past x c op y e = ap (λ l. numbered l op) (asks_more past x c) ∙ grows (asks_of past c) (ask_in c x.event) op y e
 
 -- a client of which nothing happened, or that was emptied

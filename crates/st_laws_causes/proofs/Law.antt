@@ -49,7 +49,7 @@ use Rattle.st_rules.specs.Lines.{AtEach}
 use Rattle.st_rules.specs.Safety.{HardIsHard, Promise}
 use Rattle.st_laws_causes.proofs.HardEvents.{Asked_hold, Asked_so, happens_left}
 
-numbers_get : (a c i m : ℕ) → slice_get (numbers a c) i ≡ Some m → m ≡ a + i
+pub numbers_get : (a c i m : ℕ) → slice_get (numbers a c) i ≡ Some m → m ≡ a + i
 unfolding numbers
 numbers_get a zero i m e = cc
 numbers_get a (suc c) zero m e = let z = some_is e in omega (arith, z)
@@ -64,7 +64,7 @@ map_length : {A B : Type 0} (f : A → B) (xs : List A) → length (map f xs) �
 map_length f [] = refl
 map_length f (x ∷ xs) = ap suc (map_length f xs)
 
-site_is : (k : Config) (clients servers : ℕ) (j : ℕ) (s : ClientSite) → numbered (map (fresh_site k servers) (numbers 1 clients)) j ≡ Some s → (s ≡ fresh_site k servers j) × (slice_get (numbers 1 clients) (pred j) ≡ Some j)
+pub site_is : (k : Config) (clients servers : ℕ) (j : ℕ) (s : ClientSite) → numbered (map (fresh_site k servers) (numbers 1 clients)) j ≡ Some s → (s ≡ fresh_site k servers j) × (slice_get (numbers 1 clients) (pred j) ≡ Some j)
 site_is k clients servers zero s e = cc
 site_is k clients servers (suc i) s e = at (slice_get (numbers 1 clients) i) refl (sym (get_map (fresh_site k servers) (numbers 1 clients) i) ∙ e)
   where
@@ -77,7 +77,7 @@ unfolding fresh_world
 fresh_causes k clients servers d b form = record { caused = refl; crashes = record {} }
 
 -- The flush at the start: nothing is dirty, and nothing was submitted.
-numbers_in : (a c n : ℕ) → Has n (numbers a c) → (a ≤ n) × (n < a + c)
+pub numbers_in : (a c n : ℕ) → Has n (numbers a c) → (a ≤ n) × (n < a + c)
 unfolding numbers
 numbers_in a zero n i = absurd i
 numbers_in a (suc c) n (inl e) = (omega (arith, e), omega (arith, e))
@@ -130,19 +130,19 @@ fresh_flush k clients servers d b form =
         (omega (arith, x, s), omega (arith, y, s, l))
 
 -- What stands behind steps.
-record Stand (past : List Step) (t : Traced) : Type 0 where
-  fates : FatesHold t.world
-  both : Both_hold past t.world
-  causes : Causes_hold past t.world
-  asks : Asked_hold past t.world
+pub record Stand (past : List Step) (t : Traced) : Type 0 where
+  pub fates : FatesHold t.world
+  pub both : Both_hold past t.world
+  pub causes : Causes_hold past t.world
+  pub asks : Asked_hold past t.world
 
 -- One step, in a world whose places are known.
-record Left (past : List Step) (t : Traced) (e : Event) (sc : Scene) : Type 0 where
-  promise : DropsHaveACause past (step t e sc)
-  hard : HardIsHard past (step t e sc)
-  stand : Stand (past ++ step t e sc ∷ []) (traced_after e t sc)
+pub record Left (past : List Step) (t : Traced) (e : Event) (sc : Scene) : Type 0 where
+  pub promise : DropsHaveACause past (step t e sc)
+  pub hard : HardIsHard past (step t e sc)
+  pub stand : Stand (past ++ step t e sc ∷ []) (traced_after e t sc)
 
-one_step : (past : List Step) (t : Traced) (e : Event) (sc : Scene) → ev.world_step t.world e ≡ Ok sc → PlacesHold t.world → Stand past t → Left past t e sc
+pub one_step : (past : List Step) (t : Traced) (e : Event) (sc : Scene) → ev.world_step t.world e ≡ Ok sc → PlacesHold t.world → Stand past t → Left past t e sc
 unfolding ev.world_step ev.world_by adm.refusal adm.refused_delivery adm.clocks_refused adm.flush_missed adm.refused_effect adm.refused_report world.node_of_place adm.missed_by
 one_step past t e sc is0 places s = go (adm.refusal t.world e) refl is0
   where
@@ -199,7 +199,7 @@ kept_throughout P f (e ∷ es) past t pl s o = go (ev.world_step t.world e) refl
     go (Ok sc) q o g = let z = one_step past t e sc q pl s in (f past (step t e sc) (record { causes = z.promise; hard = z.hard }), g (past ++ step t e sc ∷ []) (traced_after e t sc) o.0 z.stand o.1)
 
 -- The start.
-fresh_places : (k : Config) (clients servers d b form : ℕ) → PlacesHold (fresh_world k clients servers d b form)
+pub fresh_places : (k : Config) (clients servers d b form : ℕ) → PlacesHold (fresh_world k clients servers d b form)
 unfolding fresh_world server.fresh_server cl.fresh_client
 fresh_places k clients servers d b form = record { maps = all_pass (maps_own w) w.servers (maps (numbers 1 servers)); told = refl; known = all_pass (knows_own w) w.clients (known (numbers 1 clients)) }
   where
@@ -238,7 +238,7 @@ fresh_asks : (k : Config) (clients servers d b form : ℕ) → Asked_hold [] (fr
 unfolding fresh_world cl.fresh_client
 fresh_asks k clients servers d b form = λ c site e. subst (Asked_so [] c) (sym (site_is k clients servers c.0 site e).0) (record { count = refl; keys = λ k i. absurd i })
 
-fresh_stand : (k : Config) (clients servers d b form : ℕ) → Stand [] (traced (fresh_world k clients servers d b form))
+pub fresh_stand : (k : Config) (clients servers d b form : ℕ) → Stand [] (traced (fresh_world k clients servers d b form))
 fresh_stand k clients servers d b form =
     record {
       fates = fresh_fates k clients servers d b form;
