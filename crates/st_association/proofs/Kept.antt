@@ -1,6 +1,6 @@
 -- What always stands of a step at a server stands after its changes.
 use Rattle.std.proofs.Common.{◌≡◌, ℕ, ◌⊎◌, ◌+◌, ◌<◌, ◌≤◌, Bool, true, false, List, [], ◌∷◌, ◌++◌, refl, sym, ap, ◌∙◌, subst, inl, inr, arith}
-use Rattle.std.specs.Prelude.{Option, Some, None, filter, Result, Ok, Err, if◌then◌else◌}
+use Rattle.std.specs.Prelude.{Option, Some, None, filter, Result, Ok, Err, if◌then◌else◌, not}
 use Rattle.std.specs.List.{list_all}
 use Rattle.std.proofs.lemmas.Bool.{ltb-true, lt-ltb}
 use Rattle.st_base.specs.declared.config.Config.{Config}
@@ -14,7 +14,7 @@ use Rattle.st_lemmas.proofs.Numbers.{length_more}
 use Rattle.st_lemmas.proofs.Tables.{all_pass, each_passes, has_append, has_filter}
 use Rattle.st_messages.specs.declared.output.Output.{Output}
 use Rattle.st_rules.specs.ClientInvariants.{is_below}
-use Rattle.st_rules.specs.ClientPages.{Pages, begin_command, clean_of, dirty_of, is_full_for, page_command, use_at, use_clean, use_page, write, written}
+use Rattle.st_rules.specs.ClientPages.{Pages, begin_command, clean_of, command_of, dirty_of, end_at, end_command, harden, harden_at, harden_page, is_full_for, is_numbered, page_command, use_at, use_clean, use_page, write, written}
 use Rattle.st_rules.specs.declared.client.CleanPage.{CleanPage}
 use Rattle.st_rules.specs.declared.client.IoKind.{IoKind}
 use Rattle.st_rules.specs.declared.client.PageCommand.{PageCommand}
@@ -167,3 +167,21 @@ module _ (client : ClientId) (config : Config) (server : ServerId) (life : Life)
         lives = omega (arith, m, b);
         requests = omega (arith, m, r);
       }
+
+-- a command ends, or is unknown
+pub below_ended : (n number : ℕ) (ok : Bool) (version : ℕ) (cs : List PageCommand) → list_all (is_below n) cs ≡ true → list_all (is_below n) (end_command cs number ok version).commands ≡ true
+unfolding end_command end_at
+below_ended n number ok version cs h = by (command_of cs number)
+  where
+    by : (o : Option PageCommand) → list_all (is_below n) (end_at cs number ok version o).commands ≡ true
+    by None = h
+    by (Some c) = below_fewer n (λ c. not (is_numbered number c)) cs h
+
+-- versions stay where a page is hardened
+pub versions_hardened : (ps : Pages) (ino : ℕ) (p : PageNo) → (harden ps ino p).next_version ≡ ps.next_version
+unfolding harden harden_at harden_page
+versions_hardened ps ino p = by (dirty_of ps ino p)
+  where
+    by : (o : Option DirtyPage) → (harden_at ps o).next_version ≡ ps.next_version
+    by None = refl
+    by (Some d) = refl

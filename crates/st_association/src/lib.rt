@@ -3,6 +3,7 @@
 
 mod disks;
 mod ending;
+mod losing;
 mod outputs;
 mod pending;
 mod sessions;

@@ -1,11 +1,12 @@
 // The pending operations.
-ghost use Rattle.std.specs.Prelude.{◌≡◌, [], true, OnOk};
+ghost use Rattle.std.specs.Prelude.{◌≡◌, [], true, IfOk, OnOk, filter, not};
+ghost use Rattle.st_messages.specs.Fits.{is_ask};
 ghost use Rattle.st_operations.specs.Pending.{is_fit, marked};
 ghost use Rattle.st_rules.specs.ClientReplies as replies;
 ghost use Rattle.st_rules.specs.ClientState as client;
 
 use crate::turn::Turn;
-use st_messages::AppAnswer;
+use st_messages::{AppAnswer, Ask};
 use st_operations::{Operations, Test};
 use st_rules::Operation;
 use std::alloc::AllocError;
@@ -30,6 +31,25 @@ impl Turn {
         ensures { self.new ≡ client.with_operations operations self.old }
     {
         self.operations = operations;
+    }
+
+    /// Takes out the operations that pass the test.
+    pub fn split_operations<T: Test<Operation>>(
+        &mut self,
+        test: &T,
+    ) -> Result<Operations, AllocError>
+        ensures taken { IfOk result (λ os. os ≡ filter (T.passes test.now) self.old.operations) }
+        ensures left { OnOk result (self.new ≡ client.with_operations (filter (λ o. not (T.passes test.now o)) self.old.operations) self.old) }
+    {
+        self.operations.split(test)
+    }
+
+    /// An operation that just came is pending, behind the others.
+    pub fn pend(&mut self, op: u32, ask: Ask) -> Result<(), AllocError>
+        requires { is_ask ask ≡ true }
+        ensures { OnOk result (self.new ≡ client.keep (client.new_operation op ask) self.old) }
+    {
+        self.operations.push(op, ask)
     }
 
     /// An operation stays pending, behind the others.

@@ -1,14 +1,14 @@
 ghost use Rattle.std.specs.Prelude.{◌≡◌, ◌+◌, ◌<◌, ◌≤◌, ◌^◌, true};
-ghost use Rattle.st_association.specs.Turns.{has_session, parties_of, session_of};
+ghost use Rattle.st_association.specs.Turns.{has_session, most_of, parties_of, session_of};
 ghost use Rattle.st_rules.specs.ClientPasses as passes;
 ghost use Rattle.st_rules.specs.ClientReplies as replies;
 ghost use Rattle.st_rules.specs.Keys.{server_node};
 
 use st_base::{ClientId, Config, Epoch, FileId, Life, ServerId, Stamp};
 use st_client_session::Session;
+use st_lost::LostPages;
 use st_messages::Output;
 use st_operations::Operations;
-use st_rules::LostPage;
 use st_store::Store;
 use std::alloc::Global;
 use std::marker::Model;
@@ -25,7 +25,7 @@ pub struct Turn {
     pub(crate) greeting: Option<Stamp>,
     pub(crate) session: Option<Session>,
     pub(crate) store: Store,
-    pub(crate) lost: Vec<LostPage>,
+    pub(crate) lost: LostPages,
     pub(crate) operations: Operations,
     pub(crate) next_command: u64,
     pub(crate) out: Vec<Output>,
@@ -47,7 +47,7 @@ impl Model for Turn {
         greeting = t.greeting;
         session = option_map told_session t.session;
         store = t.store.store;
-        lost = t.lost.items;
+        lost = t.lost;
       };
       operations = t.operations;
       next_command = t.next_command;
@@ -86,7 +86,8 @@ impl Turn {
 
     /// The life at the server.
     pub fn life(&self) -> Life
-        ensures { result ≡ self.now.here.life }
+        ensures life { result ≡ self.now.here.life }
+        ensures below { self.now.here.life.0 < most_of self.now.out }
     {
         self.life
     }
