@@ -1,6 +1,7 @@
 //! A client's association with one server, and a step at it. `docs/PROTOCOL.md`, "The client", has the rules.
 #![tactic(auto)]
 
+mod association;
 mod disks;
 mod ending;
 mod losing;
@@ -10,4 +11,5 @@ mod sessions;
 mod stores;
 mod turn;
 
+pub use association::Association;
 pub use turn::Turn;
