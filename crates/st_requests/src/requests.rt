@@ -1,4 +1,4 @@
-ghost use Rattle.std.specs.Prelude.{◌≡◌, ◌<◌, ◌^◌, IfOk, None, OnErr, OnOk, nat_lt, option_map};
+ghost use Rattle.std.specs.Prelude.{◌≡◌, ◌+◌, ◌<◌, ◌^◌, IfOk, None, OnErr, OnOk, nat_lt, option_map};
 ghost use Rattle.st_requests.specs.ServerRequests as shown;
 
 use crate::asked::Asked;
@@ -79,7 +79,7 @@ impl Requests {
         now: Stamp,
     ) -> Result<Message, AllocError>
         requires free { self.old.requests.asked ≡ None }
-        requires next { self.old.requests.next < 2 ^ 62 }
+        requires next { self.old.requests.next + 1 < 2 ^ 64 }
         ensures told { IfOk result (λ m. m ≡ shown.asked_message (record { life = life; epoch = epoch }) body now self.old) }
         ensures left { OnOk result (self.new ≡ shown.asking (record { life = life; epoch = epoch }) body now self.old) }
         ensures err { OnErr result (self.new ≡ self.old) }

@@ -1,0 +1,4 @@
+pub mod Kept
+pub mod Sending
+pub mod LostRows
+pub mod Done

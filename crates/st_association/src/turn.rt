@@ -1,0 +1,170 @@
+ghost use Rattle.std.specs.Prelude.{◌≡◌, ◌+◌, ◌<◌, ◌≤◌, ◌^◌, true};
+ghost use Rattle.st_association.specs.Turns.{has_session, most_of, parties_of, session_of};
+ghost use Rattle.st_rules.specs.ClientPasses as passes;
+ghost use Rattle.st_rules.specs.ClientReplies as replies;
+ghost use Rattle.st_rules.specs.Keys.{server_node};
+
+use st_base::{ClientId, Config, Epoch, FileId, Life, ServerId, Stamp};
+use st_client_session::Session;
+use st_lost::LostPages;
+use st_messages::Output;
+use st_operations::Operations;
+use st_store::Store;
+use std::alloc::Global;
+use std::marker::Model;
+
+/// A step so far, at one server: what the client has of the server, its pending operations, and the outputs. Contracts see it as
+/// the definitions' turn.
+#[derive(Drop)]
+pub struct Turn {
+    pub(crate) alloc: Global,
+    pub(crate) id: ClientId,
+    pub(crate) config: Config,
+    pub(crate) server: ServerId,
+    pub(crate) life: Life,
+    pub(crate) greeting: Option<Stamp>,
+    pub(crate) session: Option<Session>,
+    pub(crate) store: Store,
+    pub(crate) lost: LostPages,
+    pub(crate) operations: Operations,
+    pub(crate) next_command: u64,
+    pub(crate) out: Vec<Output>,
+}
+
+impl Model for Turn {
+    ghost use Rattle.std.specs.Prelude.{option_map};
+    ghost use Rattle.st_association.specs.Turns.{IsTurn, told_session};
+    ghost use Rattle.st_rules.specs.ClientState as shared;
+
+    ghost Value = { shared.Turn };
+
+    ghost view = { λ t. record {
+      id = t.id;
+      config = t.config;
+      here = record {
+        server = t.server;
+        life = t.life;
+        greeting = t.greeting;
+        session = option_map told_session t.session;
+        store = t.store.store;
+        lost = t.lost;
+      };
+      operations = t.operations;
+      next_command = t.next_command;
+      out = t.out.items;
+    } };
+
+    ghost invariant = { λ t. IsTurn t.id t.config t.server t.life t.session t.store t.next_command t.out.items };
+}
+
+impl Turn {
+    /// The allocator.
+    pub fn alloc(&self) -> Global {
+        self.alloc
+    }
+
+    /// The client's number.
+    pub fn id(&self) -> ClientId
+        ensures { result ≡ self.now.id }
+    {
+        self.id
+    }
+
+    /// The settings.
+    pub fn config(&self) -> &Config
+        ensures { result.now ≡ self.now.config }
+    {
+        &self.config
+    }
+
+    /// The server.
+    pub fn server(&self) -> ServerId
+        ensures { result ≡ self.now.here.server }
+    {
+        self.server
+    }
+
+    /// The life at the server.
+    pub fn life(&self) -> Life
+        ensures life { result ≡ self.now.here.life }
+        ensures below { self.now.here.life.0 < most_of self.now.out }
+    {
+        self.life
+    }
+
+    /// How long an unanswered message stays before it is sent again.
+    pub fn retry(&self) -> u64
+        ensures { result ≡ self.now.config.retry }
+    {
+        self.config.retry
+    }
+
+    /// The client greeted now.
+    pub fn set_greeting(&mut self, now: Stamp)
+        ensures { self.new ≡ passes.with_greeting now self.old }
+    {
+        self.greeting = Some(now);
+    }
+
+    /// When the client greeted, if it waits for an answer.
+    pub fn greeting(&self) -> Option<Stamp>
+        ensures { result ≡ self.now.here.greeting }
+    {
+        self.greeting
+    }
+
+    /// A file of the server.
+    pub fn file(&self, ino: u32) -> FileId
+        ensures { result ≡ passes.file self.now ino }
+    {
+        FileId {
+            server: self.server,
+            ino,
+        }
+    }
+
+    /// The server's number as a node.
+    pub fn node(&self) -> u16
+        ensures { result ≡ server_node self.now.here.server }
+    {
+        32_768 + self.server.0
+    }
+
+    /// A session begins in this epoch. Its lease has this stamp, and is not over yet.
+    pub fn begin_session(&mut self, epoch: Epoch, stamp: Stamp, now: Stamp)
+        requires past { stamp.0 ≤ now.0 }
+        requires living { now.0 < stamp.0 + self.old.config.lease }
+        requires reading { now.0 ≤ 2 ^ 62 }
+        ensures { self.new ≡ replies.begin_here (replies.new_session epoch stamp) self.old }
+    {
+        self.greeting = None;
+        self.session = Some(Session::begin(
+            self.alloc,
+            self.id,
+            self.server,
+            self.life,
+            &self.config,
+            epoch,
+            stamp,
+            now,
+        ));
+    }
+
+    /// Whether there is a session.
+    pub fn has_session(&self) -> bool
+        ensures { result ≡ has_session self.now }
+    {
+        self.session.is_some()
+    }
+
+    /// The session.
+    pub fn session(&self) -> &Session
+        requires { has_session self.now ≡ true }
+        ensures { result.now ≡ record { of = parties_of self.now.id self.now.here.server self.now.here.life self.now.config; session = session_of self.now } }
+    {
+        match &self.session {
+            Some(session) => session,
+            None => unreachable!(),
+        }
+    }
+}

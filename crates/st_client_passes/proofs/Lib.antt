@@ -1,0 +1,10 @@
+pub mod Frames
+pub mod Idle
+pub mod SentOnes
+pub mod FirstAsking
+pub mod Asks
+pub mod Cached
+pub mod Sessions
+pub mod Reducing
+pub mod Writing
+pub mod Repeating

@@ -1,0 +1,95 @@
+-- What is done with a session, by the session that there is.
+use Rattle.std.proofs.Common.{◌≡◌, ℕ, Bool, true, false, not, List, Option, Some, None, refl, sym, ap, ◌∙◌, true≢false}
+use Rattle.std.specs.Prelude.{is_some}
+use Rattle.st_base.specs.declared.ids.Stamp.{Stamp}
+use Rattle.st_rules.specs.declared.client.Operation.{Operation}
+use Rattle.st_rules.specs.declared.client.StandingKind.{StandingKind}
+use Rattle.st_rules.specs.declared.client.StandingKind.TheVariants as kinds
+use Rattle.st_rules.specs.ClientInvariants.{lasts_here, lasts_in}
+use Rattle.st_rules.specs.ClientLease.{may_use, must_discard, standing_of}
+use Rattle.st_rules.specs.ClientLocks as locks
+use Rattle.st_rules.specs.ClientLocks.{LockCache}
+use Rattle.st_rules.specs.ClientPages as pages
+use Rattle.st_rules.specs.ClientPasses.{operate_by, operate_under, reduce, reduce_idle, reductions, reduce_each, files_demanded, writes, writes_by, write_each, greeting, greeting_by, greet, requests, requests_by, requests_under}
+use Rattle.st_rules.specs.ClientState.{ClientSession, Turn, keep, is_serving}
+use Rattle.st_association.specs.Turns.{has_session, session_of}
+
+-- with this session, or none
+abbrev with_it : Option ClientSession → Turn → Turn
+with_it s t = record t { here = record t.here { session = s } }
+
+-- there is the session, or none
+pub session_is : (t : Turn) → has_session t ≡ true → t.here.session ≡ Some (session_of t)
+session_is t h = by t.here.session h
+  where
+    by : (s : Option ClientSession) → is_some s ≡ true → s ≡ Some (session_of (with_it s t))
+    by None h = absurd (true≢false (sym h))
+    by (Some s) h = refl
+
+pub no_session : (t : Turn) → has_session t ≡ false → t.here.session ≡ None
+no_session t h = by t.here.session h
+  where
+    by : (s : Option ClientSession) → is_some s ≡ false → s ≡ None
+    by None h = refl
+    by (Some s) h = absurd (true≢false h)
+
+pub operate_with : (all : List Operation) (t : Turn) (now : Stamp) (o : Operation) → has_session t ≡ true → operate_by all t now o t.here.session ≡ operate_under all t (session_of t) now o
+unfolding operate_by
+operate_with all t now o h = ap (operate_by all t now o) (session_is t h)
+
+pub operate_without : (all : List Operation) (t : Turn) (now : Stamp) (o : Operation) → has_session t ≡ false → operate_by all t now o t.here.session ≡ keep o t
+unfolding operate_by
+operate_without all t now o h = ap (operate_by all t now o) (no_session t h)
+
+pub reduce_with : (t : Turn) (ino : ℕ) → has_session t ≡ true → reduce t ino t.here.session ≡ reduce_idle t (session_of t) ino
+unfolding reduce
+reduce_with t ino h = ap (reduce t ino) (session_is t h)
+
+pub reduce_without : (t : Turn) (ino : ℕ) → has_session t ≡ false → reduce t ino t.here.session ≡ t
+unfolding reduce
+reduce_without t ino h = ap (reduce t ino) (no_session t h)
+
+pub reductions_with : (t : Turn) → has_session t ≡ true → reductions t ≡ reduce_each (locks.demanded_files (session_of t).locks) t
+unfolding reductions
+reductions_with t h = ap (λ s. reduce_each (files_demanded s) t) (session_is t h)
+
+pub reductions_without : (t : Turn) → has_session t ≡ false → reductions t ≡ t
+unfolding reductions reduce_each
+reductions_without t h = ap (λ s. reduce_each (files_demanded s) t) (no_session t h)
+
+pub writes_with : (now : Stamp) (tick : Bool) (t : Turn) → has_session t ≡ true → writes now tick t ≡ write_each (session_of t) now tick (pages.dirty_places t.here.store.pages) t
+unfolding writes writes_by
+writes_with now tick t h = ap (writes_by t now tick) (session_is t h)
+
+pub writes_without : (now : Stamp) (tick : Bool) (t : Turn) → has_session t ≡ false → writes now tick t ≡ t
+unfolding writes writes_by
+writes_without now tick t h = ap (writes_by t now tick) (no_session t h)
+
+pub greeting_with : (now : Stamp) (tick : Bool) (t : Turn) → has_session t ≡ true → greeting now tick t ≡ t
+unfolding greeting greeting_by
+greeting_with now tick t h = ap (greeting_by t now tick) (session_is t h)
+
+pub greeting_without : (now : Stamp) (tick : Bool) (t : Turn) → has_session t ≡ false → greeting now tick t ≡ greet t now tick
+unfolding greeting greeting_by
+greeting_without now tick t h = ap (greeting_by t now tick) (no_session t h)
+
+pub requests_with : (now : Stamp) (tick : Bool) (t : Turn) → has_session t ≡ true → requests now tick t ≡ requests_under t (session_of t) now tick
+unfolding requests requests_by
+requests_with now tick t h = ap (requests_by t now tick) (session_is t h)
+
+pub requests_without : (now : Stamp) (tick : Bool) (t : Turn) → has_session t ≡ false → requests now tick t ≡ t
+unfolding requests requests_by
+requests_without now tick t h = ap (requests_by t now tick) (no_session t h)
+
+-- Leases.
+
+-- a lease under which pages are used is not over
+used_lasts : (k : StandingKind) → may_use k ≡ true → not (must_discard k) ≡ true
+used_lasts kinds.Serve h = refl
+used_lasts kinds.Idle h = absurd (true≢false (sym h))
+used_lasts kinds.Hold h = absurd (true≢false (sym h))
+used_lasts kinds.Drain h = absurd (true≢false (sym h))
+used_lasts kinds.Lost h = absurd (true≢false (sym h))
+
+pub serving_lasts : (now : Stamp) (t : Turn) → has_session t ≡ true → is_serving t.config (session_of t) now ≡ true → lasts_here t.config now t.here ≡ true
+serving_lasts now t h u = ap (lasts_in t.config now) (session_is t h) ∙ used_lasts (standing_of t.config (session_of t).lease now) u

@@ -1,0 +1,190 @@
+// The pass over the pending operations: each is answered, or stays pending.
+ghost use Rattle.std.specs.Prelude.{◌≡◌, [], true, filter, IfOk, OnOk};
+ghost use Rattle.st_association.specs.Turns.{has_session, session_of};
+ghost use Rattle.st_operations.specs.Pending.{AreFit, is_fit};
+ghost use Rattle.st_rules.specs.ClientPasses as passes;
+ghost use Rattle.st_rules.specs.ClientState as client_state;
+ghost use Rattle.st_client_passes.specs.Passing.{is_serving_at, put_back};
+
+use crate::changing::{answer, patch, write};
+use crate::reading::read;
+use st_association::Turn;
+use st_base::{FileId, Stamp};
+use st_messages::{AppAnswer, Ask};
+use st_operations::{OfServer, Operations, file_of, is_of, is_sent};
+use st_rules::Operation;
+use std::alloc::AllocError;
+
+/// A sync is hard where its file has no dirty page and no outstanding write.
+#[tactic(auto, unfolding(st_rules::specs::ClientPasses::sync))]
+fn sync(t: &mut Turn, o: &Operation, file: FileId) -> Result<bool, AllocError>
+    ensures { IfOk result (λ stays. put_back o.now stays t.new ≡ passes.sync t.old o.now file) }
+{
+    if t.is_hard(file.ino) {
+        answer(t, o, AppAnswer::Hard)
+    } else {
+        Ok(true)
+    }
+}
+
+/// In quiesce or later an operation that was not sent is answered so.
+#[tactic(auto, unfolding(st_rules::specs::ClientPasses::quiesce))]
+fn quiesce(t: &mut Turn, o: &Operation) -> Result<bool, AllocError>
+    ensures { IfOk result (λ stays. put_back o.now stays t.new ≡ passes.quiesce t.old o.now) }
+{
+    if is_sent(o) {
+        Ok(true)
+    } else {
+        answer(t, o, AppAnswer::Quiesced)
+    }
+}
+
+/// An operation on a file that is neither demanded nor busy.
+#[tactic(auto, using(crate::proofs::Asks::patch_range), unfolding(st_rules::specs::ClientPasses::serve_open))]
+fn serve_open(t: &mut Turn, now: Stamp, o: &Operation) -> Result<bool, AllocError>
+    requires session { has_session t.old ≡ true }
+    requires serving { is_serving_at t.old now ≡ true }
+    requires fit { is_fit o.now ≡ true }
+    ensures { IfOk result (λ stays. put_back o.now stays t.new ≡ passes.serve_open t.old (session_of t.old) o.now o.now.ask) }
+{
+    match &o.ask {
+        Ask::Write(file, page, bytes) => write(t, now, o, *file, *page, bytes),
+        Ask::Patch(file, page, at, bytes) => patch(t, now, o, *file, *page, *at, bytes),
+        Ask::Read(file, page) => read(t, now, o, *file, *page),
+        _ => Ok(true),
+    }
+}
+
+/// Whether the file is neither demanded nor busy by these operations.
+fn is_open(all: &Operations, t: &Turn, ino: u32) -> bool
+    requires { has_session t.now ≡ true }
+    ensures { result ≡ client_state.is_open all.now t.now.here.server (session_of t.now) ino }
+{
+    !t.is_demanded(ino) && !t.is_busy(all, ino)
+}
+
+pub fn is_open_file(all: &Operations, t: &Turn, file: Option<u32>) -> bool
+    requires { has_session t.now ≡ true }
+    ensures { result ≡ client_state.is_open_file all.now t.now.here.server (session_of t.now) file }
+{
+    match file {
+        None => true,
+        Some(ino) => is_open(all, t, ino),
+    }
+}
+
+#[tactic(auto, unfolding(st_rules::specs::ClientPasses::serve))]
+fn serve(all: &Operations, t: &mut Turn, now: Stamp, o: &Operation) -> Result<bool, AllocError>
+    requires session { has_session t.old ≡ true }
+    requires serving { is_serving_at t.old now ≡ true }
+    requires fit { is_fit o.now ≡ true }
+    ensures { IfOk result (λ stays. put_back o.now stays t.new ≡ passes.serve all.now t.old (session_of t.old) o.now) }
+{
+    if is_open_file(all, t, file_of(&o.ask)) {
+        serve_open(t, now, o)
+    } else {
+        Ok(true)
+    }
+}
+
+#[tactic(auto, unfolding(st_rules::specs::ClientPasses::operate_under))]
+fn operate_under(
+    all: &Operations,
+    t: &mut Turn,
+    now: Stamp,
+    o: &Operation,
+) -> Result<bool, AllocError>
+    requires session { has_session t.old ≡ true }
+    requires fit { is_fit o.now ≡ true }
+    ensures { IfOk result (λ stays. put_back o.now stays t.new ≡ passes.operate_under all.now t.old (session_of t.old) now o.now) }
+{
+    if t.is_serving(now) {
+        serve(all, t, now, o)
+    } else {
+        quiesce(t, o)
+    }
+}
+
+fn operate_by(all: &Operations, t: &mut Turn, now: Stamp, o: &Operation) -> Result<bool, AllocError>
+    requires fit { is_fit o.now ≡ true }
+    ensures { IfOk result (λ stays. put_back o.now stays t.new ≡ passes.operate_by all.now t.old now o.now t.old.here.session) }
+{
+    if t.has_session() {
+        operate_under(all, t, now, o)
+    } else {
+        Ok(true)
+    }
+}
+
+#[tactic(auto, unfolding(st_rules::specs::ClientPasses::operate_on))]
+fn operate_on(all: &Operations, t: &mut Turn, now: Stamp, o: &Operation) -> Result<bool, AllocError>
+    requires fit { is_fit o.now ≡ true }
+    ensures { IfOk result (λ stays. put_back o.now stays t.new ≡ passes.operate_on all.now t.old now o.now o.now.ask) }
+{
+    match &o.ask {
+        Ask::Sync(file) => sync(t, o, *file),
+        _ => operate_by(all, t, now, o),
+    }
+}
+
+/// Whether the operation stays pending, after what is done for it.
+#[tactic(auto, unfolding(st_rules::specs::ClientPasses::operate))]
+fn stays(all: &Operations, t: &mut Turn, now: Stamp, o: &Operation) -> Result<bool, AllocError>
+    requires fit { is_fit o.now ≡ true }
+    ensures { IfOk result (λ stays. put_back o.now stays t.new ≡ passes.operate all.now t.old now o.now) }
+{
+    if is_of(t.server(), o) {
+        operate_on(all, t, now, o)
+    } else {
+        Ok(true)
+    }
+}
+
+fn operate(all: &Operations, t: &mut Turn, now: Stamp, o: Operation) -> Result<(), AllocError>
+    requires fit { is_fit o ≡ true }
+    ensures { OnOk result (t.new ≡ passes.operate all.now t.old now o) }
+{
+    if stays(all, t, now, &o)? {
+        t.keep(o)
+    } else {
+        Ok(())
+    }
+}
+
+#[tactic(auto, unfolding(st_rules::specs::ClientPasses::operate_each))]
+fn operate_each(
+    all: &Operations,
+    t: &mut Turn,
+    now: Stamp,
+    mut rest: Operations,
+) -> Result<(), AllocError>
+    ensures { OnOk result (t.new ≡ passes.operate_each all.now now rest t.old) }
+{
+    while let Some(operation) = rest.take_first() {
+        operate(all, t, now, operation)?;
+    }
+    Ok(())
+}
+
+/// All pending operations go through the pass; those of other servers stay.
+#[tactic(auto, unfolding(st_rules::specs::ClientPasses::operations))]
+fn operate_all(t: &mut Turn, now: Stamp) -> Result<(), AllocError>
+    ensures { OnOk result (t.new ≡ passes.operations now t.old) }
+{
+    let sent = t.operations().copy_sent()?;
+    let rest = t.take_operations();
+    operate_each(&sent, t, now, rest)?;
+    Ok(())
+}
+
+/// Operations. Where none of this server is pending, nothing is done.
+pub fn operations(t: &mut Turn, now: Stamp) -> Result<(), AllocError>
+    ensures { OnOk result (t.new ≡ passes.operations now t.old) }
+{
+    let here = OfServer { server: t.server() };
+    if t.operations().any(&here) {
+        operate_all(t, now)
+    } else {
+        Ok(())
+    }
+}

@@ -1,0 +1,101 @@
+// Reductions: a demanded file that is idle and not busy is reduced to what is demanded.
+ghost use Rattle.std.specs.Prelude.{◌≡◌, true, Some, IfOk, OnOk};
+ghost use Rattle.st_association.specs.Turns.{has_session, session_of};
+ghost use Rattle.st_rules.specs.ClientLocks as locks;
+ghost use Rattle.st_rules.specs.ClientPasses as passes;
+ghost use Rattle.st_rules.specs.ClientState as client_state;
+
+use st_association::Turn;
+use st_base::{GrantNo, Mode, PageNo};
+use std::alloc::AllocError;
+
+/// Where the lock is gone, the clean pages and extents of the file go too.
+fn forget(t: &mut Turn, ino: u32, to: Mode)
+    ensures { t.new ≡ client_state.with_store (passes.forgotten_at ino to t.old.here.store) t.old }
+{
+    match to {
+        Mode::None => t.forget_from(ino, PageNo(0)),
+        _ => {}
+    }
+}
+
+#[tactic(auto, unfolding(st_rules::specs::ClientPasses::reduce_to))]
+fn reduce_to(t: &mut Turn, ino: u32, g: GrantNo, to: Mode) -> Result<(), AllocError>
+    requires { has_session t.old ≡ true }
+    ensures { OnOk result (t.new ≡ passes.reduce_to t.old (session_of t.old) ino g to) }
+{
+    t.release(ino, g, to)?;
+    forget(t, ino, to);
+    Ok(())
+}
+
+#[tactic(auto, unfolding(st_rules::specs::ClientPasses::reduce_by, st_rules::specs::ClientPasses::reduce_given))]
+fn reduce_by(t: &mut Turn, ino: u32) -> Result<(), AllocError>
+    requires { has_session t.old ≡ true }
+    ensures { OnOk result (t.new ≡ passes.reduce_by t.old (session_of t.old) ino (locks.reduce (session_of t.old).locks ino)) }
+{
+    match t.reduce_lock(ino) {
+        None => Ok(()),
+        Some((g, to)) => reduce_to(t, ino, g, to),
+    }
+}
+
+fn may_reduce(t: &Turn, ino: u32) -> bool
+    requires { has_session t.now ≡ true }
+    ensures { result ≡ passes.may_reduce t.now (session_of t.now) ino }
+{
+    t.is_idle(ino) && !t.is_busy(t.operations(), ino)
+}
+
+#[tactic(auto, unfolding(st_rules::specs::ClientPasses::reduce_idle))]
+fn reduce_idle(t: &mut Turn, ino: u32) -> Result<(), AllocError>
+    requires { has_session t.old ≡ true }
+    ensures { OnOk result (t.new ≡ passes.reduce_idle t.old (session_of t.old) ino) }
+{
+    if may_reduce(t, ino) {
+        reduce_by(t, ino)
+    } else {
+        Ok(())
+    }
+}
+
+fn reduce(t: &mut Turn, ino: u32) -> Result<(), AllocError>
+    ensures { OnOk result (t.new ≡ passes.reduce t.old ino t.old.here.session) }
+{
+    if t.has_session() {
+        reduce_idle(t, ino)
+    } else {
+        Ok(())
+    }
+}
+
+#[tactic(auto, unfolding(st_rules::specs::ClientPasses::reduce_each))]
+fn reduce_each(t: &mut Turn, files: &[u32]) -> Result<(), AllocError>
+    ensures { OnOk result (t.new ≡ passes.reduce_each files.now t.old) }
+{
+    for ino in files {
+        reduce(t, *ino)?;
+    }
+    Ok(())
+}
+
+/// The demanded files, in rising order.
+#[tactic(auto, unfolding(st_rules::specs::ClientPasses::reductions))]
+fn reduce_all(t: &mut Turn) -> Result<(), AllocError>
+    requires { has_session t.old ≡ true }
+    ensures { OnOk result (t.new ≡ passes.reductions t.old) }
+{
+    let files = t.demanded_files()?;
+    reduce_each(t, files.as_slice())
+}
+
+/// Reductions, by rising file.
+pub fn reductions(t: &mut Turn) -> Result<(), AllocError>
+    ensures { OnOk result (t.new ≡ passes.reductions t.old) }
+{
+    if t.has_session() {
+        reduce_all(t)
+    } else {
+        Ok(())
+    }
+}

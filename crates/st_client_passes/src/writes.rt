@@ -1,0 +1,226 @@
+// Writes of dirty pages to their disks.
+ghost use Rattle.std.specs.Prelude.{◌≡◌, false, true, IfOk, OnOk};
+ghost use Rattle.std.specs.Option.{option_map_or};
+ghost use Rattle.st_association.specs.Turns.{has_session, session_of};
+ghost use Rattle.st_rules.specs.ClientInvariants.{lasts_here};
+ghost use Rattle.st_rules.specs.declared.pages.DirtyPage.{DirtyPage};
+ghost use Rattle.st_rules.specs.ClientPages as pages;
+ghost use Rattle.st_rules.specs.ClientPasses as passes;
+ghost use Rattle.st_client_passes.specs.Passing.{MayRest, drains_at};
+
+use st_association::Turn;
+use st_base::{Mode, PageNo, ServerId, Stamp};
+use st_operations::{CutOn, SyncOn, Test, is_cut_or_name, is_of, is_sent, is_sync};
+use st_rules::{DirtyPage, Operation, StandingKind};
+use std::alloc::AllocError;
+
+/// The operations of a server that wait for pages to be hard: syncs, and unsent cuts and names.
+#[derive(Clone, Copy)]
+struct WantsWrites {
+    server: ServerId,
+}
+
+impl Test<Operation> for WantsWrites {
+    ghost use Rattle.st_client_passes.specs.Passing.{wants_writes};
+
+    ghost passes = { λ t o. wants_writes t.server o };
+
+    fn test(&self, operation: &Operation) -> bool {
+        is_of(self.server, operation)
+            && (is_sync(&operation.ask) || (is_cut_or_name(&operation.ask) && !is_sent(operation)))
+    }
+}
+
+/// Whether a cut or a remove waits for the file's pages.
+fn is_cut_wanted(t: &Turn, ino: u32) -> bool
+    requires { has_session t.now ≡ true }
+    ensures { result ≡ passes.is_cut_wanted t.now (session_of t.now) ino }
+{
+    let cut = CutOn {
+        server: t.server(),
+        ino,
+    };
+    t.mode(ino).covers(Mode::X) && t.operations().any(&cut)
+}
+
+/// Whether the file is demanded, has a pending sync, or has a pending unsent cut or remove and an exclusive lock.
+fn is_wanted(t: &Turn, ino: u32) -> bool
+    requires { has_session t.now ≡ true }
+    ensures { result ≡ passes.is_wanted t.now (session_of t.now) ino }
+{
+    let sync = SyncOn {
+        server: t.server(),
+        ino,
+    };
+    t.is_demanded(ino) || (t.operations().any(&sync) || is_cut_wanted(t, ino))
+}
+
+fn is_unfailed(page: &DirtyPage) -> bool
+    ensures { result ≡ passes.is_unfailed page.now }
+{
+    page.failed.is_none()
+}
+
+fn is_due_by_need(t: &Turn, tick: bool, page: &DirtyPage) -> bool
+    requires { has_session t.now ≡ true }
+    ensures { result ≡ passes.is_due_by_need t.now (session_of t.now) tick page.now }
+{
+    is_wanted(t, page.ino) && (is_unfailed(page) || tick)
+}
+
+/// Whether all dirty pages are submitted: the lease is in flush.
+fn drains(t: &Turn, now: Stamp) -> bool
+    requires { has_session t.now ≡ true }
+    ensures { result ≡ drains_at t.now now }
+{
+    match t.standing(now) {
+        StandingKind::Drain => true,
+        _ => false,
+    }
+}
+
+#[tactic(auto, unfolding(st_rules::specs::ClientPasses::is_due))]
+fn is_due(t: &Turn, now: Stamp, tick: bool, page: &DirtyPage) -> bool
+    requires { has_session t.now ≡ true }
+    ensures { result ≡ passes.is_due t.now (session_of t.now) now tick page.now }
+{
+    if drains(t, now) {
+        is_unfailed(page)
+    } else {
+        is_due_by_need(t, tick, page)
+    }
+}
+
+/// Whether the page is to be written now.
+fn is_writable(t: &Turn, now: Stamp, tick: bool, page: &DirtyPage) -> bool
+    requires { has_session t.now ≡ true }
+    ensures { result ≡ passes.is_writable t.now (session_of t.now) now tick page.now }
+{
+    !t.is_being_written(page.ino, page.page) && is_due(t, now, tick, page)
+}
+
+/// The page, which is dirty and not being written, is written where it is known to lie.
+#[tactic(auto, unfolding(st_rules::specs::ClientPasses::write_out, st_rules::specs::ClientPasses::write_out_at))]
+fn write_out(t: &mut Turn, now: Stamp, ino: u32, page: PageNo) -> Result<(), AllocError>
+    requires session { has_session t.old ≡ true }
+    requires lasting { lasts_here t.old.config now t.old.here ≡ true }
+    requires free { pages.is_being_written t.old.here.store.commands ino page ≡ false }
+    ensures { OnOk result ((d : DirtyPage) → pages.dirty_of t.old.here.store.pages ino page ≡ Some d → t.new ≡ passes.write_out t.old d) }
+{
+    match t.mapping(ino, page) {
+        None => Ok(()),
+        Some(mapping) => {
+            t.submit_write(now, ino, page, mapping)?;
+            Ok(())
+        }
+    }
+}
+
+/// Whether the dirty page at a place is to be written now. It is not where no page of the place is dirty.
+fn is_place_due(t: &Turn, now: Stamp, tick: bool, ino: u32, page: PageNo) -> bool
+    requires { has_session t.now ≡ true }
+    ensures { result ≡ option_map_or (passes.is_writable t.now (session_of t.now) now tick) (pages.dirty_of t.now.here.store.pages ino page) false }
+{
+    match t.dirty(ino, page) {
+        None => false,
+        Some(dirty) => is_writable(t, now, tick, dirty),
+    }
+}
+
+/// The page of a place, where it is dirty and due.
+fn write_page(
+    t: &mut Turn,
+    now: Stamp,
+    tick: bool,
+    ino: u32,
+    page: PageNo,
+) -> Result<(), AllocError>
+    requires session { has_session t.old ≡ true }
+    requires lasting { lasts_here t.old.config now t.old.here ≡ true }
+    ensures { OnOk result (t.new ≡ passes.write_page t.old (session_of t.old) now tick (pages.dirty_of t.old.here.store.pages ino page)) }
+{
+    if is_place_due(t, now, tick, ino, page) {
+        write_out(t, now, ino, page)
+    } else {
+        Ok(())
+    }
+}
+
+#[tactic(auto, unfolding(st_rules::specs::ClientPasses::write_each))]
+fn write_each(
+    t: &mut Turn,
+    now: Stamp,
+    tick: bool,
+    places: &[(u32, PageNo)],
+) -> Result<(), AllocError>
+    requires session { has_session t.old ≡ true }
+    requires lasting { lasts_here t.old.config now t.old.here ≡ true }
+    ensures { OnOk result (t.new ≡ passes.write_each (session_of t.old) now tick places.now t.old) }
+{
+    for place in places {
+        write_page(t, now, tick, place.0, place.1)?;
+    }
+    Ok(())
+}
+
+/// The dirty pages, by rising file and page.
+fn write_all(t: &mut Turn, now: Stamp, tick: bool) -> Result<(), AllocError>
+    requires session { has_session t.old ≡ true }
+    requires lasting { lasts_here t.old.config now t.old.here ≡ true }
+    ensures { OnOk result (t.new ≡ passes.writes now tick t.old) }
+{
+    let places = t.dirty_places()?;
+    write_each(t, now, tick, places.as_slice())
+}
+
+/// Whether a file is wanted: one is demanded, or an operation waits for its pages.
+fn wants(t: &Turn) -> Result<bool, AllocError>
+    requires { has_session t.now ≡ true }
+    ensures { IfOk result (λ b. b ≡ false → MayRest t.now) }
+{
+    let here = WantsWrites { server: t.server() };
+    if t.operations().any(&here) {
+        return Ok(true);
+    }
+    let files = t.demanded_files()?;
+    Ok(!files.is_empty())
+}
+
+/// In other phases than flush: where no file is wanted, no page is looked at.
+fn write_wanted(t: &mut Turn, now: Stamp, tick: bool) -> Result<(), AllocError>
+    requires session { has_session t.old ≡ true }
+    requires lasting { lasts_here t.old.config now t.old.here ≡ true }
+    requires other { drains_at t.old now ≡ false }
+    ensures { OnOk result (t.new ≡ passes.writes now tick t.old) }
+{
+    if wants(t)? {
+        write_all(t, now, tick)
+    } else {
+        Ok(())
+    }
+}
+
+/// In flush all dirty pages are looked at.
+fn write_by(t: &mut Turn, now: Stamp, tick: bool) -> Result<(), AllocError>
+    requires session { has_session t.old ≡ true }
+    requires lasting { lasts_here t.old.config now t.old.here ≡ true }
+    ensures { OnOk result (t.new ≡ passes.writes now tick t.old) }
+{
+    if drains(t, now) {
+        write_all(t, now, tick)
+    } else {
+        write_wanted(t, now, tick)
+    }
+}
+
+/// Writes.
+pub fn writes(t: &mut Turn, now: Stamp, tick: bool) -> Result<(), AllocError>
+    requires { lasts_here t.old.config now t.old.here ≡ true }
+    ensures { OnOk result (t.new ≡ passes.writes now tick t.old) }
+{
+    if t.has_session() {
+        write_by(t, now, tick)
+    } else {
+        Ok(())
+    }
+}

@@ -1,0 +1,133 @@
+// Bodies of messages: which replies are replies to a request, and the file and the page of a request.
+ghost use Rattle.std.specs.Prelude.{◌≡◌};
+ghost use Rattle.st_rules.specs.ClientReplies as replies;
+ghost use Rattle.st_rules.specs.ClientState as client;
+
+use st_base::PageNo;
+use st_messages::{Body, NameOp};
+
+/// Whether it is a keep-alive, a release or a cut.
+fn is_acknowledged(body: &Body) -> bool
+    ensures { result ≡ client.is_acknowledged body.now }
+{
+    match body {
+        Body::KeepAlive => true,
+        Body::Released { .. } => true,
+        Body::Cut { .. } => true,
+        _ => false,
+    }
+}
+
+/// Whether a lock of the file is requested.
+fn acquires(ino: u32, body: &Body) -> bool
+    ensures { result ≡ client.acquires ino body.now }
+{
+    match body {
+        Body::Acquire { ino: i, .. } => *i == ino,
+        _ => false,
+    }
+}
+
+/// Whether extents of the file are requested.
+fn maps(ino: u32, body: &Body) -> bool
+    ensures { result ≡ client.maps ino body.now }
+{
+    match body {
+        Body::Map { ino: i, .. } => *i == ino,
+        Body::Allocate { ino: i, .. } => *i == ino,
+        _ => false,
+    }
+}
+
+/// Whether a name is requested.
+fn asks_name(body: &Body) -> bool
+    ensures { result ≡ client.asks_name body.now }
+{
+    match body {
+        Body::Name(_) => true,
+        _ => false,
+    }
+}
+
+/// Whether it is a reassertion.
+pub fn reasserts(body: &Body) -> bool
+    ensures { result ≡ client.reasserts body.now }
+{
+    match body {
+        Body::Reassert(_) => true,
+        _ => false,
+    }
+}
+
+/// Whether it is a refusal.
+pub fn is_refusal(body: &Body) -> bool
+    ensures { result ≡ client.is_refusal body.now }
+{
+    match body {
+        Body::Nack { .. } => true,
+        _ => false,
+    }
+}
+
+/// Whether a file or a directory is to be removed.
+fn removes(op: &NameOp) -> bool
+    ensures { result ≡ client.removes op.now }
+{
+    match op {
+        NameOp::Remove { .. } => true,
+        _ => false,
+    }
+}
+
+/// Whether it is a cut or a request to remove.
+pub fn asks_cut_or_remove(body: &Body) -> bool
+    ensures { result ≡ client.asks_cut_or_remove body.now }
+{
+    match body {
+        Body::Cut { .. } => true,
+        Body::Name(op) => removes(op),
+        _ => false,
+    }
+}
+
+/// Whether this reply is one to a request with that body.
+pub fn fits(reply: &Body, asked: &Body) -> bool
+    ensures { result ≡ client.fits reply.now asked.now }
+{
+    match reply {
+        Body::Nack { .. } => true,
+        Body::Ack => is_acknowledged(asked),
+        Body::Granted { ino, .. } => acquires(*ino, asked),
+        Body::Queued { ino, .. } => acquires(*ino, asked),
+        Body::Extents { ino, .. } => maps(*ino, asked),
+        Body::Named(_) => asks_name(asked),
+        Body::Reasserted => reasserts(asked),
+        _ => false,
+    }
+}
+
+/// The file of a request: its inode, or the one that is removed.
+pub fn file_asked(cutting: Option<u32>, body: &Body) -> Option<u32>
+    ensures { result ≡ client.file_asked cutting body.now }
+{
+    match body {
+        Body::Acquire { ino, .. } => Some(*ino),
+        Body::Released { ino, .. } => Some(*ino),
+        Body::Map { ino, .. } => Some(*ino),
+        Body::Allocate { ino, .. } => Some(*ino),
+        Body::Cut { ino, .. } => Some(*ino),
+        Body::Name(_) => cutting,
+        _ => None,
+    }
+}
+
+/// The page of a request for a place or a block.
+pub fn page_asked(body: &Body) -> Option<PageNo>
+    ensures { result ≡ client.page_asked body.now }
+{
+    match body {
+        Body::Map { page, .. } => Some(*page),
+        Body::Allocate { page, .. } => Some(*page),
+        _ => None,
+    }
+}

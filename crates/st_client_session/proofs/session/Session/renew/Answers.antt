@@ -1,0 +1,16 @@
+use Rattle.std.proofs.Common.{◌≡◌, ap, ◌∙◌, subst, sym, true, false}
+use Rattle.st_lease_client.specs.Standings.{kind_of}
+use Rattle.st_lemmas.proofs.Tables.{not_true}
+use Rattle.st_rules.specs.ClientLease.{renewed, must_discard, standing_of}
+use Rattle.st_client_session.specs.Sessions.{ServerSession, lasts, lease_of}
+use Rattle.st_client_session.proofs.Lasting.{kind_settled, renewed_lasts}
+use Rattle.st_client_session.proofs.session.Session.renew.Goals as goal
+
+pub close-requires-clause-lasting : goal.close-requires-clause-lasting
+close-requires-clause-lasting c =
+    let l = lease_of c.self.inside.date c.self.inside.condemned in
+    let old : lasts c.settle-standing.new.self c.args.now ≡ true = rw c.settle-standing.ensures.stays c.requires.lasting in
+    let lasting : must_discard (standing_of c.self.inside.lease.config l c.args.now) ≡ false = not_true _ (subst (λ (x : ServerSession). lasts x c.args.now ≡ true) (sym c.self.view_is) old) in
+    ap (λ s. must_discard (kind_of s)) c.renew-standing.ensures.standing
+    ∙ rw (c.renew-standing.ensures.lease, c.self.invariant.held)
+    (ap must_discard (kind_settled (standing_of c.self.inside.lease.config (renewed c.args.stamp l) c.args.now) _) ∙ renewed_lasts c.self.inside.lease.config l c.args.stamp c.args.now lasting)

@@ -1,0 +1,36 @@
+-- Pending operations: what is left where the first one is taken, and the operations after one was sent or is stuck.
+use Rattle.std.specs.Prelude.{◌≡◌, ℕ, zero, suc, if◌then◌else◌, Bool, true, List, [], ◌∷◌, ◌++◌, Option, Some, None}
+use Rattle.std.specs.List.{list_all}
+use Rattle.st_base.specs.declared.ids.ServerId.{ServerId}
+use Rattle.st_messages.specs.Fits.{is_ask}
+use Rattle.st_rules.specs.declared.client.Operation.{Operation}
+use Rattle.st_rules.specs.declared.client.Stage.TheVariants.{Sent, Stuck}
+use Rattle.st_rules.specs.ClientState.{at_stage, is_asked}
+
+-- the fields of the ask are in their ranges
+abbrev pub is_fit : Operation → Bool
+is_fit o = is_ask o.ask
+
+-- so are those of all asks
+abbrev pub AreFit : List Operation → Type 0
+AreFit os = list_all is_fit os ≡ true
+
+-- the first one is taken, and the others are left
+abbrev pub TakesFirst : {A : Type 0} → List A → Option A → List A → Type 0
+TakesFirst old None new = record { none : old ≡ []; left : new ≡ [] }
+TakesFirst old (Some x) new = old ≡ x ∷ new
+
+-- the first of the later list goes behind the earlier one
+abbrev pub KeepsFirst : {A : Type 0} → List A → List A → List A → List A → Type 0
+KeepsFirst kept [] now rest = record { same : now ≡ kept; none : rest ≡ [] }
+KeepsFirst kept (x ∷ xs) now rest = record { more : now ≡ kept ++ x ∷ []; left : rest ≡ xs }
+
+-- the operation of the server's outstanding request is stuck
+abbrev pub stuck : ServerId → Operation → Operation
+stuck server o = if is_asked server o then at_stage Stuck o else o
+
+-- the request of the operation at a place was sent
+abbrev pub marked : ℕ → List Operation → List Operation
+marked n [] = []
+marked zero (o ∷ os) = at_stage Sent o ∷ os
+marked (suc n) (o ∷ os) = o ∷ marked n os
