@@ -1,5 +1,5 @@
 -- What a client has of a server between steps; what always stands of it, and what a step needs of its counters.
-use Rattle.std.specs.Prelude.{◌≡◌, ℕ, ◌<◌, true, List, Option, Some, None, Ok, ⊤}
+use Rattle.std.specs.Prelude.{◌≡◌, ℕ, ◌<◌, ◌≤◌, true, List, length, Option, Some, None, Ok, ⊤}
 use Rattle.std.specs.List.{list_all}
 use Rattle.st_base.specs.Config.{check}
 use Rattle.st_base.specs.declared.config.Config.{Config}
@@ -43,3 +43,7 @@ pub record IsCounted (a : Association) (next : ℕ) (out : List Output) : Type 0
 -- what a step leaves, and the pending operations, the next command's number and the outputs
 abbrev pub left_as : ClientAssociation → List Operation → ℕ → List Output → Turn
 left_as a operations next out = record { id = a.id; config = a.config; here = a.here; operations = operations; next_command = next; out = out }
+
+-- numbers of commands only rise, and outputs only become more
+abbrev pub Grows : Turn → Turn → Type 0
+Grows t u = (t.next_command ≤ u.next_command) × (length t.out ≤ length u.out)

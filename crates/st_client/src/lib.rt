@@ -1,0 +1,8 @@
+//! The client of a world: its rules at each server, and the node that runs or is crashed. `docs/PROTOCOL.md`, "The client", has the
+//! rules.
+#![tactic(auto)]
+
+mod machine;
+mod rule;
+
+pub use machine::Machine;
