@@ -3,7 +3,9 @@
 #![tactic(auto)]
 
 mod asks;
+mod ending;
 mod losses;
 
 pub use asks::take_ask;
+pub use ending::finish;
 pub use losses::lose;

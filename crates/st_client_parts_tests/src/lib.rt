@@ -1,11 +1,13 @@
-//! The parts of a client beside an independent reading of the rules: leases, requests, pages, locks and
-//! disk commands.
+//! The parts of a client beside an independent reading of the rules and plain lists: leases, requests, locks, pages, what is
+//! known of their places, and disk commands.
 #![tactic(auto)]
 
 #[cfg(test)]
 mod commands;
 #[cfg(test)]
 mod draws;
+#[cfg(test)]
+mod extents;
 #[cfg(test)]
 mod leases;
 #[cfg(test)]

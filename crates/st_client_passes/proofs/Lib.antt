@@ -8,3 +8,4 @@ pub mod Sessions
 pub mod Reducing
 pub mod Writing
 pub mod Repeating
+pub mod Growing

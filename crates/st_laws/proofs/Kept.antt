@@ -1,5 +1,6 @@
 -- The promises that are proved over every run, gathered from the crates that prove them.
 use Rattle.st_laws_asks.proofs.Law.{once_law}
+use Rattle.st_laws_causes.proofs.Law.{causes_law, hard_law}
 use Rattle.st_laws_client.proofs.Hard as hard
 use Rattle.st_laws_client.proofs.Old as old
 use Rattle.st_laws_dates.proofs.Law as dates
@@ -16,7 +17,9 @@ every_run : Every_run_is_kept
 every_run k clients servers disks blocks form es head events =
     record {
       alone = pages_stand_alone k clients servers disks blocks form es head events;
+      causes = causes_law k clients servers disks blocks form es head;
       stays = hard.law es (traced (fresh_world k clients servers disks blocks form));
+      hard = hard_law k clients servers disks blocks form es head;
       thefts = thefts_come_late k clients servers disks blocks form es head events;
       dates = dates.law k clients servers disks blocks form es head events;
       waits = graces_wait_out k clients servers disks blocks form es head events;

@@ -5,12 +5,14 @@ use Rattle.st_base.specs.declared.config.Config.{Config}
 use Rattle.st_messages.specs.declared.event.Event.{Event}
 use Rattle.st_rules.specs.World.{fresh_world}
 use Rattle.st_rules.specs.History.{traced}
-use Rattle.st_rules.specs.Safety.{AsksAreAnsweredOnce, ChangesAreLocked, DirtyPagesStandAlone, ExpiredLeasesEmptyClients, GraceWaits, HardStaysHard, IsHead, LeasesAreDatedFromRequests, NoConflictIsSent, OldMessagesChangeNoClient, OldMessagesChangeNoServer, Step, TheHistoryIsTheWorlds, TheReportTellsTheLog, TheftsComeLate, Throughout, is_event, steps}
+use Rattle.st_rules.specs.Safety.{AsksAreAnsweredOnce, ChangesAreLocked, DirtyPagesStandAlone, DropsHaveACause, ExpiredLeasesEmptyClients, GraceWaits, HardIsHard, HardStaysHard, IsHead, LeasesAreDatedFromRequests, NoConflictIsSent, OldMessagesChangeNoClient, OldMessagesChangeNoServer, Step, TheHistoryIsTheWorlds, TheReportTellsTheLog, TheftsComeLate, Throughout, is_event, steps}
 
--- Of the promises that make a run safe these are kept at each of its steps. Missing here are reads, causes, hard, logged and order.
+-- Of the promises that make a run safe these are kept at each of its steps. Missing here are reads, logged and order.
 pub record IsKept (xs : List Step) : Type 0 where
   pub alone : Throughout DirtyPagesStandAlone [] xs
+  pub causes : Throughout DropsHaveACause [] xs
   pub stays : Throughout HardStaysHard [] xs
+  pub hard : Throughout HardIsHard [] xs
   pub thefts : Throughout TheftsComeLate [] xs
   pub dates : Throughout LeasesAreDatedFromRequests [] xs
   pub waits : Throughout GraceWaits [] xs

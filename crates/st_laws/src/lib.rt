@@ -42,9 +42,9 @@ pub fn changes_are_locked()
     ensures { In_every_run ChangesAreLocked }
 {}
 
-/// In every run eleven of the promises that make a run safe are kept at every step, restarts and several servers included; and old
-/// messages change nothing, at clients and at servers. Not proved over every run are that reads return last writes, that drops have a
-/// cause, that hard is hard, that `cut` is logged, and that changes go in the order of locks.
+/// In every run thirteen of the promises that make a run safe are kept at every step, restarts and several servers included; and old
+/// messages change nothing, at clients and at servers. Not gathered here are that reads return last writes, that `cut` is logged, and
+/// that changes go in the order of locks.
 pub fn most_is_promised()
     ensures { IsMostPromised }
 {}

@@ -3,10 +3,8 @@ use Rattle.std.proofs.Common.{◌≡◌, ◌≢◌, ℕ, zero, suc, ◌+◌, ◌
 use Rattle.std.specs.Prelude.{find, is_some}
 use Rattle.std.proofs.lemmas.Bool.{eqb-true}
 use Rattle.st_base.specs.declared.ids.ClientId.{ClientId}
-use Rattle.st_base.specs.declared.ids.FileId.{FileId}
 use Rattle.st_base.specs.declared.ids.Life.{Life}
 use Rattle.st_base.specs.declared.ids.NodeId.TheVariants as nodes
-use Rattle.st_base.specs.declared.ids.PageNo.{PageNo}
 use Rattle.st_base.specs.declared.ids.ServerId.{ServerId}
 use Rattle.st_base.specs.declared.ids.Stamp.{Stamp}
 use Rattle.st_rules.specs.declared.log.Fate.{Fate}
@@ -20,7 +18,7 @@ use Rattle.st_rules.specs.ClientLease as lease
 use Rattle.st_rules.specs.ClientPages.{Store, dirty_of}
 use Rattle.st_rules.specs.ClientState.{Association, ClientSession, is_at}
 use Rattle.st_rules.specs.Events.{is_hard_fate}
-use Rattle.st_rules.specs.FlatLog.{is_of_life, is_of_client, is_pending}
+use Rattle.st_rules.specs.FlatLog.{is_of_client, is_pending}
 use Rattle.st_rules.specs.Keys.{client, same_client, same_server, server_node}
 use Rattle.st_rules.specs.Server.{ServerNode}
 use Rattle.st_rules.specs.World.{World, ClientSite, clock_of, end_or_present, ended_of, is_life_of, lease_end_of, node_of, present_end, server, site_of}
@@ -36,13 +34,13 @@ use Rattle.st_laws_server.specs.Stands.{pairs}
 use Rattle.st_laws_pages.specs.Fates.{Before_end, Pending_all}
 use Rattle.st_laws_pages.specs.Owed.{FatesHold}
 use Rattle.st_laws.specs.Stands.{Standing}
-use Rattle.st_laws.specs.World.{AllStand, Server_stands, There}
+use Rattle.st_laws.specs.World.{AllStand, Server_stands}
 use Rattle.st_laws.proofs.Pairs.{only_here, own_view}
 use Rattle.st_laws_copies.specs.Copies.{Fates_ok, Fate_ok}
-use Rattle.st_laws_copies.specs.Law.{All_while, Apart, Client_copies, Stands_at, Stands_while}
+use Rattle.st_laws_copies.specs.Law.{All_while, Apart, Stands_at, Stands_while}
 use Rattle.st_laws_copies.specs.World.{Unheld}
 use Rattle.st_laws_copies.proofs.Locked.{found_there}
-use Rattle.st_laws_reads.specs.Law.{Pending_here, Pending_pages_stand_alone, Running, Unheld_by}
+use Rattle.st_laws_reads.specs.Law.{Pending_pages_stand_alone, Running}
 
 -- members
 pub while_at : (l now : ℕ) (c : ClientId) (es : List LogEntry) (xs : List Association) (a : Association) → All_while l now c es xs → Has a xs → Stands_while l now c es a
@@ -75,7 +73,7 @@ lasts_date l now (Some s) e h = h
 
 -- The lease of a present life lasts while an entry of it is pending.
 module _ (w : World) (f : FatesHold w) (c : ClientId) (site : ClientSite) (there : site_of w c ≡ Some site) (runs : site.node.running ≡ true) (a : Association) (apart : Apart site.node.state.associations) (here : Has a site.node.state.associations) where
-  present_ends : ended_of w c a.server a.life ≡ None
+  pub present_ends : ended_of w c a.server a.life ≡ None
   present_ends = go (ended_of w c a.server a.life) refl
     where
       go : (o : Option LeaseLife) → ended_of w c a.server a.life ≡ o → o ≡ None

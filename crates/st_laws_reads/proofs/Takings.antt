@@ -1,5 +1,5 @@
 -- An event at which a client takes an input keeps the copies of all clients.
-use Rattle.std.proofs.Common.{◌≡◌, ◌≢◌, ℕ, ◌+◌, ◌≤◌, ◌⊎◌, Bool, true, false, ◌&&◌, ◌==◌, List, [], ◌∷◌, ◌++◌, Option, Some, None, Ok, Err, refl, sym, ap, ◌∙◌, subst, inl, inr, append_assoc, if◌then◌else◌}
+use Rattle.std.proofs.Common.{◌≡◌, ◌≢◌, ℕ, ◌+◌, ◌⊎◌, Bool, true, false, List, [], ◌∷◌, ◌++◌, Option, Some, None, Ok, Err, refl, sym, ap, ◌∙◌, subst, inl, inr, append_assoc, if◌then◌else◌}
 use Rattle.std.proofs.lemmas.Bool.{eqb-true, ne_eqb}
 use Rattle.st_base.specs.declared.ids.ClientId.{ClientId}
 use Rattle.st_base.specs.declared.ids.NodeId.{NodeId}
@@ -23,8 +23,7 @@ use Rattle.st_rules.specs.Events as ev
 use Rattle.st_rules.specs.Events.{Scene, counted, happens, world_step}
 use Rattle.st_rules.specs.FlatLog.{is_of_client}
 use Rattle.st_rules.specs.Keys.{client}
-use Rattle.st_rules.specs.Server.{ServerNode}
-use Rattle.st_rules.specs.World.{World, ClientSite, clock_of, issued_of, message_of, node_of, numbered, receiver_of, site_of}
+use Rattle.st_rules.specs.World.{World, ClientSite, clock_of, issued_of, message_of, numbered, receiver_of, site_of}
 use Rattle.st_assoc.specs.Assoc.{Config}
 use Rattle.st_lemmas.specs.Lists.{Has}
 use Rattle.st_lemmas.proofs.Lookups.{some_is}
@@ -43,7 +42,6 @@ use Rattle.st_laws_copies.specs.World.{All_own, Client_rests, Own_entry, Taking,
 use Rattle.st_laws_copies.proofs.Others.{entries_law}
 use Rattle.st_laws_copies.proofs.Rests.{clocks_law, rests_law}
 use Rattle.st_laws_copies.proofs.World as own
-use Rattle.st_laws_reads.specs.Law.{Running}
 use Rattle.st_laws_reads.specs.World.{All_there, CopiesHold, Site_holds, Taking_owed, Takings_keep_copies}
 use Rattle.st_laws_reads.proofs.Alone as alone
 
@@ -83,21 +81,21 @@ there_next w now s (a ∷ xs) (b ∷ ys) p t = record { one = subst (λ (v : Ser
 there_next w now s [] (b ∷ ys) p t = absurd p
 there_next w now s (a ∷ xs) [] p t = absurd p
 
-there_at : (w : World) (xs : List Association) (a : Association) → All_there w xs → Has a xs → There w a.server
+pub there_at : (w : World) (xs : List Association) (a : Association) → All_there w xs → Has a xs → There w a.server
 there_at w [] a t h = elim h [ ]
 there_at w (x ∷ xs) a t (inl e) = subst (λ (y : Association). There w y.server) (sym e) t.one
 there_at w (x ∷ xs) a t (inr h) = there_at w xs a t.rest h
 
 -- What is taken, and the step that follows.
-record Takes (w : World) (sc : Scene) (x : Taking) : Type 0 where
-  old : ClientSite
-  there : site_of w x.client ≡ Some old
-  same : old.node ≡ x.site.node
-  clients : x.world.clients ≡ w.clients
-  clocks : x.world.clocks ≡ w.clocks
-  servers : x.world.servers ≡ w.servers
-  log : x.world.log ≡ w.log
-  is : sc ≡ ev.client_takes x.world x.client x.input x.site
+pub record Takes (w : World) (sc : Scene) (x : Taking) : Type 0 where
+  pub old : ClientSite
+  pub there : site_of w x.client ≡ Some old
+  pub same : old.node ≡ x.site.node
+  pub clients : x.world.clients ≡ w.clients
+  pub clocks : x.world.clocks ≡ w.clocks
+  pub servers : x.world.servers ≡ w.servers
+  pub log : x.world.log ≡ w.log
+  pub is : sc ≡ ev.client_takes x.world x.client x.input x.site
 
 by_client : (w : World) (c : ClientId) (input : ClientInput) (o : Option ClientSite) (x : Taking) → site_of w c ≡ o → taking w c input o ≡ Some x → Takes w (ev.at_client w c input o) x
 unfolding ev.at_client
@@ -141,7 +139,7 @@ unfolding ev.tells
 by_report w d k ok None x q = cc q
 by_report w d k ok (Some y) x q = by_end w d k ok y (site_of w y.client) x refl q
 
-takes_event : (w : World) (e : Event) (x : Taking) → taken w e ≡ Some x → Takes w (happens w e) x
+pub takes_event : (w : World) (e : Event) (x : Taking) → taken w e ≡ Some x → Takes w (happens w e) x
 unfolding ev.happens ev.ticks ev.reports_of
 takes_event w (events.Tick (nodes.Client c)) x q = by_client w c inputs.Tick (site_of w c) x refl q
 takes_event w (events.App c ask) x q = by_ask w c ask (site_of w c) x refl q
@@ -184,16 +182,16 @@ module _ (asks : ℕ → ℕ → Option Ask) (k : Config) (count : ℕ) (w : Wor
   old_runs : t.old.node.running ≡ true
   old_runs = ap (λ (n : cl.ClientNode). n.running) t.same ∙ runs
 
-  keeps : World_keeps (asks c) x.client x.world.log sc.world.log (turn_of x)
+  pub keeps : World_keeps (asks c) x.client x.world.log sc.world.log (turn_of x)
   keeps =
       own.law (asks c) w e sc x step q runs
       (subst (λ (n : cl.ClientNode). Client_copies (asks c) x.client x.world.log (now_at x) n.state) t.same
       (subst (λ n. Client_copies (asks c) x.client x.world.log n t.old.node.state) clock_there (subst (λ l. Client_copies (asks c) x.client l (clock_of w (nodes.Client x.client)) t.old.node.state) (sym t.log) (old_holds.runs old_runs)))) owed.numbered owed.owed
 
-  abbrev mine : ClientSite
+  abbrev pub mine : ClientSite
   mine = site_left x.world x.client x.site x.input
 
-  mine_there : site_of sc.world x.client ≡ Some mine
+  pub mine_there : site_of sc.world x.client ≡ Some mine
   mine_there = ap (λ cs. numbered cs c) clients ∙ numbered_own x.world.clients c mine t.old there
 
   mine_holds : Site_holds (asks c) sc.world c mine

@@ -1,2 +1,4 @@
 pub mod Law
 pub mod World
+pub mod Events
+pub mod Runs

@@ -1,7 +1,9 @@
 //! Laws of the copies of all clients of a world: whose pages are as the log has them, through the events of a run.
 #![tactic(auto)]
 
+ghost use Rattle.st_laws_reads.specs.Events.{Others_keep_copies};
 ghost use Rattle.st_laws_reads.specs.Law.{Pending_pages_stand_alone};
+ghost use Rattle.st_laws_reads.specs.Runs.{Runs_read};
 ghost use Rattle.st_laws_reads.specs.World.{Takings_keep_copies};
 
 /// In a world where all stands, while an entry of a running client's present life is pending, no other client has a lock on its file
@@ -14,4 +16,15 @@ pub fn pending_pages_stand_alone()
 /// own and the others', under what other laws owe of that client alone, where all stands before it and behind it.
 pub fn takings_keep_copies()
     ensures { Takings_keep_copies }
+{}
+
+/// Every other event keeps the copies of all clients: crashes and starts, effects of disk commands, steps of servers and advances,
+/// where each cut is of a file that no client has in use, and what is pending of lives that are over stands alone.
+pub fn others_keep_copies()
+    ensures { Others_keep_copies }
+{}
+
+/// Reads return the last writes in every run in which each step has what other laws owe of it.
+pub fn runs_read()
+    ensures { Runs_read }
 {}

@@ -1,0 +1,16 @@
+pub mod Placed
+pub mod Commands
+pub mod Latest
+pub mod Saying
+pub mod Keeping
+pub mod Stepping
+pub mod FlushSteps
+pub mod Events
+pub mod Drops
+pub mod Unhard
+pub mod Operating
+pub mod Hardly
+pub mod Answering
+pub mod HardSeen
+pub mod HardEvents
+pub mod Law
