@@ -246,9 +246,9 @@ module _ (k : Config) (s : ℕ) (ended : ℕ → ℕ → ℕ) (w : World) (node 
     ends_below H runs f g o c =
         one_move k H (invariant k (record { at = mid }) b.ok moved c)
         (subst (λ a. Move k (mid c) a)
-              (λ j. record { c = client_in V c s (ended c); s = record (half_of (client c) Later node.running node.state (later_ghost c)) { grace = sym g j }; net = (G c).net })
-              (Grace_ends (mid c) runs f
-              (let so = sound_of c k.wait Now node.running node.state (G c) runs (b.stands.served c).stands in epochs.ends_at k.wait Now Later node.state.grace (G c).gstart so.gstart f g)))
+        (λ j. record { c = client_in V c s (ended c); s = record (half_of (client c) Later node.running node.state (later_ghost c)) { grace = sym g j }; net = (G c).net })
+        (Grace_ends (mid c) runs f
+        (let so = sound_of c k.wait Now node.running node.state (G c) runs (b.stands.served c).stands in epochs.ends_at k.wait Now Later node.state.grace (G c).gstart so.gstart f g)))
         (mid_below H o c)
 
     pub later_keeps : (H : ℕ → ℕ) → All_below k H s ended w node G → All_below k H s ended V node later_ghost

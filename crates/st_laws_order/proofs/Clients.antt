@@ -336,4 +336,3 @@ module _ (k : Config) (ok : Config_ok k) (s : ℕ) (w : World) (node : ServerNod
               go : (e : LeaseLife) {l : ℕ} → e.client.0 ≡ d → e.server.0 ≡ s → Has e w.ended ⊎ (Fact e.server e.life × (e.client.0 ≡ c) × (e.end ≡ cl.lease_end_with site.node.state e.server)) → All_past d s l w.ended → e.life.0 < l
               go e ec es (inl i) p = p e i ec es
               go e ec es (inr z) p = absurd (n (sym ec ∙ z.1))
-
