@@ -35,6 +35,9 @@ pub record Goes (t u : ClientTurn) : Type 0 where
   pub out : length t.out ≤ length u.out
   pub below : u.state.next_command < most_of u.out
 
--- a step at one server stays one of the same client, with the same settings
-abbrev pub Stays : Turn → Turn → Type 0
-Stays t u = (u.id ≡ t.id) × (u.config ≡ t.config)
+-- a rule at one server stays one of the same client, with the same settings, and numbers of commands and outputs only grow
+pub record Advances (t u : Turn) : Type 0 where
+  pub next : t.next_command ≤ u.next_command
+  pub out : length t.out ≤ length u.out
+  pub id : u.id ≡ t.id
+  pub config : u.config ≡ t.config
