@@ -20,39 +20,33 @@ next_number n = omega arith
 
 -- nothing is added
 pub stays : (t : Turn) → Advances t t
-stays t = record { next = same_number t.next_command; out = same_number (length t.out); id = refl; config = refl }
-
--- outputs are added
-pub adds : (t u : Turn) (outs : List Output) → u.next_command ≡ t.next_command → u.out ≡ t.out ++ outs → u.id ≡ t.id → u.config ≡ t.config → Advances t u
-adds t u outs n o i c = record { next = omega (arith, n); out = rw o (more_out t.out outs); id = i; config = c }
+stays t = ((same_number t.next_command, same_number (length t.out)), (refl, refl))
 
 -- one output is added
 pub says : (t : Turn) (o : Output) → Advances t (say t o)
-says t o = record { next = same_number t.next_command; out = more_out t.out (o ∷ []); id = refl; config = refl }
+says t o = ((same_number t.next_command, more_out t.out (o ∷ [])), (refl, refl))
 
 -- two outputs are added
 pub says_both : (t : Turn) (o p : Output) → Advances t (say (say t o) p)
-says_both t o p =
-    let a = more_out t.out (o ∷ []) in
-    let b = more_out (t.out ++ o ∷ []) (p ∷ []) in
-    record { next = same_number t.next_command; out = omega (arith, a, b); id = refl; config = refl }
+says_both t o p = ((same_number t.next_command, (let a = more_out t.out (o ∷ []) in let b = more_out (t.out ++ o ∷ []) (p ∷ []) in omega (arith, a, b))), (refl, refl))
 
 -- a command is submitted
 pub submitted : (t : Turn) (o : Output) → Advances t (record (say t o) { next_command = t.next_command + 1 })
-submitted t o = record { next = next_number t.next_command; out = more_out t.out (o ∷ []); id = refl; config = refl }
+submitted t o = ((next_number t.next_command, more_out t.out (o ∷ [])), (refl, refl))
 
+-- pending operations are answered
 pub told : (p : Operation → Bool) (a : AppAnswer) (t : Turn) → Advances t (answer_each p a t)
 unfolding answer_each
-told p a t = record { next = same_number t.next_command; out = more_out t.out (map (answer_to a) (filter p t.operations)); id = refl; config = refl }
+told p a t = ((same_number t.next_command, more_out t.out (map (answer_to a) (filter p t.operations))), (refl, refl))
 
 -- first these, and then those
 pub then_more : (t u v : Turn) → Advances t u → Advances u v → Advances t v
 then_more t u v g h =
-    let a = g.next in
-    let b = g.out in
-    let c = h.next in
-    let d = h.out in
-    record { next = omega (arith, a, c); out = omega (arith, b, d); id = h.id ∙ g.id; config = h.config ∙ g.config }
+    let a = g.0.0 in
+    let b = g.0.1 in
+    let c = h.0.0 in
+    let d = h.0.1 in
+    ((omega (arith, a, c), omega (arith, b, d)), (h.1.0 ∙ g.1.0, h.1.1 ∙ g.1.1))
 
 -- one of two
 pub either : (b : Bool) (x y t : Turn) → Advances t x → Advances t y → Advances t (if b then x else y)

@@ -18,7 +18,7 @@ use Rattle.st_rules.specs.Client as rules
 use Rattle.st_rules.specs.Client.{filled_by, hardened, mark_failed, failed_as, finish_as, ended_by, finish_command, done_by, finish_by, finish_at, finish, tell_lost, end_sync, end_unsent, end_operation, end_each, end_operations, lose_session, lose_over, lose_by, lose, pend, take_sync, take_by, take_ask}
 use Rattle.st_rules.specs.ClientPages as pages
 use Rattle.st_rules.specs.ClientState.{ClientSession, Turn, answer_each, is_of, is_sent, note, say, with_operations}
-use Rattle.st_client.proofs.Advancing.{adds, either, says, says_both, stays, submitted, then_more, told}
+use Rattle.st_client.proofs.Advancing.{either, says, says_both, stays, submitted, then_more, told}
 use Rattle.st_client.specs.Machines.{Advances}
 
 -- Ends of commands.
