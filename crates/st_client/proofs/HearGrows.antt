@@ -2,7 +2,8 @@
 use Rattle.std.proofs.Common.{◌≡◌, ℕ, ◌+◌, ◌≤◌, Bool, true, false, List, [], ◌∷◌, ◌++◌, length, refl, arith}
 use Rattle.std.specs.Prelude.{Option, Some, None, if◌then◌else◌, map, filter}
 use Rattle.std.proofs.lemmas.List.{length-append}
-use Rattle.st_association.specs.Associations.{Grows}
+use Rattle.st_client.proofs.Advancing.{either, says, stays, then_more, told}
+use Rattle.st_client.specs.Machines.{Advances}
 use Rattle.st_base.specs.declared.ids.Epoch.{Epoch}
 use Rattle.st_base.specs.declared.ids.GrantNo.{GrantNo}
 use Rattle.st_base.specs.declared.ids.PageNo.{PageNo}
@@ -28,251 +29,229 @@ use Rattle.st_rules.specs.ClientReplies.{acknowledged, begin_here, begin_session
 use Rattle.st_rules.specs.ClientState.{ClientSession, Turn, answer_each, answer_to, asks_cut_or_remove, file_asked, is_asked, say, send, with_session}
 use Rattle.st_rules.specs.ClientLocks as locks
 
-pub stay : (t : Turn) → Grows t t
-stay t = (omega arith, omega arith)
-
-pub both : (t u v : Turn) → Grows t u → Grows u v → Grows t v
-both t u v g h = let a = g.0 in let b = g.1 in let c = h.0 in let d = h.1 in (omega arith, omega arith)
-
-pub said : (t : Turn) (o : Output) → Grows t (say t o)
-said t o = (omega arith, omega (arith, length-append t.out (o ∷ [])))
-
-pub sent : (t : Turn) (epoch number stamp : ℕ) (body : Body) → Grows t (send t epoch number stamp body)
-unfolding send
-sent t epoch number stamp body = said t _
-
-pub told : (p : Operation → Bool) (a : AppAnswer) (t : Turn) → Grows t (answer_each p a t)
-unfolding answer_each
-told p a t = (omega arith, omega (arith, length-append t.out (map (answer_to a) (filter p t.operations))))
-
--- one of two
-pub either : (t : Turn) (b : Bool) (u v : Turn) → Grows t u → Grows t v → Grows t (if b then u else v)
-either t true u v g h = g
-either t false u v g h = h
-
-lease_grows : (l : ClientLease) (t : Turn) → Grows t (note_lease l t)
+lease_grows : (l : ClientLease) (t : Turn) → Advances t (note_lease l t)
 unfolding note_lease
-lease_grows l t = said t _
+lease_grows l t = says t _
 
-begin_grows : (t : Turn) (epoch : Epoch) (stamp : Stamp) → Grows t (begin_session t epoch stamp)
+begin_grows : (t : Turn) (epoch : Epoch) (stamp : Stamp) → Advances t (begin_session t epoch stamp)
 unfolding begin_session
 begin_grows t epoch stamp = lease_grows (new_lease stamp) (begin_here (new_session epoch stamp) t)
 
-welcome_grows : (t : Turn) (now : Stamp) (epoch : Epoch) (stamp : Stamp) → Grows t (welcome t now epoch stamp)
+welcome_grows : (t : Turn) (now : Stamp) (epoch : Epoch) (stamp : Stamp) → Advances t (welcome t now epoch stamp)
 unfolding welcome
-welcome_grows t now epoch stamp = either t (is_timely t now stamp) (begin_session t epoch stamp) t (begin_grows t epoch stamp) (stay t)
+welcome_grows t now epoch stamp = either (is_timely t now stamp) (begin_session t epoch stamp) t t (begin_grows t epoch stamp) (stays t)
 
-pub without_grows : (t : Turn) (now : Stamp) (h : Header) (body : Body) → Grows t (without_session t now h body)
+pub without_grows : (t : Turn) (now : Stamp) (h : Header) (body : Body) → Advances t (without_session t now h body)
 unfolding without_session
-without_grows t now h bodies.Hello = stay t
-without_grows t now h bodies.KeepAlive = stay t
-without_grows t now h (bodies.Acquire ino mode) = stay t
-without_grows t now h (bodies.Released ino g to) = stay t
-without_grows t now h (bodies.Map ino g p) = stay t
-without_grows t now h (bodies.Allocate ino g p count) = stay t
-without_grows t now h (bodies.Cut ino g from) = stay t
-without_grows t now h (bodies.Name op) = stay t
-without_grows t now h (bodies.Reassert rows) = stay t
-without_grows t now h (bodies.DemandSeen ino g) = stay t
+without_grows t now h bodies.Hello = stays t
+without_grows t now h bodies.KeepAlive = stays t
+without_grows t now h (bodies.Acquire ino mode) = stays t
+without_grows t now h (bodies.Released ino g to) = stays t
+without_grows t now h (bodies.Map ino g p) = stays t
+without_grows t now h (bodies.Allocate ino g p count) = stays t
+without_grows t now h (bodies.Cut ino g from) = stays t
+without_grows t now h (bodies.Name op) = stays t
+without_grows t now h (bodies.Reassert rows) = stays t
+without_grows t now h (bodies.DemandSeen ino g) = stays t
 without_grows t now h bodies.Welcome = welcome_grows t now (record { 0 = h.epoch }) (record { 0 = h.stamp })
-without_grows t now h bodies.Ack = stay t
-without_grows t now h (bodies.Nack w a b) = stay t
-without_grows t now h (bodies.Granted ino g mode) = stay t
-without_grows t now h (bodies.Queued ino mode) = stay t
-without_grows t now h (bodies.Demand ino g to) = stay t
-without_grows t now h (bodies.Extents ino rows) = stay t
-without_grows t now h (bodies.Named reply) = stay t
-without_grows t now h bodies.Reasserted = stay t
-without_grows t now h bodies.Tick = stay t
-without_grows t now h (bodies.App op ask) = stay t
-without_grows t now h (bodies.AppDone op answer) = stay t
-without_grows t now h (bodies.Submit command at what) = stay t
-without_grows t now h (bodies.Done command result) = stay t
+without_grows t now h bodies.Ack = stays t
+without_grows t now h (bodies.Nack w a b) = stays t
+without_grows t now h (bodies.Granted ino g mode) = stays t
+without_grows t now h (bodies.Queued ino mode) = stays t
+without_grows t now h (bodies.Demand ino g to) = stays t
+without_grows t now h (bodies.Extents ino rows) = stays t
+without_grows t now h (bodies.Named reply) = stays t
+without_grows t now h bodies.Reasserted = stays t
+without_grows t now h bodies.Tick = stays t
+without_grows t now h (bodies.App op ask) = stays t
+without_grows t now h (bodies.AppDone op answer) = stays t
+without_grows t now h (bodies.Submit command at what) = stays t
+without_grows t now h (bodies.Done command result) = stays t
 
-follow_grows : (t : Turn) (s : ClientSession) (epoch : Epoch) → Grows t (follow_epoch t s epoch)
+follow_grows : (t : Turn) (s : ClientSession) (epoch : Epoch) → Advances t (follow_epoch t s epoch)
 unfolding follow_epoch
 follow_grows t s epoch = told (is_asked t.here.server) (answers.Uncertain s.epoch.0 epoch.0) (with_session (in_epoch epoch s) t)
 
-newer_grows : (t : Turn) (s : ClientSession) (epoch : Epoch) → Grows t (newer_epoch t s epoch)
+newer_grows : (t : Turn) (s : ClientSession) (epoch : Epoch) → Advances t (newer_epoch t s epoch)
 unfolding newer_epoch
-newer_grows t s epoch = either t (is_newer s epoch) (follow_epoch t s epoch) t (follow_grows t s epoch) (stay t)
+newer_grows t s epoch = either (is_newer s epoch) (follow_epoch t s epoch) t t (follow_grows t s epoch) (stays t)
 
-refused_in_grows : (t : Turn) (s : ClientSession) (epoch : Epoch) (w : Why) → Grows t (refused_in t s epoch w)
-refused_in_grows t s epoch why.Suspect = stay t
-refused_in_grows t s epoch why.NoSession = stay t
+refused_in_grows : (t : Turn) (s : ClientSession) (epoch : Epoch) (w : Why) → Advances t (refused_in t s epoch w)
+refused_in_grows t s epoch why.Suspect = stays t
+refused_in_grows t s epoch why.NoSession = stays t
 refused_in_grows t s epoch why.OtherEpoch = newer_grows t s epoch
-refused_in_grows t s epoch why.Grace = stay t
-refused_in_grows t s epoch why.GraceOver = stay t
-refused_in_grows t s epoch why.Conflict = stay t
-refused_in_grows t s epoch why.NotHolder = stay t
-refused_in_grows t s epoch why.NoFile = stay t
-refused_in_grows t s epoch why.NoSpace = stay t
-refused_in_grows t s epoch why.TooManyLocks = stay t
+refused_in_grows t s epoch why.Grace = stays t
+refused_in_grows t s epoch why.GraceOver = stays t
+refused_in_grows t s epoch why.Conflict = stays t
+refused_in_grows t s epoch why.NotHolder = stays t
+refused_in_grows t s epoch why.NoFile = stays t
+refused_in_grows t s epoch why.NoSpace = stays t
+refused_in_grows t s epoch why.TooManyLocks = stays t
 
-pub other_grows : (t : Turn) (s : ClientSession) (epoch : Epoch) (body : Body) → Grows t (of_other_epoch t s epoch body)
+other_grows : (t : Turn) (s : ClientSession) (epoch : Epoch) (body : Body) → Advances t (of_other_epoch t s epoch body)
 unfolding of_other_epoch
-other_grows t s epoch bodies.Hello = stay t
-other_grows t s epoch bodies.KeepAlive = stay t
-other_grows t s epoch (bodies.Acquire ino mode) = stay t
-other_grows t s epoch (bodies.Released ino g to) = stay t
-other_grows t s epoch (bodies.Map ino g p) = stay t
-other_grows t s epoch (bodies.Allocate ino g p count) = stay t
-other_grows t s epoch (bodies.Cut ino g from) = stay t
-other_grows t s epoch (bodies.Name op) = stay t
-other_grows t s epoch (bodies.Reassert rows) = stay t
-other_grows t s epoch (bodies.DemandSeen ino g) = stay t
-other_grows t s epoch bodies.Welcome = stay t
-other_grows t s epoch bodies.Ack = stay t
+other_grows t s epoch bodies.Hello = stays t
+other_grows t s epoch bodies.KeepAlive = stays t
+other_grows t s epoch (bodies.Acquire ino mode) = stays t
+other_grows t s epoch (bodies.Released ino g to) = stays t
+other_grows t s epoch (bodies.Map ino g p) = stays t
+other_grows t s epoch (bodies.Allocate ino g p count) = stays t
+other_grows t s epoch (bodies.Cut ino g from) = stays t
+other_grows t s epoch (bodies.Name op) = stays t
+other_grows t s epoch (bodies.Reassert rows) = stays t
+other_grows t s epoch (bodies.DemandSeen ino g) = stays t
+other_grows t s epoch bodies.Welcome = stays t
+other_grows t s epoch bodies.Ack = stays t
 other_grows t s epoch (bodies.Nack w a b) = refused_in_grows t s epoch w
-other_grows t s epoch (bodies.Granted ino g mode) = stay t
-other_grows t s epoch (bodies.Queued ino mode) = stay t
-other_grows t s epoch (bodies.Demand ino g to) = stay t
-other_grows t s epoch (bodies.Extents ino rows) = stay t
-other_grows t s epoch (bodies.Named reply) = stay t
-other_grows t s epoch bodies.Reasserted = stay t
-other_grows t s epoch bodies.Tick = stay t
-other_grows t s epoch (bodies.App op ask) = stay t
-other_grows t s epoch (bodies.AppDone op answer) = stay t
-other_grows t s epoch (bodies.Submit command at what) = stay t
-other_grows t s epoch (bodies.Done command result) = stay t
+other_grows t s epoch (bodies.Granted ino g mode) = stays t
+other_grows t s epoch (bodies.Queued ino mode) = stays t
+other_grows t s epoch (bodies.Demand ino g to) = stays t
+other_grows t s epoch (bodies.Extents ino rows) = stays t
+other_grows t s epoch (bodies.Named reply) = stays t
+other_grows t s epoch bodies.Reasserted = stays t
+other_grows t s epoch bodies.Tick = stays t
+other_grows t s epoch (bodies.App op ask) = stays t
+other_grows t s epoch (bodies.AppDone op answer) = stays t
+other_grows t s epoch (bodies.Submit command at what) = stays t
+other_grows t s epoch (bodies.Done command result) = stays t
 
-extents_grows : (t : Turn) (s : ClientSession) (ino : ℕ) (rows : _) (asked : Body) → Grows t (extents t s ino rows asked)
+extents_grows : (t : Turn) (s : ClientSession) (ino : ℕ) (rows : _) (asked : Body) → Advances t (extents t s ino rows asked)
 unfolding extents learn
-extents_grows t s ino rows asked = either t (is_current s.locks asked) (learn t ino rows asked) t (stay t) (stay t)
+extents_grows t s ino rows asked = either (is_current s.locks asked) (learn t ino rows asked) t t (stays t) (stays t)
 
-held_grows : (t : Turn) (s : ClientSession) (ino : ℕ) (o : Option HeldLock) → Grows t (drop_held t s ino o)
+held_grows : (t : Turn) (s : ClientSession) (ino : ℕ) (o : Option HeldLock) → Advances t (drop_held t s ino o)
 unfolding drop_held drop_lock
-held_grows t s ino None = stay t
-held_grows t s ino (Some l) = stay t
+held_grows t s ino None = stays t
+held_grows t s ino (Some l) = stays t
 
-removed_grows : (t : Turn) (s : ClientSession) (file : Option ℕ) → Grows t (removed t s file)
+removed_grows : (t : Turn) (s : ClientSession) (file : Option ℕ) → Advances t (removed t s file)
 unfolding removed
-removed_grows t s None = stay t
+removed_grows t s None = stays t
 removed_grows t s (Some ino) = held_grows t s ino (locks.lock_of s.locks ino)
 
-named_as_grows : (t : Turn) (s : ClientSession) (file : Option ℕ) (reply : NameReply) → Grows t (named_as t s file reply)
+named_as_grows : (t : Turn) (s : ClientSession) (file : Option ℕ) (reply : NameReply) → Advances t (named_as t s file reply)
 unfolding named_as
 named_as_grows t s file (Ino ino) = removed_grows t s file
-named_as_grows t s file (Listed rows) = stay t
-named_as_grows t s file (Refused code) = stay t
+named_as_grows t s file (Listed rows) = stays t
+named_as_grows t s file (Refused code) = stays t
 
-named_grows : (t : Turn) (s : ClientSession) (file : Option ℕ) (reply : NameReply) → Grows t (named t s file reply)
+named_grows : (t : Turn) (s : ClientSession) (file : Option ℕ) (reply : NameReply) → Advances t (named t s file reply)
 unfolding named
 named_grows t s file reply =
     let u = answer_each (is_asked t.here.server) (name_answer reply) t in
-    both t u (named_as u s file reply) (told (is_asked t.here.server) (name_answer reply) t) (named_as_grows u s file reply)
+    then_more t u (named_as u s file reply) (told (is_asked t.here.server) (name_answer reply) t) (named_as_grows u s file reply)
 
-file_grows : (t : Turn) (a : AppAnswer) (file : Option ℕ) → Grows t (refuse_file t a file)
+file_grows : (t : Turn) (a : AppAnswer) (file : Option ℕ) → Advances t (refuse_file t a file)
 unfolding refuse_file
-file_grows t a None = stay t
+file_grows t a None = stays t
 file_grows t a (Some ino) = told _ a t
 
-page_grows : (t : Turn) (a : AppAnswer) (file : Option ℕ) (page : Option PageNo) → Grows t (refuse_page t a file page)
+page_grows : (t : Turn) (a : AppAnswer) (file : Option ℕ) (page : Option PageNo) → Advances t (refuse_page t a file page)
 unfolding refuse_page
-page_grows t a None None = stay t
-page_grows t a None (Some p) = stay t
-page_grows t a (Some ino) None = stay t
+page_grows t a None None = stays t
+page_grows t a None (Some p) = stays t
+page_grows t a (Some ino) None = stays t
 page_grows t a (Some ino) (Some p) = told _ a t
 
-holder_grows : (t : Turn) (asked : Body) → Grows t (refuse_holder t asked)
+holder_grows : (t : Turn) (asked : Body) → Advances t (refuse_holder t asked)
 unfolding refuse_holder
-holder_grows t asked = either t (asks_cut_or_remove asked) _ t (told _ answers.NotHolder t) (stay t)
+holder_grows t asked = either (asks_cut_or_remove asked) _ t t (told _ answers.NotHolder t) (stays t)
 
-as_grows : (t : Turn) (w : Why) (a b : ℕ) (file : Option ℕ) (asked : Body) → Grows t (refuse_as t w a b file asked)
+as_grows : (t : Turn) (w : Why) (a b : ℕ) (file : Option ℕ) (asked : Body) → Advances t (refuse_as t w a b file asked)
 unfolding refuse_as
-as_grows t why.Suspect a b file asked = stay t
-as_grows t why.NoSession a b file asked = stay t
-as_grows t why.OtherEpoch a b file asked = stay t
-as_grows t why.Grace a b file asked = stay t
-as_grows t why.GraceOver a b file asked = stay t
-as_grows t why.Conflict a b file asked = stay t
+as_grows t why.Suspect a b file asked = stays t
+as_grows t why.NoSession a b file asked = stays t
+as_grows t why.OtherEpoch a b file asked = stays t
+as_grows t why.Grace a b file asked = stays t
+as_grows t why.GraceOver a b file asked = stays t
+as_grows t why.Conflict a b file asked = stays t
 as_grows t why.NotHolder a b file asked = holder_grows t asked
 as_grows t why.NoFile a b file asked = file_grows t answers.NoFile file
 as_grows t why.NoSpace a b file asked = page_grows t (answers.NoSpace a b) file _
 as_grows t why.TooManyLocks a b file asked = file_grows t answers.TooManyLocks file
 
-refused_grows : (t : Turn) (w : Why) (a b : ℕ) (file : Option ℕ) (asked : Body) → Grows t (refused t w a b file asked)
+refused_grows : (t : Turn) (w : Why) (a b : ℕ) (file : Option ℕ) (asked : Body) → Advances t (refused t w a b file asked)
 unfolding refused leave_stuck
 refused_grows t w a b file asked = as_grows t w a b file asked
 
-pub effect_grows : (t : Turn) (s : ClientSession) (now : Stamp) (file : Option ℕ) (asked : Body) (body : Body) → Grows t (effect t s now body file asked)
+effect_grows : (t : Turn) (s : ClientSession) (now : Stamp) (file : Option ℕ) (asked : Body) (body : Body) → Advances t (effect t s now body file asked)
 unfolding effect granted queued acknowledged reasserted
-effect_grows t s now file asked bodies.Hello = stay t
-effect_grows t s now file asked bodies.KeepAlive = stay t
-effect_grows t s now file asked (bodies.Acquire ino mode) = stay t
-effect_grows t s now file asked (bodies.Released ino g to) = stay t
-effect_grows t s now file asked (bodies.Map ino g p) = stay t
-effect_grows t s now file asked (bodies.Allocate ino g p count) = stay t
-effect_grows t s now file asked (bodies.Cut ino g from) = stay t
-effect_grows t s now file asked (bodies.Name op) = stay t
-effect_grows t s now file asked (bodies.Reassert rows) = stay t
-effect_grows t s now file asked (bodies.DemandSeen ino g) = stay t
-effect_grows t s now file asked bodies.Welcome = stay t
+effect_grows t s now file asked bodies.Hello = stays t
+effect_grows t s now file asked bodies.KeepAlive = stays t
+effect_grows t s now file asked (bodies.Acquire ino mode) = stays t
+effect_grows t s now file asked (bodies.Released ino g to) = stays t
+effect_grows t s now file asked (bodies.Map ino g p) = stays t
+effect_grows t s now file asked (bodies.Allocate ino g p count) = stays t
+effect_grows t s now file asked (bodies.Cut ino g from) = stays t
+effect_grows t s now file asked (bodies.Name op) = stays t
+effect_grows t s now file asked (bodies.Reassert rows) = stays t
+effect_grows t s now file asked (bodies.DemandSeen ino g) = stays t
+effect_grows t s now file asked bodies.Welcome = stays t
 effect_grows t s now file asked bodies.Ack = told _ answers.Cut t
 effect_grows t s now file asked (bodies.Nack w a b) = refused_grows t w a b file asked
-effect_grows t s now file asked (bodies.Granted ino g mode) = stay t
-effect_grows t s now file asked (bodies.Queued ino mode) = stay t
-effect_grows t s now file asked (bodies.Demand ino g to) = stay t
+effect_grows t s now file asked (bodies.Granted ino g mode) = stays t
+effect_grows t s now file asked (bodies.Queued ino mode) = stays t
+effect_grows t s now file asked (bodies.Demand ino g to) = stays t
 effect_grows t s now file asked (bodies.Extents ino rows) = extents_grows t s ino rows asked
 effect_grows t s now file asked (bodies.Named reply) = named_grows t s file reply
-effect_grows t s now file asked bodies.Reasserted = stay t
-effect_grows t s now file asked bodies.Tick = stay t
-effect_grows t s now file asked (bodies.App op ask) = stay t
-effect_grows t s now file asked (bodies.AppDone op answer) = stay t
-effect_grows t s now file asked (bodies.Submit command at what) = stay t
-effect_grows t s now file asked (bodies.Done command result) = stay t
+effect_grows t s now file asked bodies.Reasserted = stays t
+effect_grows t s now file asked bodies.Tick = stays t
+effect_grows t s now file asked (bodies.App op ask) = stays t
+effect_grows t s now file asked (bodies.AppDone op answer) = stays t
+effect_grows t s now file asked (bodies.Submit command at what) = stays t
+effect_grows t s now file asked (bodies.Done command result) = stays t
 
-end_grows : (t : Turn) (s : ClientSession) (stamp : Stamp) → Grows t (end_request t s stamp)
+end_grows : (t : Turn) (s : ClientSession) (stamp : Stamp) → Advances t (end_request t s stamp)
 unfolding end_request note_renewal
-end_grows t s stamp = either t (is_renewal stamp s.lease) (note_lease (renewed stamp s.lease) t) t (lease_grows _ t) (stay t)
+end_grows t s stamp = either (is_renewal stamp s.lease) (note_lease (renewed stamp s.lease) t) t t (lease_grows _ t) (stays t)
 
-reply_to_grows : (t : Turn) (s : ClientSession) (now stamp : Stamp) (reply asked : Body) → Grows t (reply_to t s now stamp reply asked)
+reply_to_grows : (t : Turn) (s : ClientSession) (now stamp : Stamp) (reply asked : Body) → Advances t (reply_to t s now stamp reply asked)
 unfolding reply_to
 reply_to_grows t s now stamp reply asked =
-    both t (end_request t s stamp) (reply_to t s now stamp reply asked) (end_grows t s stamp)
+    then_more t (end_request t s stamp) (reply_to t s now stamp reply asked) (end_grows t s stamp)
     (effect_grows (end_request t s stamp) (ended_by stamp s) now (file_asked s.cutting asked) asked reply)
 
-count_grows : (t : Turn) (s : ClientSession) (now stamp : Stamp) (reply asked : Body) → Grows t (count_reply t s now stamp reply asked)
+count_grows : (t : Turn) (s : ClientSession) (now stamp : Stamp) (reply asked : Body) → Advances t (count_reply t s now stamp reply asked)
 unfolding count_reply condemn
-count_grows t s now stamp reply asked = either t (refuses_reassertion reply asked) _ _ (stay t) (reply_to_grows t s now stamp reply asked)
+count_grows t s now stamp reply asked = either (refuses_reassertion reply asked) _ _ t (stays t) (reply_to_grows t s now stamp reply asked)
 
-counted_grows : (t : Turn) (s : ClientSession) (now : Stamp) (number : ℕ) (stamp : Stamp) (reply : Body) (o : Option Request) → Grows t (counted t s now number stamp reply o)
+counted_grows : (t : Turn) (s : ClientSession) (now : Stamp) (number : ℕ) (stamp : Stamp) (reply : Body) (o : Option Request) → Advances t (counted t s now number stamp reply o)
 unfolding counted by_request
-counted_grows t s now number stamp reply None = stay t
-counted_grows t s now number stamp reply (Some q) = either t (is_counting number reply q) _ t (count_grows t s now stamp reply q.body) (stay t)
+counted_grows t s now number stamp reply None = stays t
+counted_grows t s now number stamp reply (Some q) = either (is_counting number reply q) _ t t (count_grows t s now stamp reply q.body) (stays t)
 
-reply_grows : (t : Turn) (s : ClientSession) (now : Stamp) (h : Header) (reply : Body) → Grows t (reply_of t s now h reply)
+reply_grows : (t : Turn) (s : ClientSession) (now : Stamp) (h : Header) (reply : Body) → Advances t (reply_of t s now h reply)
 unfolding reply_of
 reply_grows t s now h reply = counted_grows t s now h.number _ reply s.requests.asked
 
-nack_grows : (t : Turn) (s : ClientSession) (now : Stamp) (h : Header) (a b : ℕ) (w : Why) → Grows t (nack t s now h w a b)
+nack_grows : (t : Turn) (s : ClientSession) (now : Stamp) (h : Header) (a b : ℕ) (w : Why) → Advances t (nack t s now h w a b)
 unfolding condemn
-nack_grows t s now h a b why.Suspect = stay t
-nack_grows t s now h a b why.NoSession = stay t
-nack_grows t s now h a b why.OtherEpoch = stay t
-nack_grows t s now h a b why.Grace = stay t
-nack_grows t s now h a b why.GraceOver = stay t
-nack_grows t s now h a b why.Conflict = stay t
+nack_grows t s now h a b why.Suspect = stays t
+nack_grows t s now h a b why.NoSession = stays t
+nack_grows t s now h a b why.OtherEpoch = stays t
+nack_grows t s now h a b why.Grace = stays t
+nack_grows t s now h a b why.GraceOver = stays t
+nack_grows t s now h a b why.Conflict = stays t
 nack_grows t s now h a b why.NotHolder = reply_grows t s now h (bodies.Nack why.NotHolder a b)
 nack_grows t s now h a b why.NoFile = reply_grows t s now h (bodies.Nack why.NoFile a b)
 nack_grows t s now h a b why.NoSpace = reply_grows t s now h (bodies.Nack why.NoSpace a b)
 nack_grows t s now h a b why.TooManyLocks = reply_grows t s now h (bodies.Nack why.TooManyLocks a b)
 
-grant_grows : (t : Turn) (s : ClientSession) (now : Stamp) (h : Header) (ino : ℕ) (g : GrantNo) (mode : Mode) → Grows t (grant_or_reply t s now h ino g mode)
+grant_grows : (t : Turn) (s : ClientSession) (now : Stamp) (h : Header) (ino : ℕ) (g : GrantNo) (mode : Mode) → Advances t (grant_or_reply t s now h ino g mode)
 unfolding grant_or_reply granted
-grant_grows t s now h ino g mode = either t _ _ _ (stay t) (reply_grows t s now h (bodies.Granted ino g mode))
+grant_grows t s now h ino g mode = either _ _ _ t (stays t) (reply_grows t s now h (bodies.Granted ino g mode))
 
-demand_as_grows : (t : Turn) (s : ClientSession) (ino : ℕ) (g : GrantNo) (a : Asked) → Grows t (demand_as t s ino g a)
-unfolding demand_as see_demand
-demand_as_grows t s ino g Reduce = sent (with_session s t) s.epoch.0 0 0 (bodies.DemandSeen ino g)
-demand_as_grows t s ino g NotHeld = stay t
-demand_as_grows t s ino g Stale = stay t
+demand_as_grows : (t : Turn) (s : ClientSession) (ino : ℕ) (g : GrantNo) (a : Asked) → Advances t (demand_as t s ino g a)
+unfolding demand_as see_demand send
+demand_as_grows t s ino g Reduce = says t _
+demand_as_grows t s ino g NotHeld = stays t
+demand_as_grows t s ino g Stale = stays t
 
-demand_grows : (t : Turn) (s : ClientSession) (ino : ℕ) (g : GrantNo) (to : Mode) → Grows t (demand t s ino g to)
+demand_grows : (t : Turn) (s : ClientSession) (ino : ℕ) (g : GrantNo) (to : Mode) → Advances t (demand t s ino g to)
 unfolding demand demand_by
 demand_grows t s ino g to = demand_as_grows t _ ino g _
 
-pub epoch_grows : (t : Turn) (s : ClientSession) (now : Stamp) (h : Header) (body : Body) → Grows t (of_epoch t s now h body)
+epoch_grows : (t : Turn) (s : ClientSession) (now : Stamp) (h : Header) (body : Body) → Advances t (of_epoch t s now h body)
 unfolding of_epoch
 epoch_grows t s now h bodies.Hello = reply_grows t s now h bodies.Hello
 epoch_grows t s now h bodies.KeepAlive = reply_grows t s now h bodies.KeepAlive
@@ -299,15 +278,15 @@ epoch_grows t s now h (bodies.AppDone op answer) = reply_grows t s now h (bodies
 epoch_grows t s now h (bodies.Submit command at what) = reply_grows t s now h (bodies.Submit command at what)
 epoch_grows t s now h (bodies.Done command result) = reply_grows t s now h (bodies.Done command result)
 
-session_grows : (t : Turn) (s : ClientSession) (now : Stamp) (h : Header) (body : Body) → Grows t (with_a_session t s now h body)
+session_grows : (t : Turn) (s : ClientSession) (now : Stamp) (h : Header) (body : Body) → Advances t (with_a_session t s now h body)
 unfolding with_a_session
-session_grows t s now h body = either t _ _ _ (epoch_grows t s now h body) (other_grows t s _ body)
+session_grows t s now h body = either _ _ _ t (epoch_grows t s now h body) (other_grows t s _ body)
 
-by_grows : (t : Turn) (now : Stamp) (h : Header) (body : Body) (o : Option ClientSession) → Grows t (by_session t now h body o)
+by_grows : (t : Turn) (now : Stamp) (h : Header) (body : Body) (o : Option ClientSession) → Advances t (by_session t now h body o)
 unfolding by_session
 by_grows t now h body None = without_grows t now h body
 by_grows t now h body (Some s) = session_grows t s now h body
 
-pub hear_grows : (now : Stamp) (h : Header) (body : Body) (t : Turn) → Grows t (hear now h body t)
+pub hear_grows : (now : Stamp) (h : Header) (body : Body) (t : Turn) → Advances t (hear now h body t)
 unfolding hear
-hear_grows now h body t = either t (is_heard t now h) _ t (by_grows t now h body t.here.session) (stay t)
+hear_grows now h body t = either (is_heard t now h) _ t t (by_grows t now h body t.here.session) (stays t)

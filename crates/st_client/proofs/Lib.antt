@@ -1,2 +1,5 @@
 pub mod Growing
+pub mod Advancing
 pub mod HearGrows
+pub mod InputsGrow
+pub mod PassesGrow

@@ -1,6 +1,6 @@
 -- A client's machine: what it has of each server, and what always stands of it.
 use Rattle.std.specs.Prelude.{◌≡◌, ℕ, ◌<◌, ◌≤◌, List, [], ◌∷◌, length, ⊤}
-use Rattle.st_association.specs.Associations.{ClientAssociation, IsCounted}
+use Rattle.st_association.specs.Associations.{ClientAssociation, Grows, IsCounted}
 use Rattle.st_association.specs.Turns.{most_of}
 use Rattle.st_base.specs.declared.config.Config.{Config}
 use Rattle.st_base.specs.declared.ids.ClientId.{ClientId}
@@ -35,6 +35,10 @@ pub record Goes (t u : ClientTurn) : Type 0 where
   pub out : length t.out ≤ length u.out
   pub below : u.state.next_command < most_of u.out
 
--- a step at one server stays one of the same client, with the same settings
+-- a rule at one server stays one of the same client, with the same settings
 abbrev pub Stays : Turn → Turn → Type 0
 Stays t u = (u.id ≡ t.id) × (u.config ≡ t.config)
+
+-- and numbers of commands and outputs only grow
+abbrev pub Advances : Turn → Turn → Type 0
+Advances t u = Grows t u × Stays t u

@@ -1,7 +1,6 @@
 // A rule for one association, as it is done at each server in turn.
 ghost use Rattle.std.specs.Prelude.{◌≡◌, true, OnOk};
-ghost use Rattle.st_association.specs.Associations.{Grows};
-ghost use Rattle.st_client.specs.Machines.{Stays};
+ghost use Rattle.st_client.specs.Machines.{Advances};
 
 use st_association::Turn;
 use std::alloc::AllocError;
@@ -20,6 +19,5 @@ pub trait Rule {
     fn apply(&self, turn: &mut Turn) -> Result<(), AllocError>
         requires { is_ready self.now turn.old.config turn.old.here ≡ true }
         ensures run { OnOk result (turn.new ≡ run self.now turn.old) }
-        ensures grows { OnOk result (Grows turn.old turn.new) }
-        ensures same { OnOk result (Stays turn.old turn.new) };
+        ensures advances { OnOk result (Advances turn.old turn.new) };
 }
