@@ -5,3 +5,7 @@ pub mod Events
 pub mod Others
 pub mod Reading
 pub mod Runs
+pub mod Hardened
+pub mod Replied
+pub mod Behind
+pub mod Owing

@@ -7,15 +7,7 @@ use Rattle.st_base.specs.declared.config.Config as base
 use Rattle.st_base.specs.declared.ids.NodeId.TheVariants as nodes
 use Rattle.st_messages.specs.declared.event.Event.{Event}
 use Rattle.st_rules.specs.declared.observation.WorldRefusal.{WorldRefusal}
-use Rattle.st_base.specs.declared.ids.ClientId.{ClientId}
-use Rattle.st_base.specs.declared.ids.Life.{Life}
-use Rattle.st_base.specs.declared.ids.ServerId.{ServerId}
-use Rattle.st_messages.specs.declared.ask.Ask.{Ask}
-use Rattle.st_rules.specs.declared.client.ClientInput.{ClientInput}
-use Rattle.st_rules.specs.declared.client.ClientInput.TheVariants as inputs
-use Rattle.st_rules.specs.declared.log.LogEntry.{LogEntry}
 use Rattle.st_rules.specs.Client as cl
-use Rattle.st_rules.specs.ClientState.{Association, client_turn}
 use Rattle.st_rules.specs.ClientPages.{empty_store}
 use Rattle.st_rules.specs.Events.{Scene, counted, world_step}
 use Rattle.st_rules.specs.Extents.{numbers}
@@ -24,7 +16,7 @@ use Rattle.st_rules.specs.Keys.{client}
 use Rattle.st_rules.specs.Lines.{AtEach}
 use Rattle.st_rules.specs.Safety as safety
 use Rattle.st_rules.specs.Safety.{IsHead, IsLast, ReadsReturnLastWrites, Step, Throughout, is_event, step, steps}
-use Rattle.st_rules.specs.World.{World, ClientSite, clock_of, fresh_site, fresh_world, life_with, node_at_start}
+use Rattle.st_rules.specs.World.{World, ClientSite, clock_of, fresh_site, fresh_world, node_at_start}
 use Rattle.st_assoc.specs.Assoc.{Config}
 use Rattle.st_lemmas.specs.Lists.{Has}
 use Rattle.st_lemmas.proofs.Steps.{step_happens}
@@ -37,13 +29,14 @@ use Rattle.st_laws.specs.World.{AllStand, There}
 use Rattle.st_laws.proofs.Beginning.{begun}
 use Rattle.st_laws.proofs.Everywhere.{numbered_is, stays}
 use Rattle.st_laws.proofs.Runs.{full}
-use Rattle.st_laws_copies.specs.Law.{All_owed, All_stand, Apart, Differs}
-use Rattle.st_laws_copies.specs.World.{Owed_of, Taking, now_at, taken, turn_of}
+use Rattle.st_laws_copies.specs.Law.{All_stand, Apart, Differs}
+use Rattle.st_laws_copies.specs.World.{Taking, taken}
 use Rattle.st_laws_copies.proofs.Caches.{nothing_ok}
 use Rattle.st_laws_copies.proofs.Rests.{clocks_law}
-use Rattle.st_laws_reads.specs.Runs.{Input_owed, Is_owed, Runs_read, Taken_owed}
+use Rattle.st_laws_reads.specs.Runs.{Is_owed, Runs_read, Taken_owed}
 use Rattle.st_laws_reads.specs.World.{All_there, CopiesHold, Site_holds, Taking_owed}
 use Rattle.st_laws_reads.proofs.Others as others
+use Rattle.st_laws_reads.proofs.Owing.{input_owed}
 use Rattle.st_laws_reads.proofs.Reading.{dull_reads, known, more_known, numbered_there, others_dull, reads_taken}
 use Rattle.st_laws_reads.proofs.Takings as takings
 use Rattle.st_laws_reads.proofs.Takings.{Takes, takes_event}
@@ -54,27 +47,6 @@ record Stood (k : Config) (count : ℕ) (past : List Step) (t : Traced) : Type 0
   places : PlacesHold t.world
   stand : Stand past t
   copies : CopiesHold (known past) t.world
-
--- A tick and an ask owe nothing.
-tick_owed : (c : ClientId) (lives : ServerId → Life) (es : List LogEntry) (xs : List Association) → All_owed c lives es inputs.Tick xs
-tick_owed c lives es [] = record {}
-tick_owed c lives es (a ∷ xs) = record { one = record {}; rest = tick_owed c lives es xs }
-
-app_owed : (c : ClientId) (lives : ServerId → Life) (es : List LogEntry) (op : ℕ) (ask : Ask) (xs : List Association) → All_owed c lives es (inputs.App op ask) xs
-app_owed c lives es op ask [] = record {}
-app_owed c lives es op ask (a ∷ xs) = record { one = record {}; rest = app_owed c lives es op ask xs }
-
-input_owed : (x : Taking) → Input_owed x x.input → Owed_of x
-input_owed x o = go x.input refl o
-  where
-    left : List Association
-    left = (cl.losses (client_turn x.site.node.state []) (now_at x)).state.associations
-
-    go : (i : ClientInput) → x.input ≡ i → Input_owed x i → Owed_of x
-    go inputs.Tick e o = subst (λ i. All_owed x.client (life_with (turn_of x).state) x.world.log i left) (sym e) (tick_owed x.client (life_with (turn_of x).state) x.world.log left)
-    go (inputs.App op ask) e o = subst (λ i. All_owed x.client (life_with (turn_of x).state) x.world.log i left) (sym e) (app_owed x.client (life_with (turn_of x).state) x.world.log op ask left)
-    go (inputs.Control m) e o = o
-    go (inputs.Done number result) e o = o
 
 -- What a step leaves.
 record Leaves_all (k : Config) (count : ℕ) (past : List Step) (t : Traced) (e : Event) (sc : Scene) : Type 0 where
@@ -104,7 +76,7 @@ module _ (k : Config) (count : ℕ) (past : List Step) (t : Traced) (e : Event) 
       there = subst (λ (z : Scene). Takes (counted t.world) z x) (sym (step_happens t.world e sc is).1) (takes_event (counted t.world) e x q)
 
       owed : Taking_owed (known (past ++ st ∷ [])) x
-      owed = record { numbered = numbered_there past st (counted t.world) e x refl (λ c site f. let z = s.stand.asks c site f in record { count = z.count; keys = z.keys }) q; owed = input_owed x o }
+      owed = record { numbered = numbered_there past st (counted t.world) e x refl (λ c site f. let z = s.stand.asks c site f in record { count = z.count; keys = z.keys }) q; owed = input_owed k count past t e sc is s.all s.places s.stand x q o }
 
 run : (k : Config) (count : ℕ) (es : List Event) → list_all (is_event count) es ≡ true → (past : List Step) (t : Traced) → Stood k count past t → Throughout Places_after past (steps es t) → Throughout Is_owed past (steps es t) → Throughout ReadsReturnLastWrites past (steps es t)
 unfolding steps safety.steps_on Throughout

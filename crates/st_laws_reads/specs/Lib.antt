@@ -1,4 +1,5 @@
 pub mod Law
 pub mod World
 pub mod Events
+pub mod Left
 pub mod Runs

@@ -9,14 +9,15 @@ use Rattle.st_rules.specs.Events.{counted}
 use Rattle.st_rules.specs.History.{traced}
 use Rattle.st_rules.specs.Safety.{IsHead, Promise, ReadsReturnLastWrites, Throughout, is_event, steps}
 use Rattle.st_rules.specs.World.{World, fresh_world}
-use Rattle.st_laws_copies.specs.World.{Owed_of, Taking, taken}
+use Rattle.st_laws_copies.specs.World.{Taking, taken}
 use Rattle.st_laws_reads.specs.Events.{Others_owed}
+use Rattle.st_laws_reads.specs.Left.{Left_of}
 
 -- of a client that hears a message or the end of a command; a tick and an ask owe nothing
 abbrev pub Input_owed : Taking → ClientInput → Type 0
 Input_owed x inputs.Tick = Unit {0}
 Input_owed x (inputs.App op ask) = Unit {0}
-Input_owed x input = Owed_of x
+Input_owed x input = Left_of x
 
 -- what is owed where a client takes an input, and at each other event
 abbrev pub Taken_owed : World → Event → Option Taking → Type 0

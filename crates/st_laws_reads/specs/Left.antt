@@ -1,0 +1,56 @@
+-- What other laws still owe of a client that hears a message or the end of a command, at each server behind its losses.
+use Rattle.std.specs.Prelude.{◌≡◌, ℕ, true, List, [], ◌∷◌, Option, Some}
+use Rattle.st_base.specs.Page.{filled}
+use Rattle.st_base.specs.declared.disk.Tag.{Tag}
+use Rattle.st_base.specs.declared.ids.GrantNo.{GrantNo}
+use Rattle.st_base.specs.declared.ids.PageNo.{PageNo}
+use Rattle.st_messages.specs.declared.message.Body.{Body}
+use Rattle.st_messages.specs.declared.message.Body.TheVariants as bodies
+use Rattle.st_messages.specs.declared.message.Header.{Header}
+use Rattle.st_rules.specs.declared.client.ClientInput.{ClientInput}
+use Rattle.st_rules.specs.declared.client.ClientInput.TheVariants as inputs
+use Rattle.st_rules.specs.declared.client.IoKind.TheVariants as io
+use Rattle.st_rules.specs.declared.client.PageCommand.{PageCommand}
+use Rattle.st_rules.specs.declared.client.Request.{Request}
+use Rattle.st_rules.specs.declared.log.LogEntry.{LogEntry}
+use Rattle.st_rules.specs.Client.{losses}
+use Rattle.st_rules.specs.ClientPages.{command_of, found}
+use Rattle.st_rules.specs.ClientReplies.{is_counting, is_current}
+use Rattle.st_rules.specs.ClientState.{Association, ClientSession, asks_name, client_turn}
+use Rattle.st_rules.specs.FlatLog.{content}
+use Rattle.st_rules.specs.Keys.{server_node}
+use Rattle.st_laws_copies.specs.Copies.{Nothing, file_at}
+use Rattle.st_laws_copies.specs.World.{Taking, now_at}
+
+-- Of a message in a session. A map that found no block finds a page whose bytes are zeros. Where a remove was asked, nothing of its file
+-- is at hand.
+pub record Reply_left (es : List LogEntry) (a : Association) (s : ClientSession) (h : Header) (body : Body) : Type 0 where
+  pub zeros : (q : Request) (ino : ℕ) (g : GrantNo) (p : PageNo) → s.requests.asked ≡ Some q → q.body ≡ bodies.Map ino g p →
+      body ≡ bodies.Extents ino [] → is_counting h.number body q ≡ true → is_current s.locks q.body ≡ true →
+      filled 0 ≡ content es (file_at a.server ino) p
+  pub removed : (q : Request) (ino : ℕ) (p : PageNo) → s.requests.asked ≡ Some q → asks_name q.body ≡ true → s.cutting ≡ Some ino → Nothing a.store ino p
+
+-- the same, of a message that a client hears at one server: from there, in this life and in the session's epoch
+abbrev pub Message_left : List LogEntry → Association → Header → Body → Type 0
+Message_left es a h body = (s : ClientSession) → a.session ≡ Some s → h.from ≡ server_node a.server → h.life ≡ a.life.0 → h.epoch ≡ s.epoch.0 →
+    Reply_left es a s h body
+
+-- Of the end of a command: a read found the bytes of the page.
+pub record End_left (es : List LogEntry) (a : Association) (number : ℕ) (result : Option (Option (Tag × List ℕ))) : Type 0 where
+  pub read : (x : PageCommand) (block : Tag × List ℕ) → command_of a.store.commands number ≡ Some x → x.kind ≡ io.Read → result ≡ Some (Some block) →
+      found a.store.extents (file_at a.server x.ino) x.page block.0 block.1 ≡ content es (file_at a.server x.ino) x.page
+
+-- what is left at one server, by the input
+abbrev pub Left_at : List LogEntry → ClientInput → Association → Type 0
+Left_at es (inputs.Control m) a = Message_left es a m.header m.body
+Left_at es (inputs.Done number result) a = End_left es a number result
+Left_at es input a = Unit {0}
+
+-- at each server
+abbrev pub All_left : List LogEntry → ClientInput → List Association → Type 0
+All_left es input [] = Unit {0}
+All_left es input (a ∷ rest) = record { one : Left_at es input a; rest : All_left es input rest }
+
+-- What is left of what is taken: of the client behind its losses.
+abbrev pub Left_of : Taking → Type 0
+Left_of x = All_left x.world.log x.input (losses (client_turn x.site.node.state []) (now_at x)).state.associations
