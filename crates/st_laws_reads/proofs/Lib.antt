@@ -9,3 +9,5 @@ pub mod Hardened
 pub mod Replied
 pub mod Behind
 pub mod Owing
+pub mod Clearing
+pub mod Cleared
