@@ -1,36 +1,44 @@
 -- What is owed where a client takes an input, from what is left of it.
-use Rattle.std.proofs.Common.{◌≡◌, ℕ, ◌-◌, Bool, true, false, List, [], ◌∷◌, Option, Some, None, Ok, refl, sym, ap, ◌∙◌, subst, inl, inr, if◌then◌else◌}
-use Rattle.std.specs.Prelude.{length, nat_le}
+use Rattle.std.proofs.Common.{◌≡◌, ℕ, ◌-◌, Bool, true, false, not, ◌||◌, List, [], ◌∷◌, Option, Some, None, Ok, refl, sym, ap, ◌∙◌, subst, inl, inr, arith, if◌then◌else◌}
+use Rattle.std.specs.Prelude.{find, length, nat_le}
+use Rattle.std.specs.List.{list_any}
 use Rattle.st_base.specs.declared.ids.ClientId.{ClientId}
 use Rattle.st_base.specs.declared.ids.Life.{Life}
 use Rattle.st_base.specs.declared.ids.NodeId.{NodeId}
 use Rattle.st_base.specs.declared.ids.NodeId.TheVariants as nodes
+use Rattle.st_base.specs.declared.ids.PageNo.{PageNo}
 use Rattle.st_base.specs.declared.ids.ServerId.{ServerId}
 use Rattle.st_messages.specs.declared.ask.Ask.{Ask}
 use Rattle.st_messages.specs.declared.event.Event.{Event}
 use Rattle.st_messages.specs.declared.event.Event.TheVariants as events
+use Rattle.st_messages.specs.declared.message.Body.{Body}
+use Rattle.st_messages.specs.declared.message.Body.TheVariants as bodies
 use Rattle.st_rules.specs.declared.client.ClientInput.{ClientInput}
 use Rattle.st_rules.specs.declared.client.ClientInput.TheVariants as inputs
+use Rattle.st_rules.specs.declared.client.Request.{Request}
 use Rattle.st_rules.specs.declared.disks.DiskCommand.{DiskCommand}
 use Rattle.st_rules.specs.declared.log.LogEntry.{LogEntry}
 use Rattle.st_rules.specs.declared.world.IssuedCommand.{IssuedCommand}
 use Rattle.st_rules.specs.declared.world.SentMessage.{SentMessage}
 use Rattle.st_rules.specs.Admissible as adm
 use Rattle.st_rules.specs.Client as cl
-use Rattle.st_rules.specs.ClientState.{Association, ClientSession, client_turn}
+use Rattle.st_rules.specs.ClientPages as pages
+use Rattle.st_rules.specs.ClientState.{Association, ClientSession, asks_name, client_turn}
 use Rattle.st_rules.specs.Disks as disks
 use Rattle.st_rules.specs.Events as ev
 use Rattle.st_rules.specs.Events.{Scene, counted, world_step}
 use Rattle.st_rules.specs.History.{Traced}
-use Rattle.st_rules.specs.Keys.{client}
+use Rattle.st_rules.specs.Keys.{client, page_no}
 use Rattle.st_rules.specs.Safety.{Step, step}
 use Rattle.st_rules.specs.World as world
 use Rattle.st_rules.specs.World.{World, ClientSite, clock_of, issued_of, life_with, message_of, node_at, receiver_of, site_of}
 use Rattle.st_assoc.specs.Assoc.{Config}
 use Rattle.st_lemmas.specs.Lists.{Has}
+use Rattle.st_lemmas.proofs.Contents.{one_place}
 use Rattle.st_lemmas.proofs.Lookups.{some_is}
 use Rattle.st_lemmas.proofs.Numbers.{numbered_has}
 use Rattle.st_lemmas.proofs.Steps.{step_happens}
+use Rattle.st_lemmas.proofs.Tables.{and_true}
 use Rattle.st_laws_asks.specs.Law.{PlacesHold}
 use Rattle.st_laws_pages.specs.Fates.{Before_end}
 use Rattle.st_laws_pages.specs.Owed.{FatesHold}
@@ -41,9 +49,11 @@ use Rattle.st_laws_causes.proofs.Events.{counted_both, lacks_none, no_report, ow
 use Rattle.st_laws_causes.proofs.Law.{Stand}
 use Rattle.st_laws_causes.proofs.Placed.{Places_at, places_at}
 use Rattle.st_laws.specs.World.{AllStand}
+use Rattle.st_laws_copies.specs.Copies.{Nothing}
 use Rattle.st_laws_copies.specs.Law.{All_owed}
 use Rattle.st_laws_copies.specs.Owed.{Owed_at}
 use Rattle.st_laws_copies.specs.World.{Owed_of, Taking, asking, hearing, hearing_of, now_at, taken, taking, told_at, told_of, turn_of}
+use Rattle.st_laws_reads.specs.Clear.{AllCleared, Clear, Cleared, cuts_from}
 use Rattle.st_laws_reads.specs.Law.{Running}
 use Rattle.st_laws_reads.specs.Left.{All_left, Left_at}
 use Rattle.st_laws_reads.specs.Runs.{Input_owed}
@@ -58,6 +68,39 @@ left_of x = (cl.losses (client_turn x.site.node.state []) (now_at x)).state.asso
 owed_all : (c : ClientId) (lives : ServerId → Life) (es : List LogEntry) (input : ClientInput) (xs : List Association) → ((a : Association) → Has a xs → Left_at es input a → Owed_at c lives es input a) → All_left es input xs → All_owed c lives es input xs
 owed_all c lives es input [] f h = record {}
 owed_all c lives es input (a ∷ xs) f h = record { one = f a (inl refl) h.one; rest = owed_all c lives es input xs (λ b i. f b (inr i)) h.rest }
+
+-- where a remove is asked, nothing of its file is at hand
+cleared : (a : Association) → Cleared a → (s : ClientSession) (q : Request) (ino : ℕ) (p : PageNo) → a.session ≡ Some s → s.requests.asked ≡ Some q → asks_name q.body ≡ true → s.cutting ≡ Some ino → Nothing a.store ino p
+cleared a h s q ino p e asked name cutting =
+    record {
+      dirty = none_found (pages.is_dirty_of ino p) a.store.pages.dirty (λ d i f. z.dirty d i (one_place d.ino d.page ino p f).0);
+      clean = none_found (pages.is_clean_of ino p) a.store.pages.clean (λ y i f. z.clean y i (one_place y.ino y.page ino p f).0 (omega arith));
+      known = none_found (pages.is_known_of ino p) a.store.extents (λ y i f. z.known y i (one_place y.ino y.page ino p f).0 (omega arith));
+      reading = none_any (pages.is_read_of ino p) a.store.commands (λ y i f. z.commands y i (one_place y.ino y.page ino p (and_true (not (pages.is_write y.kind)) _ f).1).0);
+    }
+  where
+    from : (b : Body) → asks_name b ≡ true → cuts_from b ≡ Some (page_no 0)
+    from (bodies.Name op) n = refl
+    from b n = cc n
+
+    z : Clear a.store ino (page_no 0)
+    z = h ino (page_no 0) (record { session = s; is = e; request = q; asked = asked; from = from q.body name; cutting = cutting })
+
+    none_found : {A : Type 0} (f : A → Bool) (xs : List A) → ((x : A) → Has x xs → f x ≡ true → ⊥) → find f xs ≡ None
+    none_found f [] n = refl
+    none_found {A} f (x ∷ xs) n = go (f x) refl (none_found f xs (λ y i. n y (inr i)))
+      where
+        go : (b : Bool) → f x ≡ b → find f xs ≡ None → (if b then Some x else find f xs) ≡ None
+        go true q r = absurd (n x (inl refl) q)
+        go false q r = r
+
+    none_any : {A : Type 0} (f : A → Bool) (xs : List A) → ((x : A) → Has x xs → f x ≡ true → ⊥) → list_any f xs ≡ false
+    none_any f [] n = refl
+    none_any {A} f (x ∷ xs) n = go (f x) refl (none_any f xs (λ y i. n y (inr i)))
+      where
+        go : (b : Bool) → f x ≡ b → list_any f xs ≡ false → (b || list_any f xs) ≡ false
+        go true q r = absurd (n x (inl refl) q)
+        go false q r = r
 
 -- what is left suffices
 abbrev Suffices : Taking → Type 0
@@ -76,7 +119,7 @@ client_number n c e = go (nat_le n 16) e
     go true q = ap number q
     go false q = cc q
 
-module _ (k : Config) (count : ℕ) (past : List Step) (t : Traced) (e : Event) (sc : Scene) (is : world_step t.world e ≡ Ok sc) (all : AllStand k count t.world) (places : PlacesHold t.world) (st : Stand past t) where
+module _ (k : Config) (count : ℕ) (past : List Step) (t : Traced) (e : Event) (sc : Scene) (is : world_step t.world e ≡ Ok sc) (all : AllStand k count t.world) (places : PlacesHold t.world) (st : Stand past t) (clear : AllCleared t.world) where
   abbrev w : World
   w = counted t.world
 
@@ -91,7 +134,7 @@ module _ (k : Config) (count : ℕ) (past : List Step) (t : Traced) (e : Event) 
           modes = reply_modes k count t.world all c.0 site run m sent number a b.was s session from life epoch;
           up = reply_up k count t.world all c.0 site run m sent number a b.was s session from life epoch b.lasts;
           zeros = (h s session from life epoch).zeros;
-          removed = (h s session from life epoch).removed;
+          removed = λ q ino p asked name cutting. cleared a (clear c site there a b.was) s q ino p session asked name cutting;
         }
       where
         sent : Has m t.world.net.messages

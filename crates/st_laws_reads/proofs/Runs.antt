@@ -36,6 +36,8 @@ use Rattle.st_laws_copies.proofs.Rests.{clocks_law}
 use Rattle.st_laws_reads.specs.Runs.{Is_owed, Runs_read, Taken_owed}
 use Rattle.st_laws_reads.specs.World.{All_there, CopiesHold, Site_holds, Taking_owed}
 use Rattle.st_laws_reads.proofs.Others as others
+use Rattle.st_laws_reads.specs.Clear.{AllCleared}
+use Rattle.st_laws_reads.proofs.Cleared.{clear_step, fresh_clear}
 use Rattle.st_laws_reads.proofs.Owing.{input_owed}
 use Rattle.st_laws_reads.proofs.Reading.{dull_reads, known, more_known, numbered_there, others_dull, reads_taken}
 use Rattle.st_laws_reads.proofs.Takings as takings
@@ -47,6 +49,7 @@ record Stood (k : Config) (count : ℕ) (past : List Step) (t : Traced) : Type 0
   places : PlacesHold t.world
   stand : Stand past t
   copies : CopiesHold (known past) t.world
+  clear : AllCleared t.world
 
 -- What a step leaves.
 record Leaves_all (k : Config) (count : ℕ) (past : List Step) (t : Traced) (e : Event) (sc : Scene) : Type 0 where
@@ -76,7 +79,7 @@ module _ (k : Config) (count : ℕ) (past : List Step) (t : Traced) (e : Event) 
       there = subst (λ (z : Scene). Takes (counted t.world) z x) (sym (step_happens t.world e sc is).1) (takes_event (counted t.world) e x q)
 
       owed : Taking_owed (known (past ++ st ∷ [])) x
-      owed = record { numbered = numbered_there past st (counted t.world) e x refl (λ c site f. let z = s.stand.asks c site f in record { count = z.count; keys = z.keys }) q; owed = input_owed k count past t e sc is s.all s.places s.stand x q o }
+      owed = record { numbered = numbered_there past st (counted t.world) e x refl (λ c site f. let z = s.stand.asks c site f in record { count = z.count; keys = z.keys }) q; owed = input_owed k count past t e sc is s.all s.places s.stand s.clear x q o }
 
 run : (k : Config) (count : ℕ) (es : List Event) → list_all (is_event count) es ≡ true → (past : List Step) (t : Traced) → Stood k count past t → Throughout Places_after past (steps es t) → Throughout Is_owed past (steps es t) → Throughout ReadsReturnLastWrites past (steps es t)
 unfolding steps safety.steps_on Throughout
@@ -90,7 +93,7 @@ run k count (e ∷ es) all past t s o d = go (world_step t.world e) refl o d (λ
     go (Ok sc) q o d f =
         let after = stays k count t.world e sc s.all (full count t.world e s.all.nodes (and_true (is_event count e) (list_all (is_event count) es) all).0) q in
         let z = goes k count past t e sc q s after (taken (counted t.world) e) refl d.0 in
-        (z.reads, f (past ++ step t e sc ∷ []) (traced_after e t sc) (record { all = after; places = o.0; stand = (one_step past t e sc q s.places s.stand).stand; copies = z.copies }) o.1 d.1)
+        (z.reads, f (past ++ step t e sc ∷ []) (traced_after e t sc) (record { all = after; places = o.0; stand = (one_step past t e sc q s.places s.stand).stand; copies = z.copies; clear = clear_step t.world e sc q s.clear }) o.1 d.1)
 
 -- At the start nothing is at hand.
 differs : (n a c : ℕ) → n < a → Differs (record { 0 = n }) (map cl.fresh_association (numbers a c))
@@ -159,4 +162,5 @@ law k clients servers disks blocks form es head events owed =
       places = fresh_places k clients servers disks blocks form;
       stand = fresh_stand k clients servers disks blocks form;
       copies = fresh_copies k clients servers disks blocks form;
+      clear = fresh_clear k clients servers disks blocks form;
     }) (places_law k clients servers disks blocks form es head) owed

@@ -16,19 +16,17 @@ use Rattle.st_rules.specs.declared.log.LogEntry.{LogEntry}
 use Rattle.st_rules.specs.Client.{losses}
 use Rattle.st_rules.specs.ClientPages.{command_of, found}
 use Rattle.st_rules.specs.ClientReplies.{is_counting, is_current}
-use Rattle.st_rules.specs.ClientState.{Association, ClientSession, asks_name, client_turn}
+use Rattle.st_rules.specs.ClientState.{Association, ClientSession, client_turn}
 use Rattle.st_rules.specs.FlatLog.{content}
 use Rattle.st_rules.specs.Keys.{server_node}
-use Rattle.st_laws_copies.specs.Copies.{Nothing, file_at}
+use Rattle.st_laws_copies.specs.Copies.{file_at}
 use Rattle.st_laws_copies.specs.World.{Taking, now_at}
 
--- Of a message in a session. A map that found no block finds a page whose bytes are zeros. Where a remove was asked, nothing of its file
--- is at hand.
+-- Of a message in a session: a map that found no block finds a page whose bytes are zeros.
 pub record Reply_left (es : List LogEntry) (a : Association) (s : ClientSession) (h : Header) (body : Body) : Type 0 where
   pub zeros : (q : Request) (ino : ℕ) (g : GrantNo) (p : PageNo) → s.requests.asked ≡ Some q → q.body ≡ bodies.Map ino g p →
       body ≡ bodies.Extents ino [] → is_counting h.number body q ≡ true → is_current s.locks q.body ≡ true →
       filled 0 ≡ content es (file_at a.server ino) p
-  pub removed : (q : Request) (ino : ℕ) (p : PageNo) → s.requests.asked ≡ Some q → asks_name q.body ≡ true → s.cutting ≡ Some ino → Nothing a.store ino p
 
 -- the same, of a message that a client hears at one server: from there, in this life and in the session's epoch
 abbrev pub Message_left : List LogEntry → Association → Header → Body → Type 0
