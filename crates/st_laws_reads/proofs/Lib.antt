@@ -11,3 +11,5 @@ pub mod Behind
 pub mod Owing
 pub mod Clearing
 pub mod Cleared
+pub mod Clear_pages
+pub mod Cutting

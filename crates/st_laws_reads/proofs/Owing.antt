@@ -1,7 +1,6 @@
 -- What is owed where a client takes an input, from what is left of it.
-use Rattle.std.proofs.Common.{◌≡◌, ℕ, ◌-◌, Bool, true, false, not, ◌||◌, List, [], ◌∷◌, Option, Some, None, Ok, refl, sym, ap, ◌∙◌, subst, inl, inr, arith, if◌then◌else◌}
-use Rattle.std.specs.Prelude.{find, length, nat_le}
-use Rattle.std.specs.List.{list_any}
+use Rattle.std.proofs.Common.{◌≡◌, ℕ, ◌-◌, Bool, true, false, List, [], ◌∷◌, Option, Some, None, Ok, refl, sym, ap, ◌∙◌, subst, inl, inr, arith, if◌then◌else◌}
+use Rattle.std.specs.Prelude.{length, nat_le}
 use Rattle.st_base.specs.declared.ids.ClientId.{ClientId}
 use Rattle.st_base.specs.declared.ids.Life.{Life}
 use Rattle.st_base.specs.declared.ids.NodeId.{NodeId}
@@ -22,7 +21,6 @@ use Rattle.st_rules.specs.declared.world.IssuedCommand.{IssuedCommand}
 use Rattle.st_rules.specs.declared.world.SentMessage.{SentMessage}
 use Rattle.st_rules.specs.Admissible as adm
 use Rattle.st_rules.specs.Client as cl
-use Rattle.st_rules.specs.ClientPages as pages
 use Rattle.st_rules.specs.ClientState.{Association, ClientSession, asks_name, client_turn}
 use Rattle.st_rules.specs.Disks as disks
 use Rattle.st_rules.specs.Events as ev
@@ -34,11 +32,9 @@ use Rattle.st_rules.specs.World as world
 use Rattle.st_rules.specs.World.{World, ClientSite, clock_of, issued_of, life_with, message_of, node_at, receiver_of, site_of}
 use Rattle.st_assoc.specs.Assoc.{Config}
 use Rattle.st_lemmas.specs.Lists.{Has}
-use Rattle.st_lemmas.proofs.Contents.{one_place}
 use Rattle.st_lemmas.proofs.Lookups.{some_is}
 use Rattle.st_lemmas.proofs.Numbers.{numbered_has}
 use Rattle.st_lemmas.proofs.Steps.{step_happens}
-use Rattle.st_lemmas.proofs.Tables.{and_true}
 use Rattle.st_laws_asks.specs.Law.{PlacesHold}
 use Rattle.st_laws_pages.specs.Fates.{Before_end}
 use Rattle.st_laws_pages.specs.Owed.{FatesHold}
@@ -57,6 +53,7 @@ use Rattle.st_laws_reads.specs.Clear.{AllCleared, Clear, Cleared, cuts_from}
 use Rattle.st_laws_reads.specs.Law.{Running}
 use Rattle.st_laws_reads.specs.Left.{All_left, Left_at}
 use Rattle.st_laws_reads.specs.Runs.{Input_owed}
+use Rattle.st_laws_reads.proofs.Clear_pages.{nothing_of}
 use Rattle.st_laws_reads.proofs.Behind.{Behind, behind}
 use Rattle.st_laws_reads.proofs.Hardened.{told_hard}
 use Rattle.st_laws_reads.proofs.Replied.{reply_modes, reply_up}
@@ -71,13 +68,7 @@ owed_all c lives es input (a ∷ xs) f h = record { one = f a (inl refl) h.one; 
 
 -- where a remove is asked, nothing of its file is at hand
 cleared : (a : Association) → Cleared a → (s : ClientSession) (q : Request) (ino : ℕ) (p : PageNo) → a.session ≡ Some s → s.requests.asked ≡ Some q → asks_name q.body ≡ true → s.cutting ≡ Some ino → Nothing a.store ino p
-cleared a h s q ino p e asked name cutting =
-    record {
-      dirty = none_found (pages.is_dirty_of ino p) a.store.pages.dirty (λ d i f. z.dirty d i (one_place d.ino d.page ino p f).0);
-      clean = none_found (pages.is_clean_of ino p) a.store.pages.clean (λ y i f. z.clean y i (one_place y.ino y.page ino p f).0 (omega arith));
-      known = none_found (pages.is_known_of ino p) a.store.extents (λ y i f. z.known y i (one_place y.ino y.page ino p f).0 (omega arith));
-      reading = none_any (pages.is_read_of ino p) a.store.commands (λ y i f. z.commands y i (one_place y.ino y.page ino p (and_true (not (pages.is_write y.kind)) _ f).1).0);
-    }
+cleared a h s q ino p e asked name cutting = nothing_of a.store ino (page_no 0) z p (omega arith)
   where
     from : (b : Body) → asks_name b ≡ true → cuts_from b ≡ Some (page_no 0)
     from (bodies.Name op) n = refl
@@ -85,22 +76,6 @@ cleared a h s q ino p e asked name cutting =
 
     z : Clear a.store ino (page_no 0)
     z = h ino (page_no 0) (record { session = s; is = e; request = q; asked = asked; from = from q.body name; cutting = cutting })
-
-    none_found : {A : Type 0} (f : A → Bool) (xs : List A) → ((x : A) → Has x xs → f x ≡ true → ⊥) → find f xs ≡ None
-    none_found f [] n = refl
-    none_found {A} f (x ∷ xs) n = go (f x) refl (none_found f xs (λ y i. n y (inr i)))
-      where
-        go : (b : Bool) → f x ≡ b → find f xs ≡ None → (if b then Some x else find f xs) ≡ None
-        go true q r = absurd (n x (inl refl) q)
-        go false q r = r
-
-    none_any : {A : Type 0} (f : A → Bool) (xs : List A) → ((x : A) → Has x xs → f x ≡ true → ⊥) → list_any f xs ≡ false
-    none_any f [] n = refl
-    none_any {A} f (x ∷ xs) n = go (f x) refl (none_any f xs (λ y i. n y (inr i)))
-      where
-        go : (b : Bool) → f x ≡ b → list_any f xs ≡ false → (b || list_any f xs) ≡ false
-        go true q r = absurd (n x (inl refl) q)
-        go false q r = r
 
 -- what is left suffices
 abbrev Suffices : Taking → Type 0

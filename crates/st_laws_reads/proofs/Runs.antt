@@ -38,6 +38,13 @@ use Rattle.st_laws_reads.specs.World.{All_there, CopiesHold, Site_holds, Taking_
 use Rattle.st_laws_reads.proofs.Others as others
 use Rattle.st_laws_reads.specs.Clear.{AllCleared}
 use Rattle.st_laws_reads.proofs.Cleared.{clear_step, fresh_clear}
+use Rattle.st_laws_pages.specs.Locked.{WaitsHold}
+use Rattle.st_laws_pages.proofs.CutLaw.{law as cut_law}
+use Rattle.st_laws_pages.proofs.Whole.{fresh_waits}
+use Rattle.st_laws.proofs.Waiting.{waits_owed}
+use Rattle.st_laws_reads.specs.Events.{Others_owed}
+use Rattle.st_laws_reads.specs.Left.{Cuts_asked}
+use Rattle.st_laws_reads.proofs.Cutting.{others_owed}
 use Rattle.st_laws_reads.proofs.Owing.{input_owed}
 use Rattle.st_laws_reads.proofs.Reading.{dull_reads, known, more_known, numbered_there, others_dull, reads_taken}
 use Rattle.st_laws_reads.proofs.Takings as takings
@@ -50,13 +57,14 @@ record Stood (k : Config) (count : ℕ) (past : List Step) (t : Traced) : Type 0
   stand : Stand past t
   copies : CopiesHold (known past) t.world
   clear : AllCleared t.world
+  waits : WaitsHold t.world
 
 -- What a step leaves.
 record Leaves_all (k : Config) (count : ℕ) (past : List Step) (t : Traced) (e : Event) (sc : Scene) : Type 0 where
   reads : ReadsReturnLastWrites past (step t e sc)
   copies : CopiesHold (known (past ++ step t e sc ∷ [])) sc.world
 
-module _ (k : Config) (count : ℕ) (past : List Step) (t : Traced) (e : Event) (sc : Scene) (is : world_step t.world e ≡ Ok sc) (s : Stood k count past t) (after : AllStand k count sc.world) where
+module _ (k : Config) (count : ℕ) (past : List Step) (t : Traced) (e : Event) (sc : Scene) (is : world_step t.world e ≡ Ok sc) (s : Stood k count past t) (after : AllStand k count sc.world) (cuts : Cuts_asked (step t e sc)) where
   abbrev st : Step
   st = step t e sc
 
@@ -67,8 +75,13 @@ module _ (k : Config) (count : ℕ) (past : List Step) (t : Traced) (e : Event) 
   goes None q o =
       record {
         reads = subst (λ os. AtEach (IsLast past st) sc.world t.world.log os) (ap (λ (z : Scene). z.seen) (sym (step_happens t.world e sc is).1)) (dull_reads past st sc.world t.world.log _ (others_dull (counted t.world) e q));
-        copies = others.law (known (past ++ st ∷ [])) k count t.world e sc s.all is q o more;
+        copies = others.law (known (past ++ st ∷ [])) k count t.world e sc s.all is q free more;
       }
+    where
+      free : Others_owed (counted t.world) e
+      free =
+          let p = step_happens t.world e sc is in
+          others_owed k count (counted t.world) sc after (clear_step t.world e sc is s.clear) cuts s.waits e (waits_owed k count t.world s.all e p.0) p.1 o
   goes (Some x) q o =
       record {
         reads = reads_taken k count past t e sc x s.all after is q there owed more;
@@ -92,8 +105,8 @@ run k count (e ∷ es) all past t s o d = go (world_step t.world e) refl o d (λ
     go (Err r) q o d f = tt
     go (Ok sc) q o d f =
         let after = stays k count t.world e sc s.all (full count t.world e s.all.nodes (and_true (is_event count e) (list_all (is_event count) es) all).0) q in
-        let z = goes k count past t e sc q s after (taken (counted t.world) e) refl d.0 in
-        (z.reads, f (past ++ step t e sc ∷ []) (traced_after e t sc) (record { all = after; places = o.0; stand = (one_step past t e sc q s.places s.stand).stand; copies = z.copies; clear = clear_step t.world e sc q s.clear }) o.1 d.1)
+        let z = goes k count past t e sc q s after d.0.cuts (taken (counted t.world) e) refl d.0.taken in
+        (z.reads, f (past ++ step t e sc ∷ []) (traced_after e t sc) (record { all = after; places = o.0; stand = (one_step past t e sc q s.places s.stand).stand; copies = z.copies; clear = clear_step t.world e sc q s.clear; waits = (cut_law t.world e sc q (waits_owed k count t.world s.all e (step_happens t.world e sc q).0) s.waits).holds }) o.1 d.1)
 
 -- At the start nothing is at hand.
 differs : (n a c : ℕ) → n < a → Differs (record { 0 = n }) (map cl.fresh_association (numbers a c))
@@ -163,4 +176,5 @@ law k clients servers disks blocks form es head events owed =
       stand = fresh_stand k clients servers disks blocks form;
       copies = fresh_copies k clients servers disks blocks form;
       clear = fresh_clear k clients servers disks blocks form;
+      waits = fresh_waits k clients servers disks blocks form;
     }) (places_law k clients servers disks blocks form es head) owed
