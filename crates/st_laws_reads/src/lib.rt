@@ -1,6 +1,8 @@
 //! Laws of the copies of all clients of a world: whose pages are as the log has them, through the events of a run.
 #![tactic(auto)]
 
+ghost use Rattle.st_laws_reads.specs.Carry.{Runs_carry};
+ghost use Rattle.st_laws_reads.specs.Clear.{Runs_clear};
 ghost use Rattle.st_laws_reads.specs.Events.{Others_keep_copies};
 ghost use Rattle.st_laws_reads.specs.Law.{Pending_pages_stand_alone};
 ghost use Rattle.st_laws_reads.specs.Runs.{Runs_read};
@@ -24,7 +26,17 @@ pub fn others_keep_copies()
     ensures { Others_keep_copies }
 {}
 
+/// In every run, while a client asks a server to cut or to remove a file, it has nothing of the file at hand from that page on.
+pub fn runs_clear()
+    ensures { Runs_clear }
+{}
+
 /// Reads return the last writes in every run in which each step has what other laws owe of it.
 pub fn runs_read()
     ensures { Runs_read }
+{}
+
+/// So does every write that is submitted carry the content of its page by the log at that line.
+pub fn runs_carry()
+    ensures { Runs_carry }
 {}
