@@ -5,3 +5,4 @@ pub mod Runs
 pub mod Servers
 pub mod Advances
 pub mod Everywhere
+pub mod Frozen
