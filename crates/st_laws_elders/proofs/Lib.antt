@@ -6,3 +6,4 @@ pub mod Servers
 pub mod Advances
 pub mod Everywhere
 pub mod Frozen
+pub mod Walks

@@ -1,7 +1,8 @@
 -- A life that a crash ended, as the machine of its server would have it if the client had taken no step since.
 use Rattle.std.specs.Prelude.{◌≡◌, ◌≢◌, ◌⊎◌, ℕ, ◌+◌, ◌<◌, ◌≤◌, Bool, true, false, List}
 use Rattle.st_assoc.specs.Assoc as net
-use Rattle.st_assoc.specs.Assoc.{Config, Assoc, Body, Client, Msg, In, Reached, next_life, upd, Hello, Plain, Released, Reassert, Welcome, Ack, Reasserted, Granted, Demand, Other_epoch}
+use Rattle.st_laws_elders.specs.Paths.{Path}
+use Rattle.st_assoc.specs.Assoc.{Alive, Config, Config_ok, Assoc, Body, Client, Msg, In, Reached, next_life, upd, Hello, Plain, Released, Reassert, Welcome, Ack, Reasserted, Granted, Demand, Other_epoch}
 
 -- what is said before a session begins
 abbrev pub is_bare : Body → Bool
@@ -46,3 +47,30 @@ pub record Frozen_life (k : Config) (c l : ℕ) (C : Client) (W : net.World) : T
 pub record Crashed (k : Config) (c : ℕ) (A B : net.World) : Type 0 where
   pub own : B.at c ≡ net.client (next_life k (A.at c).c) (A.at c)
   pub others : (d : ℕ) → d ≢ c → B.at d ≡ A.at d
+
+-- the lease of the life is over
+abbrev pub Is_over : Config → Client → Assoc → Type 0
+Is_over k C a = C.date + k.lease ≤ a.c.clock
+
+-- a half of a client that has a lease, with a lock on a file
+pub record Locked_half (C : Client) (i : ℕ) : Type 0 where
+  pub leased : C.leased ≡ true
+  pub exclusive : 2 ≤ (C.held i).mode
+
+-- A path leaves the life standing still, up to its lease end.
+abbrev pub Paths_keep_lives : Type 0
+Paths_keep_lives =
+    (k : Config) (c i : ℕ) (C : Client) (W V : net.World) → Config_ok k → Locked_half C i → Path k W V → Is_over k C (W.at c) ⊎ Frozen_life k c C.life C W →
+    Is_over k C (V.at c) ⊎ Frozen_life k c C.life C V
+
+-- A crash leaves the client's half standing still.
+abbrev pub Crashes_leave_lives : Type 0
+Crashes_leave_lives =
+    (k : Config) (c : ℕ) (A B : net.World) → Config_ok k → Reached k A → Crashed k c A B → Frozen_life k c (A.at c).c.life (A.at c).c B
+
+-- Beside a life that stands still with an exclusive lock on a file, no client has a lock on it under a lease that lasts, the client's
+-- later lives included.
+abbrev pub Lives_stand_alone : Type 0
+Lives_stand_alone =
+    (k : Config) (c i d : ℕ) (C : Client) (W : net.World) → Config_ok k → Locked_half C i → (W.at c).c.clock < C.date + k.lease → Frozen_life k c C.life C W →
+    Alive k (W.at d).c → ((W.at d).c.held i).mode ≡ 0

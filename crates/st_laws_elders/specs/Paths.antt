@@ -14,8 +14,8 @@ use Rattle.st_laws.specs.World.{AllStand, Is_full, Server_stands}
 -- steps of the machine from one world to another, one after another
 pub data Path (k : Config) : net.World → net.World → Type 0 where
   Here : (a : net.World) → Path k a a
-  Stepped_on : {a b c : net.World} → Path k a b → Step k b c → Path k a c
-  Worked_on : {a b c : net.World} → Path k a b → Work k b c → Path k a c
+  Stepped_on : {u v w : net.World} → Path k u v → Step k v w → Path k u w
+  Worked_on : {u v w : net.World} → Path k u v → Work k v w → Path k u w
 
 -- a path leads to the associations of a server
 abbrev pub Leads : Config → net.World → ℕ → (ℕ → ℕ → ℕ) → World → ServerNode → (ℕ → Ghost) → Type 0

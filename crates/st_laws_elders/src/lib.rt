@@ -1,9 +1,18 @@
 //! What is pending of lives that are over stands alone.
 #![tactic(auto)]
 
+ghost use Rattle.st_laws_elders.specs.Frozen.{Crashes_leave_lives, Lives_stand_alone, Paths_keep_lives};
 ghost use Rattle.st_laws_elders.specs.Paths.{Events_lengthen_paths};
 
 /// Every event is steps of the machine of each server and its clients, which go on from where they came to.
 pub fn events_lengthen_paths()
     ensures { Events_lengthen_paths }
+{}
+
+/// In the machine, a life that a crash ended stands still beside its client's later lives up to its lease end; and while it has an
+/// exclusive lock on a file, no client has a lock on the file under a lease that lasts.
+pub fn lives_stand_still()
+    ensures paths { Paths_keep_lives }
+    ensures crashes { Crashes_leave_lives }
+    ensures alone { Lives_stand_alone }
 {}
