@@ -7,3 +7,5 @@ pub mod Advances
 pub mod Everywhere
 pub mod Frozen
 pub mod Walks
+pub mod Calm
+pub mod Tracked
