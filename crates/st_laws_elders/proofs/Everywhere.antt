@@ -142,7 +142,7 @@ message_there w n e r = no (sym (ap (admissible.refused_delivery w n) e) ∙ r)
     no : {A : Type 0} {x : A} → ◌≡◌ {A = Option A} (Some x) None → ⊥
     no e = cc
 
-module _ (k : Config) (count : ℕ) (H : ℕ → net.World) (w : World) (a : AllStand k count w) (o : (s : ℕ) (node : ServerNode) → node_of w (server s) ≡ Some node → Led_server k w s node (H s)) where
+module _ (k : Config) (count : ℕ) (H : ℕ → net.World → Type 0) (w : World) (a : AllStand k count w) (o : (s : ℕ) (node : ServerNode) → node_of w (server s) ≡ Some node → Led_server k w s node (H s)) where
   -- what is to stand of every server behind an event
   abbrev After : World → Type 0
   After v = (s : ℕ) (node : ServerNode) → node_of v (server s) ≡ Some node → Led_server k v s node (H s)
@@ -202,7 +202,9 @@ module _ (k : Config) (count : ℕ) (H : ℕ → net.World) (w : World) (a : All
               calm = z.calm;
               few = few_more w.net.bytes v.net.bytes node.state left.bytes z.few;
             };
-            path = b.keeps (H s) q.path;
+            from = q.from;
+            is = q.is;
+            path = b.keeps q.from q.path;
           }
 
   -- A server that is another one, or takes a step.
@@ -267,7 +269,9 @@ module _ (k : Config) (count : ℕ) (H : ℕ → net.World) (w : World) (a : All
               calm = z.calm;
               few = few_more w.net.bytes v.net.bytes node.state q.bytes z.few;
             };
-            path = same_leads k a.sound s node z.ended z.ghosts w v (not_seen s n) (H s) y.path;
+            path = same_leads k a.sound s node z.ended z.ghosts w v (not_seen s n) y.from y.path;
+            from = y.from;
+            is = y.is;
           }
 
   -- a step of a server in the world
@@ -295,7 +299,7 @@ module _ (k : Config) (count : ℕ) (H : ℕ → net.World) (w : World) (a : All
               timed = timed_on k t w sc.world z.ghosts l.step.ghosts z.timed l.step.parts.config l.step.parts.drift l.step.parts.clocks (λ j. length (l.step.parts.clients j)) many l.step.drift;
               calm = l.calm z.calm;
               few = l.few z.few;
-            }; path = l.step.keeps (H t) y.path };
+            }; from = y.from; is = y.is; path = l.step.keeps y.from y.path };
       }
     where
       z : Server_stands k w t node
@@ -404,7 +408,7 @@ module _ (k : Config) (count : ℕ) (H : ℕ → net.World) (w : World) (a : All
             timed = timed_on k t w v z.ghosts z.ghosts z.timed refl refl refl refl (many_placed t (crash_node node)) (λ c. refl);
             calm = calm_crash node.state;
             few = few_crash w.net.bytes node.state;
-          }; path = crash_leads k t z.ended w node z.ghosts a.sound runs z.both.stands (H t) y.path })))
+          }; path = crash_leads k t z.ended w node z.ghosts a.sound runs z.both.stands y.from y.path; from = y.from; is = y.is })))
 
   server_starts : (t : ℕ) (sc : Scene) → admissible.refusal w (events.Start (nodes.Server (server t))) ≡ None → sc ≡ happens (counted w) (events.Start (nodes.Server (server t))) →
       world_step w (events.Start (nodes.Server (server t))) ≡ Ok sc → After sc.world
@@ -436,7 +440,7 @@ module _ (k : Config) (count : ℕ) (H : ℕ → net.World) (w : World) (a : All
             timed = timed_on k t w v z.ghosts S z.timed refl refl refl refl (many_placed t next) (λ c. refl);
             calm = calm_start node.state now_;
             few = few_start w.net.bytes node.state now_;
-          }; path = start_leads k t z.ended w node z.ghosts a.sound a.waits down z.both.stands (H t) y.path })))
+          }; path = start_leads k t z.ended w node z.ghosts a.sound a.waits down z.both.stands y.from y.path; from = y.from; is = y.is })))
 
   -- time passes
   passes : (steps : List ℕ) → length steps ≡ length w.clocks → world_step w (events.Advance steps) ≡ Ok (happens (counted w) (events.Advance steps)) → After (happens (counted w) (events.Advance steps)).world
@@ -460,7 +464,9 @@ module _ (k : Config) (count : ℕ) (H : ℕ → net.World) (w : World) (a : All
               calm = z.calm;
               few = z.few;
             };
-            path = r.keeps (H s) y.path;
+            from = y.from;
+            is = y.is;
+            path = r.keeps y.from y.path;
           }
 
   -- Every event.
@@ -489,7 +495,7 @@ module _ (k : Config) (count : ℕ) (H : ℕ → net.World) (w : World) (a : All
   happens_all (events.Start (nodes.Server s)) full r e = server_starts s.0 _ r refl e
 
 -- all stands after an event that the world takes, in its order
-pub stays_led : (k : Config) (count : ℕ) (H : ℕ → net.World) (w : World) (e : Event) (sc : Scene) → Led k count w H → Is_full w e → world_step w e ≡ Ok sc → Led k count sc.world H
+pub stays_led : (k : Config) (count : ℕ) (H : ℕ → net.World → Type 0) (w : World) (e : Event) (sc : Scene) → Led k count w H → Is_full w e → world_step w e ≡ Ok sc → Led k count sc.world H
 stays_led k count H w e sc a full h =
     let p = step_happens w e sc h in
     let e1 : world_step w e ≡ Ok (happens (counted w) e) = h ∙ ap (λ (x : Scene). Ok x) p.1 in

@@ -9,3 +9,4 @@ pub mod Frozen
 pub mod Walks
 pub mod Calm
 pub mod Tracked
+pub mod Stepping

@@ -2,11 +2,11 @@
 #![tactic(auto)]
 
 ghost use Rattle.st_laws_elders.specs.Frozen.{Crashes_leave_lives, Lives_stand_alone, Paths_keep_lives};
-ghost use Rattle.st_laws_elders.specs.Paths.{Events_lengthen_paths};
+ghost use Rattle.st_laws_elders.specs.Paths.{Events_are_paths};
 
-/// Every event is steps of the machine of each server and its clients, which go on from where they came to.
-pub fn events_lengthen_paths()
-    ensures { Events_lengthen_paths }
+/// Every event is steps of the machine of each server and its clients, which go on from where they were.
+pub fn events_are_paths()
+    ensures { Events_are_paths }
 {}
 
 /// In the machine, a life that a crash ended stands still beside its client's later lives up to its lease end; and while it has an
