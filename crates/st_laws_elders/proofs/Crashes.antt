@@ -44,7 +44,7 @@ apart_map : (f : Association → Association) → Keeps_server f → (own : Serv
 apart_map f h own [] p = record {}
 apart_map f h own (x ∷ xs) p = record { one = λ e. p.one (e ∙ ap (λ v. server_node v) (h x)); rest = apart_map f h own xs p.rest }
 
-place_map : (f : Association → Association) → Keeps_server f → (own : ServerId) (xs : List Association) (a : Association) → Place own xs a → Place own (map f xs) (f a)
+pub place_map : (f : Association → Association) → Keeps_server f → (own : ServerId) (xs : List Association) (a : Association) → Place own xs a → Place own (map f xs) (f a)
 place_map f h own xs a p = record { before = map f p.before; after = map f p.after; is = ap (map f) p.is ∙ map_both f p.before a p.after; here = h a ∙ p.here; apart_before = apart_map f h own p.before p.apart_before; apart_after = apart_map f h own p.after p.apart_after }
 
 module _ (k : Config) (ok : Config_ok k) (s : ℕ) (w : World) (node : ServerNode) (ended : ℕ → ℕ → ℕ) (G : ℕ → Ghost) (c : ℕ) (site : ClientSite) where
@@ -109,9 +109,15 @@ module _ (k : Config) (ok : Config_ok k) (s : ℕ) (w : World) (node : ServerNod
       ends d = upd_all (λ d f. Ended_by d s f v.ended) ended c E q.ends (λ d n e h ec es. b.ends d e (q.others e h (λ x. n (sym ec ∙ x))) ec es) d
 
   -- Crash
-  pub crashed : Both k s w node ended G → site_of w (client c) ≡ Some site → site.node.running ≡ true → (E : ℕ → ℕ) × Both k s (ev.crashes_client w (client c) (Some site)).world node (upd ended c E) G × ((H : net.World) → Leads k H s ended w node G → Leads k H s (upd ended c E) (ev.crashes_client w (client c) (Some site)).world node G)
+  pub record Crash_left (b : Both k s w node ended G) (there : site_of w (client c) ≡ Some site) : Type 0 where
+    pub ends : ℕ → ℕ
+    pub both : Both k s (ev.crashes_client w (client c) (Some site)).world node (upd ended c ends) G
+    pub keeps : (H : net.World) → Leads k H s ended w node G → Leads k H s (upd ended c ends) (ev.crashes_client w (client c) (Some site)).world node G
+    pub last : ends ≡ upd (ended c) (b.clients c site there).association.life.0 (end_now k (client_of (ended c) (clock_of w (nodes.Client (client c))).0 (b.clients c site there).association))
+
+  pub crashed : (b : Both k s w node ended G) (there : site_of w (client c) ≡ Some site) → site.node.running ≡ true → Crash_left b there
   unfolding ev.crashes_client ev.marks cl.crash
-  crashed b there runs = let z = changed v last E b there (record { clients = refl; servers = refl; clocks = refl; config = refl; messages = refl; moves = moves; standing = standing; ends = ends; others = others }) in (E, z.0, z.1)
+  crashed b there runs = let z = changed v last E b there (record { clients = refl; servers = refl; clocks = refl; config = refl; messages = refl; moves = moves; standing = standing; ends = ends; others = others }) in record { ends = E; both = z.0; keeps = z.1; last = refl }
     where
       v : World
       v = (ev.crashes_client w (client c) (Some site)).world

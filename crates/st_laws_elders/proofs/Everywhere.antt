@@ -89,7 +89,7 @@ none_too {A} {B} xs ys n l e = go (numbered ys n) refl
     go (Some y) f = let z = numbered_too ys xs n y (sym l) f in absurd (clash z.0 z.1)
 
 -- The clocks stand where nothing of them is changed.
-timed_on : (k : Config) (s : ℕ) (w v : World) (G H : ℕ → Ghost) → Timed k s w G → v.config ≡ w.config → v.drift ≡ w.drift → v.clocks ≡ w.clocks →
+pub timed_on : (k : Config) (s : ℕ) (w v : World) (G H : ℕ → Ghost) → Timed k s w G → v.config ≡ w.config → v.drift ≡ w.drift → v.clocks ≡ w.clocks →
     length v.clients ≡ length w.clients → length v.servers ≡ length w.servers → ((c : ℕ) → (H c).drift ≡ (G c).drift) → Timed k s v H
 timed_on k s w v G H t config drift clocks many servers same =
     record {

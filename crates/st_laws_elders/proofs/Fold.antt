@@ -54,7 +54,7 @@ module _ (k : Config) (ok : Config_ok k) (s : ℕ) (node : ServerNode) (ended : 
   stays w b = found w w (left_all w w refl refl refl refl refl refl) b (λ H o. o)
 
   -- a world of which the associations see no change
-  same : (w v : World) → Unseen s w v → Both k s w node ended G → Both k s v node ended G
+  pub same : (w v : World) → Unseen s w v → Both k s w node ended G → Both k s v node ended G
   same w v u b = unseen k s w v node ended G u b
 
   -- and the order is the same
@@ -70,7 +70,7 @@ module _ (k : Config) (ok : Config_ok k) (s : ℕ) (node : ServerNode) (ended : 
       pair_same : (c : ℕ) → pair c s (ended c) w node (G c) ≡ pair c s (ended c) v node (G c)
       pair_same c = λ j. record { c = view c j; s = half_of (client c) (clock_s j) node.running node.state (G c); net = (G c).net }
 
-  counted_same : (w : World) → Unseen s w (counted w)
+  pub counted_same : (w : World) → Unseen s w (counted w)
   counted_same w = record { clients = refl; clocks = refl; ended = refl; config = refl; found = refl; messages = λ m h. inl (m, h, refl) }
 
   -- what stands behind a change that was before
@@ -129,7 +129,7 @@ module _ (k : Config) (ok : Config_ok k) (s : ℕ) (node : ServerNode) (ended : 
     where
       go : (o : Option ClientSite) → site_of w (client c) ≡ o → Client_path k s w (ev.crashes_client w (client c) o).world node ended G
       go None e = stays w b
-      go (Some site) e = let x = crashed k ok s w node ended G c site b e (runs site e) in record { ends_of = _; ghosts = G; both = x.1; drift = λ d. refl; left = stop_left w c site; keeps = x.2 }
+      go (Some site) e = let x = crashed k ok s w node ended G c site b e (runs site e) in record { ends_of = _; ghosts = G; both = x.both; drift = λ d. refl; left = stop_left w c site; keeps = x.keeps }
 
   start_of : (w : World) (c : ℕ) → Both k s w node ended G → ((site : ClientSite) → site_of w (client c) ≡ Some site → site.node.running ≡ false) → Client_path k s w (ev.starts_client w (client c) (site_of w (client c))) node ended G
   unfolding ev.starts_client

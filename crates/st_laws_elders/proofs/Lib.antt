@@ -10,3 +10,4 @@ pub mod Walks
 pub mod Calm
 pub mod Tracked
 pub mod Stepping
+pub mod Crashing
