@@ -11,3 +11,4 @@ pub mod Calm
 pub mod Tracked
 pub mod Stepping
 pub mod Crashing
+pub mod Falling
