@@ -144,3 +144,134 @@ module _ (k : Config) (count : ℕ) (w : World) (c : ℕ) (site : ClientSite) (t
   crash_at : (s : ℕ) (node : ServerNode) (z : Server_stands k w s node) → Crashed k c (pairs_of k w s node z) (pairs_of k V s node (stands s node z))
   unfolding stands
   crash_at s node z = crash_is k all.sound s (counted w) node z.ended z.ghosts c site (both_counted s node z) there runs
+
+  -- lives that ended, clocks, and what is pending
+  there_too : (o : LogOwner) (y : LeaseLife) → ended_of w o.client o.file.server o.life ≡ Some y → ended_of V o.client o.file.server o.life ≡ Some y
+  unfolding ev.crashes_client ev.marks
+  there_too o y f = find_front (is_life_of o.client o.file.server o.life) w.ended _ y f
+
+  same_clock : (d : ClientId) (n : ℕ) → (clock_of w (nodes.Client d)).0 < n → (clock_of V (nodes.Client d)).0 < n
+  unfolding ev.crashes_client ev.marks
+  same_clock d n t = t
+
+  log_left : (Q : LogOwner → Type 0) → Pending_all Q w.log → Pending_all Q V.log
+  unfolding ev.crashes_client ev.marks ev.log_crashed log.drop_picked
+  log_left Q p = pending_fewer Q 1 _ _ w.log p
+
+  module _ (after0 : AllStand k count V) where
+    pub after : AllStand k count V
+    after = record after0 { servers = λ s node at. stands s node (all.servers s node (before_at s node at)) }
+
+    came : (s : ℕ) (node : ServerNode) (at : node_of V (server s) ≡ Some node) → Came_from k count w all V s node (after.servers s node at)
+    unfolding after
+    came s node at = record { node = node; before = before_at s node at; path = crash_path k c _ _ (crash_at s node (all.servers s node (before_at s node at))) }
+
+    -- a row of the client's own lives
+    record Own_row (row : LeaseLife) (o : LogOwner) : Type 0 where
+      a : Association
+      here : Has a site.node.state.associations
+      client_is : o.client ≡ client c
+      server_is : o.file.server ≡ a.server
+      life_is : o.life ≡ a.life
+      end : row.end ≡ lease.end_at site.node.state.config (option_map cl.lease_of_session a.session)
+
+    own_row : (o : LogOwner) (row : LeaseLife) → ended_of w o.client o.file.server o.life ≡ None → ended_of V o.client o.file.server o.life ≡ Some row → Own_row row o
+    unfolding ev.crashes_client ev.marks
+    own_row o row f q =
+        let rows : List LeaseLife = map ev.crashed_life (lives_of site.node.state) in
+        let y = row_is o.client o.file.server o.life rows row (sym (find_back (is_life_of o.client o.file.server o.life) w.ended rows f) ∙ q) in
+        let x = has_map ev.crashed_life (lives_of site.node.state) row y.0 in
+        let n = has_map (life_of_association site.node.state.config site.node.state.id) site.node.state.associations x.0 x.1 in
+        let is : row ≡ ev.crashed_life (life_of_association site.node.state.config site.node.state.id n.0) = x.2 ∙ ap ev.crashed_life n.2 in
+        record {
+          a = n.0;
+          here = n.1;
+          client_is = sym y.1 ∙ ap (λ (l : LeaseLife). l.client) is ∙ (all.fates.lives.lives.sites (client c) site there).id;
+          server_is = sym y.2 ∙ ap (λ (l : LeaseLife). l.server) is;
+          life_is = sym y.3 ∙ ap (λ (l : LeaseLife). l.life) is;
+          end = ap (λ (l : LeaseLife). l.end) is;
+        }
+
+    module _ (asked : ℕ → Option Ask) (copies : Client_copies asked (client c) w.log (clock_of w (nodes.Client (client c))) site.node.state) (e : LogEntry) (logged : Has e w.log) (pending : is_pending e.fate ≡ true) where
+      abbrev o : LogOwner
+      o = e.of
+
+      before : Before_end w o
+      before = owner_at (Before_end w) w.log e all.fates.pending logged pending
+
+      module _ (row : LeaseLife) (x : Own_row row o) where
+        own_life : is_of_life (client c) x.a.server x.a.life o ≡ true
+        own_life =
+            ap (λ z. z && ((o.file.server.0 == x.a.server.0) && (o.life.0 == x.a.life.0))) (eq-eqb o.client.0 c (ap (λ (d : ClientId). d.0) x.client_is))
+            ∙ ap (λ z. z && (o.life.0 == x.a.life.0)) (eq-eqb o.file.server.0 x.a.server.0 (ap (λ (d : ServerId). d.0) x.server_is)) ∙ eq-eqb o.life.0 x.a.life.0 (ap (λ (d : Life). d.0) x.life_is)
+
+        lasts : Lasts site.node.state.config.lease (clock_of w (nodes.Client (client c))).0 x.a.session
+        lasts =
+            lease_lasts w all.fates (client c) site there runs x.a copies.apart x.here
+            (record {
+              end = before.end;
+              is = subst (λ (l : Life). lease_end_of w (client c) x.a.server l ≡ Some before.end) x.life_is
+                  (subst (λ (v : ServerId). lease_end_of w (client c) v o.life ≡ Some before.end) x.server_is (subst (λ (y : ClientId). lease_end_of w y o.file.server o.life ≡ Some before.end) x.client_is before.is));
+              before = subst (λ (y : ClientId). (clock_of w (nodes.Client y)).0 < before.end.0) x.client_is before.before;
+            })
+
+        held : Stands_at (client c) w.log x.a
+        held = (while_at _ _ (client c) w.log site.node.state.associations x.a copies.copies x.here).lasting lasts
+
+        two : 2 ≤ (held_in x.a.session o.file.ino).mode
+        two = go (fate_at (client c) x.a.life x.a.server x.a.store w.log e held.fates logged own_life)
+          where
+            not_hard : (f : Fate) → is_pending f ≡ true → is_hard_fate f ≡ true → ⊥
+            not_hard fates.Pending y z = cc z
+            not_hard fates.Hard y z = cc y
+            not_hard (fates.Gone g) y z = cc y
+
+            go : (is_hard_fate e.fate ≡ true) ⊎ (is_some (dirty_of x.a.store.pages o.file.ino o.page) ≡ true) → 2 ≤ (held_in x.a.session o.file.ino).mode
+            go (inl y) = absurd (not_hard e.fate pending y)
+            go (inr y) = let q = dirty_some _ y in (held.pages o.file.ino o.page).mode q.0 q.1
+
+        -- the life stands still from now on
+        falls : (node : ServerNode) (z : Server_stands k w o.file.server.0 node) → Stood_life k V o.file.server.0 node (stands o.file.server.0 node z) row o
+        falls node z =
+            record {
+              half = client_in w c s (z.ended c);
+              life = ap (λ (C : net.Client). C.life) view ∙ ap (λ (l : Life). l.0) (sym x.life_is);
+              end = ap (λ (C : net.Client). C.date + k.lease) view ∙ ap (λ n. date_in x.a.session + n) (sym st.sim.terms) ∙ end_is site.node.state.config x.a.session leased ∙ ap stamp_number (sym x.end);
+              locked = record { leased = ap (λ (C : net.Client). C.leased) view ∙ leased; exclusive = subst (λ (C : net.Client). 2 ≤ (C.held o.file.ino).mode) (sym view) two };
+              frozen = subst (λ d. Frozen_life k d (client_in w c s (z.ended c)).life (client_in w c s (z.ended c)) (pairs_of k V s node (stands s node z))) (ap (λ (d : ClientId). d.0) (sym x.client_is))
+                  (begins k c (pairs_of k w s node z) (pairs_of k V s node (stands s node z)) all.sound z.both.stands.reached (crash_at s node z));
+            }
+          where
+            s : ℕ
+            s = o.file.server.0
+
+            st : Standing k s c site w.ended (z.ghosts c).net
+            st = z.both.clients c site there
+
+            is : x.a ≡ st.association
+            is = only_here s site.node.state.associations st.association st.sim.place x.a x.here (ap server_node (sym x.server_is))
+
+            view : client_in w c s (z.ended c) ≡ client_of (z.ended c) (clock_of w (nodes.Client (client c))).0 x.a
+            view = own_view w c s (z.ended c) site st.association there runs st.sim.place ∙ ap (client_of (z.ended c) (clock_of w (nodes.Client (client c))).0) (sym is)
+
+            leased : leased_in x.a.session ≡ true
+            leased = leased_held x.a.session o.file.ino two
+
+      crashed_stand : Of_crashed (Stands_still k count V after) V o
+      unfolding after came before_at
+      crashed_stand row q crash next at = go (ended_of w o.client o.file.server o.life) refl
+        where
+          z : Server_stands k w o.file.server.0 next
+          z = all.servers o.file.server.0 next (before_at o.file.server.0 next at)
+
+          go : (p : Option LeaseLife) → ended_of w o.client o.file.server o.life ≡ p → Stood_life k V o.file.server.0 next (stands o.file.server.0 next z) row o
+          go None f = falls row (own_row o row f q) next z
+          go (Some y) f =
+              let w_row : ended_of w o.client o.file.server o.life ≡ Some row = f ∙ sym (there_too o y f) ∙ q in
+              still_on k count w V all after o row q
+              (record { end = before.end; is = ap (end_or_present V o.client o.file.server) q ∙ ap (end_or_present w o.client o.file.server) (sym w_row) ∙ before.is; before = same_clock o.client before.end.0 before.before })
+              next (stands o.file.server.0 next z) (came o.file.server.0 next at)
+              (owner_at (Of_crashed (Stands_still k count w all) w) w.log e h.elders logged pending row w_row crash next (before_at o.file.server.0 next at))
+
+    pub elders_fall : (asked : ℕ → Option Ask) → Client_copies asked (client c) w.log (clock_of w (nodes.Client (client c))) site.node.state → Elders_hold k count V
+    elders_fall asked copies = record { all = after; elders = log_left (Of_crashed (Stands_still k count V after) V) (pending_from (Of_crashed (Stands_still k count V after) V) w.log (λ e i p. crashed_stand asked copies e i p)) }
