@@ -85,7 +85,7 @@ module _ (k : Config) (c : ℕ) (A B : net.World) (x : Crashed k c A B) where
       })
 
 -- members
-owner_at : (P : LogOwner → Type 0) (es : List LogEntry) (e : LogEntry) → Pending_all P es → Has e es → is_pending e.fate ≡ true → P e.of
+pub owner_at : (P : LogOwner → Type 0) (es : List LogEntry) (e : LogEntry) → Pending_all P es → Has e es → is_pending e.fate ≡ true → P e.of
 owner_at P [] e r h p = elim h [ ]
 owner_at P (y ∷ es) e r (inl q) p = subst (λ (z : LogEntry). P z.of) (sym q) (r.one (ap (λ (z : LogEntry). is_pending z.fate) (sym q) ∙ p))
 owner_at P (y ∷ es) e r (inr h) p = owner_at P es e r.rest h p

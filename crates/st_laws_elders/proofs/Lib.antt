@@ -12,3 +12,4 @@ pub mod Tracked
 pub mod Stepping
 pub mod Crashing
 pub mod Falling
+pub mod Aloneness
