@@ -13,3 +13,4 @@ pub mod Stepping
 pub mod Crashing
 pub mod Falling
 pub mod Aloneness
+pub mod Law

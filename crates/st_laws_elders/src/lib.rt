@@ -1,6 +1,7 @@
 //! What is pending of lives that are over stands alone.
 #![tactic(auto)]
 
+ghost use Rattle.st_laws_elders.specs.Elders.{Elders_begin, Elders_stand_alone, Events_keep_elders};
 ghost use Rattle.st_laws_elders.specs.Frozen.{Crashes_leave_lives, Lives_stand_alone, Paths_keep_lives};
 ghost use Rattle.st_laws_elders.specs.Paths.{Events_are_paths};
 
@@ -15,4 +16,13 @@ pub fn lives_stand_still()
     ensures paths { Paths_keep_lives }
     ensures crashes { Crashes_leave_lives }
     ensures alone { Lives_stand_alone }
+{}
+
+/// What is pending of lives that are over stands alone: the lives of pending entries that a crash ended stand still, with an exclusive
+/// lock on the file, from the start of a run on and through every event, where the copies of all clients stand before it; and so no
+/// client that runs has a lock on the file, under a lease that is not over.
+pub fn elders_stand_alone()
+    ensures begin { Elders_begin }
+    ensures steps { Events_keep_elders }
+    ensures alone { Elders_stand_alone }
 {}
