@@ -195,7 +195,7 @@ module _ (past : List Step) (w : World) (c : ClientId) (old site : ClientSite) (
     quiet : All_quiet (client_turn s []) t
     quiet = losses_quiet now s
 
-    adds : Rattle.st_laws_pages.proofs.Growing.Adds_nothing w.commands (After c s sc t.out).world.commands w.log (After c s sc t.out).world.log
+    pub adds : Rattle.st_laws_pages.proofs.Growing.Adds_nothing w.commands (After c s sc t.out).world.commands w.log (After c s sc t.out).world.log
     adds = subst (λ os. Rattle.st_laws_pages.proofs.Growing.Adds_nothing w.commands (After c s sc os).world.commands w.log (After c s sc os).world.log) (sym quiet.out) (still_adds c s quiet.more sc quiet.still)
 
     in_t : (b : Association) → Cared past w.commands w.log c site.starts s.next_command b → Cared past (After c s sc t.out).world.commands (After c s sc t.out).world.log c site.starts t.state.next_command b
@@ -206,7 +206,7 @@ module _ (past : List Step) (w : World) (c : ClientId) (old site : ClientSite) (
     here : numbered w.clients c.0 ≡ Some old
     here = there
 
-    cared_t : (b : Association) → Has b t.state.associations → Cared past w.commands w.log c site.starts s.next_command b
+    pub cared_t : (b : Association) → Has b t.state.associations → Cared past w.commands w.log c site.starts s.next_command b
     cared_t b i = go (pair_of (Lost_or_not s.config now) s.associations t.state.associations lost.pairs b i)
       where
         go : (a : Association) × Has a s.associations × Lost_or_not s.config now a b → Cared past w.commands w.log c site.starts s.next_command b
@@ -217,7 +217,7 @@ module _ (past : List Step) (w : World) (c : ClientId) (old site : ClientSite) (
             by true e =
                 emptied_cared past w c old site.starts s.next_command here h a b (subst (λ (n : cl.ClientNode). Has a n.state.associations) (sym same) j) r.server (r.lost e) (r.emptied e)
 
-    latest_t : (b : Association) → Has b t.state.associations → Latest_own c (After c s sc t.out).world.log b
+    pub latest_t : (b : Association) → Has b t.state.associations → Latest_own c (After c s sc t.out).world.log b
     latest_t b i = subst (λ es. Latest_own c es b) (sym adds.log) (go (pair_of (Lost_or_not s.config now) s.associations t.state.associations lost.pairs b i))
       where
         go : (a : Association) × Has a s.associations × Lost_or_not s.config now a b → Latest_own c w.log b
@@ -230,7 +230,7 @@ module _ (past : List Step) (w : World) (c : ClientId) (old site : ClientSite) (
                 none : (d : DirtyPage) → ◌≡◌ {A = Option DirtyPage} None (Some d) → ⊥
                 none d z = cc
 
-    apart_t : (b : Association) → Has b t.state.associations → Numbers_apart b.store.commands
+    pub apart_t : (b : Association) → Has b t.state.associations → Numbers_apart b.store.commands
     apart_t b i = go (pair_of (Lost_or_not s.config now) s.associations t.state.associations lost.pairs b i)
       where
         go : (a : Association) × Has a s.associations × Lost_or_not s.config now a b → Numbers_apart b.store.commands
@@ -254,7 +254,7 @@ module _ (past : List Step) (w : World) (c : ClientId) (old site : ClientSite) (
     stay =
         pairs_then (Goes t.state.config now) (Goes u.state.config now) Stays (λ a b d p q. record { server = p.server ∙ q.server; life = p.life ∙ q.life }) t.state.associations u.state.associations v.state.associations heard.pairs worked.pairs
 
-    right_t : (b : Association) → Has b t.state.associations → life_with v.state b.server ≡ b.life
+    pub right_t : (b : Association) → Has b t.state.associations → life_with v.state b.server ≡ b.life
     right_t b i = go (pair_left Stays (λ x y p. p.server) b.server t.state.associations v.state.associations stay b (own_found t.state.associations once_t b i))
       where
         go : Pair_left Stays b.server v.state.associations b → life_with v.state b.server ≡ b.life

@@ -63,7 +63,7 @@ dirty_some None e = cc
 dirty_some (Some d) e = (d, refl)
 
 -- a lock is under a lease
-leased_held : (o : Option ClientSession) (i : ℕ) → 1 ≤ (held_in o i).mode → leased_in o ≡ true
+pub leased_held : (o : Option ClientSession) (i : ℕ) → 1 ≤ (held_in o i).mode → leased_in o ≡ true
 leased_held None i h = absurd (omega (arith, h))
 leased_held (Some s) i h = refl
 
@@ -106,18 +106,18 @@ module _ (w : World) (f : FatesHold w) (c : ClientId) (site : ClientSite) (there
 
 -- Exclusion, of the associations of two clients with one server.
 module _ (k : Config) (count : ℕ) (w : World) (a : AllStand k count w) (s : ℕ) (node : ServerNode) (at : node_of w (server s) ≡ Some node) where
-  abbrev z : Server_stands k w s node
+  abbrev pub z : Server_stands k w s node
   z = a.servers s node at
 
-  abbrev view : ℕ → net.Client
+  abbrev pub view : ℕ → net.Client
   view c = client_in w c s (z.ended c)
 
   -- a client of the machine that is alive, with the locks of an association
-  record Living (d : ℕ) (b : Association) : Type 0 where
-    alive : Alive k (view d)
-    mode : (i : ℕ) → ((view d).held i).mode ≡ (held_in b.session i).mode
+  pub record Living (d : ℕ) (b : Association) : Type 0 where
+    pub alive : Alive k (view d)
+    pub mode : (i : ℕ) → ((view d).held i).mode ≡ (held_in b.session i).mode
 
-  living : (d : ℕ) (site : ClientSite) → Running w d site → (b : Association) → Has b site.node.state.associations → b.server ≡ server s →
+  pub living : (d : ℕ) (site : ClientSite) → Running w d site → (b : Association) → Has b site.node.state.associations → b.server ≡ server s →
       Lasts site.node.state.config.lease (clock_of w (nodes.Client (client d))).0 b.session → leased_in b.session ≡ true → Living d b
   living d site run b h e l y =
       record {

@@ -5,3 +5,11 @@ pub mod Events
 pub mod Others
 pub mod Reading
 pub mod Runs
+pub mod Hardened
+pub mod Replied
+pub mod Behind
+pub mod Owing
+pub mod Clearing
+pub mod Cleared
+pub mod Clear_pages
+pub mod Cutting

@@ -7,15 +7,7 @@ use Rattle.st_base.specs.declared.config.Config as base
 use Rattle.st_base.specs.declared.ids.NodeId.TheVariants as nodes
 use Rattle.st_messages.specs.declared.event.Event.{Event}
 use Rattle.st_rules.specs.declared.observation.WorldRefusal.{WorldRefusal}
-use Rattle.st_base.specs.declared.ids.ClientId.{ClientId}
-use Rattle.st_base.specs.declared.ids.Life.{Life}
-use Rattle.st_base.specs.declared.ids.ServerId.{ServerId}
-use Rattle.st_messages.specs.declared.ask.Ask.{Ask}
-use Rattle.st_rules.specs.declared.client.ClientInput.{ClientInput}
-use Rattle.st_rules.specs.declared.client.ClientInput.TheVariants as inputs
-use Rattle.st_rules.specs.declared.log.LogEntry.{LogEntry}
 use Rattle.st_rules.specs.Client as cl
-use Rattle.st_rules.specs.ClientState.{Association, client_turn}
 use Rattle.st_rules.specs.ClientPages.{empty_store}
 use Rattle.st_rules.specs.Events.{Scene, counted, world_step}
 use Rattle.st_rules.specs.Extents.{numbers}
@@ -24,7 +16,7 @@ use Rattle.st_rules.specs.Keys.{client}
 use Rattle.st_rules.specs.Lines.{AtEach}
 use Rattle.st_rules.specs.Safety as safety
 use Rattle.st_rules.specs.Safety.{IsHead, IsLast, ReadsReturnLastWrites, Step, Throughout, is_event, step, steps}
-use Rattle.st_rules.specs.World.{World, ClientSite, clock_of, fresh_site, fresh_world, life_with, node_at_start}
+use Rattle.st_rules.specs.World.{World, ClientSite, clock_of, fresh_site, fresh_world, node_at_start}
 use Rattle.st_assoc.specs.Assoc.{Config}
 use Rattle.st_lemmas.specs.Lists.{Has}
 use Rattle.st_lemmas.proofs.Steps.{step_happens}
@@ -37,13 +29,23 @@ use Rattle.st_laws.specs.World.{AllStand, There}
 use Rattle.st_laws.proofs.Beginning.{begun}
 use Rattle.st_laws.proofs.Everywhere.{numbered_is, stays}
 use Rattle.st_laws.proofs.Runs.{full}
-use Rattle.st_laws_copies.specs.Law.{All_owed, All_stand, Apart, Differs}
-use Rattle.st_laws_copies.specs.World.{Owed_of, Taking, now_at, taken, turn_of}
+use Rattle.st_laws_copies.specs.Law.{All_stand, Apart, Differs}
+use Rattle.st_laws_copies.specs.World.{Taking, taken}
 use Rattle.st_laws_copies.proofs.Caches.{nothing_ok}
 use Rattle.st_laws_copies.proofs.Rests.{clocks_law}
-use Rattle.st_laws_reads.specs.Runs.{Input_owed, Is_owed, Runs_read, Taken_owed}
+use Rattle.st_laws_reads.specs.Runs.{Is_owed, Runs_read, Taken_owed}
 use Rattle.st_laws_reads.specs.World.{All_there, CopiesHold, Site_holds, Taking_owed}
 use Rattle.st_laws_reads.proofs.Others as others
+use Rattle.st_laws_reads.specs.Clear.{AllCleared}
+use Rattle.st_laws_reads.proofs.Cleared.{clear_step, fresh_clear}
+use Rattle.st_laws_pages.specs.Locked.{WaitsHold}
+use Rattle.st_laws_pages.proofs.CutLaw.{law as cut_law}
+use Rattle.st_laws_pages.proofs.Whole.{fresh_waits}
+use Rattle.st_laws.proofs.Waiting.{waits_owed}
+use Rattle.st_laws_reads.specs.Events.{Others_owed}
+use Rattle.st_laws_reads.specs.Left.{Cuts_asked}
+use Rattle.st_laws_reads.proofs.Cutting.{others_owed}
+use Rattle.st_laws_reads.proofs.Owing.{input_owed}
 use Rattle.st_laws_reads.proofs.Reading.{dull_reads, known, more_known, numbered_there, others_dull, reads_taken}
 use Rattle.st_laws_reads.proofs.Takings as takings
 use Rattle.st_laws_reads.proofs.Takings.{Takes, takes_event}
@@ -54,34 +56,15 @@ record Stood (k : Config) (count : ℕ) (past : List Step) (t : Traced) : Type 0
   places : PlacesHold t.world
   stand : Stand past t
   copies : CopiesHold (known past) t.world
-
--- A tick and an ask owe nothing.
-tick_owed : (c : ClientId) (lives : ServerId → Life) (es : List LogEntry) (xs : List Association) → All_owed c lives es inputs.Tick xs
-tick_owed c lives es [] = record {}
-tick_owed c lives es (a ∷ xs) = record { one = record {}; rest = tick_owed c lives es xs }
-
-app_owed : (c : ClientId) (lives : ServerId → Life) (es : List LogEntry) (op : ℕ) (ask : Ask) (xs : List Association) → All_owed c lives es (inputs.App op ask) xs
-app_owed c lives es op ask [] = record {}
-app_owed c lives es op ask (a ∷ xs) = record { one = record {}; rest = app_owed c lives es op ask xs }
-
-input_owed : (x : Taking) → Input_owed x x.input → Owed_of x
-input_owed x o = go x.input refl o
-  where
-    left : List Association
-    left = (cl.losses (client_turn x.site.node.state []) (now_at x)).state.associations
-
-    go : (i : ClientInput) → x.input ≡ i → Input_owed x i → Owed_of x
-    go inputs.Tick e o = subst (λ i. All_owed x.client (life_with (turn_of x).state) x.world.log i left) (sym e) (tick_owed x.client (life_with (turn_of x).state) x.world.log left)
-    go (inputs.App op ask) e o = subst (λ i. All_owed x.client (life_with (turn_of x).state) x.world.log i left) (sym e) (app_owed x.client (life_with (turn_of x).state) x.world.log op ask left)
-    go (inputs.Control m) e o = o
-    go (inputs.Done number result) e o = o
+  clear : AllCleared t.world
+  waits : WaitsHold t.world
 
 -- What a step leaves.
 record Leaves_all (k : Config) (count : ℕ) (past : List Step) (t : Traced) (e : Event) (sc : Scene) : Type 0 where
   reads : ReadsReturnLastWrites past (step t e sc)
   copies : CopiesHold (known (past ++ step t e sc ∷ [])) sc.world
 
-module _ (k : Config) (count : ℕ) (past : List Step) (t : Traced) (e : Event) (sc : Scene) (is : world_step t.world e ≡ Ok sc) (s : Stood k count past t) (after : AllStand k count sc.world) where
+module _ (k : Config) (count : ℕ) (past : List Step) (t : Traced) (e : Event) (sc : Scene) (is : world_step t.world e ≡ Ok sc) (s : Stood k count past t) (after : AllStand k count sc.world) (cuts : Cuts_asked (step t e sc)) where
   abbrev st : Step
   st = step t e sc
 
@@ -92,8 +75,13 @@ module _ (k : Config) (count : ℕ) (past : List Step) (t : Traced) (e : Event) 
   goes None q o =
       record {
         reads = subst (λ os. AtEach (IsLast past st) sc.world t.world.log os) (ap (λ (z : Scene). z.seen) (sym (step_happens t.world e sc is).1)) (dull_reads past st sc.world t.world.log _ (others_dull (counted t.world) e q));
-        copies = others.law (known (past ++ st ∷ [])) k count t.world e sc s.all is q o more;
+        copies = others.law (known (past ++ st ∷ [])) k count t.world e sc s.all is q free more;
       }
+    where
+      free : Others_owed (counted t.world) e
+      free =
+          let p = step_happens t.world e sc is in
+          others_owed k count (counted t.world) sc after (clear_step t.world e sc is s.clear) cuts s.waits e (waits_owed k count t.world s.all e p.0) p.1 o
   goes (Some x) q o =
       record {
         reads = reads_taken k count past t e sc x s.all after is q there owed more;
@@ -104,7 +92,7 @@ module _ (k : Config) (count : ℕ) (past : List Step) (t : Traced) (e : Event) 
       there = subst (λ (z : Scene). Takes (counted t.world) z x) (sym (step_happens t.world e sc is).1) (takes_event (counted t.world) e x q)
 
       owed : Taking_owed (known (past ++ st ∷ [])) x
-      owed = record { numbered = numbered_there past st (counted t.world) e x refl (λ c site f. let z = s.stand.asks c site f in record { count = z.count; keys = z.keys }) q; owed = input_owed x o }
+      owed = record { numbered = numbered_there past st (counted t.world) e x refl (λ c site f. let z = s.stand.asks c site f in record { count = z.count; keys = z.keys }) q; owed = input_owed k count past t e sc is s.all s.places s.stand s.clear x q o }
 
 run : (k : Config) (count : ℕ) (es : List Event) → list_all (is_event count) es ≡ true → (past : List Step) (t : Traced) → Stood k count past t → Throughout Places_after past (steps es t) → Throughout Is_owed past (steps es t) → Throughout ReadsReturnLastWrites past (steps es t)
 unfolding steps safety.steps_on Throughout
@@ -117,8 +105,8 @@ run k count (e ∷ es) all past t s o d = go (world_step t.world e) refl o d (λ
     go (Err r) q o d f = tt
     go (Ok sc) q o d f =
         let after = stays k count t.world e sc s.all (full count t.world e s.all.nodes (and_true (is_event count e) (list_all (is_event count) es) all).0) q in
-        let z = goes k count past t e sc q s after (taken (counted t.world) e) refl d.0 in
-        (z.reads, f (past ++ step t e sc ∷ []) (traced_after e t sc) (record { all = after; places = o.0; stand = (one_step past t e sc q s.places s.stand).stand; copies = z.copies }) o.1 d.1)
+        let z = goes k count past t e sc q s after d.0.cuts (taken (counted t.world) e) refl d.0.taken in
+        (z.reads, f (past ++ step t e sc ∷ []) (traced_after e t sc) (record { all = after; places = o.0; stand = (one_step past t e sc q s.places s.stand).stand; copies = z.copies; clear = clear_step t.world e sc q s.clear; waits = (cut_law t.world e sc q (waits_owed k count t.world s.all e (step_happens t.world e sc q).0) s.waits).holds }) o.1 d.1)
 
 -- At the start nothing is at hand.
 differs : (n a c : ℕ) → n < a → Differs (record { 0 = n }) (map cl.fresh_association (numbers a c))
@@ -187,4 +175,6 @@ law k clients servers disks blocks form es head events owed =
       places = fresh_places k clients servers disks blocks form;
       stand = fresh_stand k clients servers disks blocks form;
       copies = fresh_copies k clients servers disks blocks form;
+      clear = fresh_clear k clients servers disks blocks form;
+      waits = fresh_waits k clients servers disks blocks form;
     }) (places_law k clients servers disks blocks form es head) owed

@@ -1,4 +1,6 @@
 pub mod Law
 pub mod World
 pub mod Events
+pub mod Clear
+pub mod Left
 pub mod Runs

@@ -1,6 +1,7 @@
 //! Laws of the copies of all clients of a world: whose pages are as the log has them, through the events of a run.
 #![tactic(auto)]
 
+ghost use Rattle.st_laws_reads.specs.Clear.{Runs_clear};
 ghost use Rattle.st_laws_reads.specs.Events.{Others_keep_copies};
 ghost use Rattle.st_laws_reads.specs.Law.{Pending_pages_stand_alone};
 ghost use Rattle.st_laws_reads.specs.Runs.{Runs_read};
@@ -22,6 +23,11 @@ pub fn takings_keep_copies()
 /// where each cut is of a file that no client has in use, and what is pending of lives that are over stands alone.
 pub fn others_keep_copies()
     ensures { Others_keep_copies }
+{}
+
+/// In every run, while a client asks a server to cut or to remove a file, it has nothing of the file at hand from that page on.
+pub fn runs_clear()
+    ensures { Runs_clear }
 {}
 
 /// Reads return the last writes in every run in which each step has what other laws owe of it.
