@@ -14,3 +14,4 @@ pub mod Crashing
 pub mod Falling
 pub mod Aloneness
 pub mod Law
+pub mod Reading

@@ -4,6 +4,7 @@
 ghost use Rattle.st_laws_elders.specs.Elders.{Elders_begin, Elders_stand_alone, Events_keep_elders};
 ghost use Rattle.st_laws_elders.specs.Frozen.{Crashes_leave_lives, Lives_stand_alone, Paths_keep_lives};
 ghost use Rattle.st_laws_elders.specs.Paths.{Events_are_paths};
+ghost use Rattle.st_laws_elders.specs.Runs.{Runs_read_beside_elders};
 
 /// Every event is steps of the machine of each server and its clients, which go on from where they were.
 pub fn events_are_paths()
@@ -25,4 +26,9 @@ pub fn elders_stand_alone()
     ensures begin { Elders_begin }
     ensures steps { Events_keep_elders }
     ensures alone { Elders_stand_alone }
+{}
+
+/// Reads return the last writes in every run in which each step has what is owed of it, where nothing is owed of lives that are over.
+pub fn runs_read_beside_elders()
+    ensures { Runs_read_beside_elders }
 {}
