@@ -1,5 +1,5 @@
 -- What is pending of lives that are over stands alone: such a life stands still with an exclusive lock on the file.
-use Rattle.std.proofs.Common.{◌≡◌, ℕ, ◌+◌, ◌<◌, ◌≤◌, ◌⊎◌, Bool, true, false, ◌&&◌, ◌==◌, List, [], ◌∷◌, Option, Some, None, refl, sym, ap, ◌∙◌, subst, inl, inr, arith}
+use Rattle.std.proofs.Common.{◌≡◌, ℕ, ◌+◌, ◌<◌, ◌≤◌, Bool, true, false, ◌&&◌, ◌==◌, List, [], ◌∷◌, Option, Some, None, refl, sym, ap, ◌∙◌, subst, inl, inr, arith}
 use Rattle.std.specs.Prelude.{find, map, option_map}
 use Rattle.std.proofs.lemmas.Bool.{eq-eqb}
 use Rattle.st_base.specs.declared.ids.ClientId.{ClientId}
@@ -23,18 +23,17 @@ use Rattle.st_lemmas.specs.Lists.{Has}
 use Rattle.st_views.specs.Halves.{client_of, date_in, held_in, leased_in}
 use Rattle.st_laws_client.specs.Shown.{Lasts}
 use Rattle.st_laws_server.specs.Pair.{client_in, stamp_number}
-use Rattle.st_laws_server.specs.Stands.{pairs}
-use Rattle.st_laws_pages.specs.Fates.{Before_end, Pending_all}
+use Rattle.st_laws_pages.specs.Fates.{Before_end}
 use Rattle.st_laws_pages.specs.Lives.{Is_known, owner_of}
 use Rattle.st_laws_pages.proofs.Associations.{found_has}
 use Rattle.st_laws_pages.proofs.Lasting.{no_option}
 use Rattle.st_laws_pages.proofs.Living.{row_is}
 use Rattle.st_laws.specs.Stands.{Standing}
-use Rattle.st_laws.specs.World.{AllStand, Server_stands, There}
+use Rattle.st_laws.specs.World.{Server_stands, There}
 use Rattle.st_laws.proofs.Pairs.{only_here, own_view}
 use Rattle.st_laws_copies.specs.World.{Unheld}
 use Rattle.st_laws_reads.specs.Events.{Elder, Elders_alone}
-use Rattle.st_laws_reads.specs.Law.{Running, Unheld_by}
+use Rattle.st_laws_reads.specs.Law.{Running}
 use Rattle.st_laws_reads.specs.World.{All_there}
 use Rattle.st_laws_elders.specs.Elders.{Elders_hold, Of_crashed, Stands_still, Stood_life}
 use Rattle.st_laws_elders.specs.Paths.{pairs_of}
@@ -153,7 +152,7 @@ module _ (k : Config) (count : ℕ) (w : World) (h : Elders_hold k count w) (e :
       go true f =
           ap (λ (C : net.Client). (C.held o.file.ino).mode) (sym view)
           ∙ stand_alone k o.client.0 o.file.ino d x.half (pairs_of k w s node z) h.all.sound x.locked clock x.frozen
-              (subst (Alive k) (sym view) (record { leased = f; lasts = let t = q.sim.terms in let u = lasts_date other.node.state.config.lease (clock_of w (nodes.Client (client d))).0 y.session f lasts in omega (arith, t, u) }))
+          (subst (Alive k) (sym view) (record { leased = f; lasts = let t = q.sim.terms in let u = lasts_date other.node.state.config.lease (clock_of w (nodes.Client (client d))).0 y.session f lasts in omega (arith, t, u) }))
 
   pub all_unheld : (d : ℕ) (other : ClientSite) → Running w d other → (xs : List Association) → ((y : Association) → Has y xs → Has y other.node.state.associations) → All_there w xs →
       Unheld e.of.file other.node.state.config.lease (clock_of w (nodes.Client (client d))).0 xs

@@ -27,7 +27,6 @@ use Rattle.st_assoc.proofs.Lists.{upd_all, upd_both}
 use Rattle.st_lemmas.specs.Lists.{Has}
 use Rattle.st_lemmas.proofs.Tables.{has_append}
 use Rattle.st_lemmas.proofs.Numbers.{numbered_own}
-use Rattle.st_assoc.proofs.World.{invariant}
 use Rattle.st_views.specs.Messages.{Heard}
 use Rattle.st_views.specs.Halves.{client_at, client_of, Ghost, half_of}
 use Rattle.st_views.proofs.Moves.{Grows, moves_grow, moved}
@@ -36,7 +35,6 @@ use Rattle.st_laws_server.specs.Pair.{life_now, client_view, client_at_site, cli
 use Rattle.st_laws_server.proofs.Goes.{sound_more}
 use Rattle.st_laws_server.specs.Pair.{pair}
 use Rattle.st_laws_server.proofs.Delivery.{wire_more}
-use Rattle.st_laws_server.specs.Stands.{pairs}
 use Rattle.st_laws_client.specs.Shown.{Beside, Lost_note, Losses}
 use Rattle.st_laws_client.specs.Law.{Comes, Heard_of, Life_ends}
 use Rattle.st_laws_client.specs.World.{sent, Sim, stepped, site_left, world_left, World_left, Own_moves, lost_life, lost_lives}
@@ -336,4 +334,3 @@ module _ (k : Config) (ok : Config_ok k) (s : ℕ) (w : World) (node : ServerNod
               go : (e : LeaseLife) {l : ℕ} → e.client.0 ≡ d → e.server.0 ≡ s → Has e w.ended ⊎ (Fact e.server e.life × (e.client.0 ≡ c) × (e.end ≡ cl.lease_end_with site.node.state e.server)) → All_past d s l w.ended → e.life.0 < l
               go e ec es (inl i) p = p e i ec es
               go e ec es (inr z) p = absurd (n (sym ec ∙ z.1))
-

@@ -25,8 +25,6 @@ use Rattle.st_laws_server.specs.View.{Stands_at}
 use Rattle.st_laws_server.specs.Pair.{life_now, client_view, client_at_site, client_in, stamp_number, Ended_by, Wires, Served}
 use Rattle.st_laws_server.specs.Pair.{pair}
 use Rattle.st_laws_client.specs.Law.{Apart, Place}
-use Rattle.st_assoc.proofs.World.{invariant}
-use Rattle.st_laws_server.specs.Stands.{pairs}
 use Rattle.st_laws_elders.specs.Paths.{Leads}
 use Rattle.st_laws_elders.specs.Paths.{Worked_on}
 use Rattle.st_laws.specs.Stands.{All_past, Standing, Both}

@@ -1,15 +1,13 @@
 -- A client's crash, in the machine of each server: the client is in its next life, and all else is as it was.
-use Rattle.std.proofs.Common.{◌≡◌, ◌≢◌, ℕ, ◌+◌, ◌*◌, ◌<◌, ◌≤◌, ◌⊎◌, Bool, true, false, List, [], ◌∷◌, ◌++◌, refl, sym, ap, ◌∙◌, subst, inl, inr, arith}
-use Rattle.std.specs.Prelude.{length, map, Option, Some, None, Ok, unwrap_or}
+use Rattle.std.proofs.Common.{◌≡◌, ◌≢◌, ℕ, ◌+◌, ◌*◌, true, false, refl, sym, ap, ◌∙◌}
+use Rattle.std.specs.Prelude.{length, Option, Some, None, unwrap_or}
 use Rattle.st_base.specs.declared.ids.Stamp.{Stamp}
 use Rattle.st_base.specs.declared.ids.NodeId.TheVariants as nodes
-use Rattle.st_messages.specs.declared.event.Event.{Event}
-use Rattle.st_messages.specs.declared.event.Event.TheVariants as events
 use Rattle.st_rules.specs.Keys.{client}
 use Rattle.st_rules.specs.ClientPages.{empty_store}
 use Rattle.st_rules.specs.ClientState.{Association}
 use Rattle.st_rules.specs.Client as cl
-use Rattle.st_rules.specs.World.{World, ClientSite, numbered, node_of, site_of, clock_of, stamp, server}
+use Rattle.st_rules.specs.World.{World, ClientSite, numbered, site_of, clock_of, stamp, server}
 use Rattle.st_rules.specs.Server.{ServerNode}
 use Rattle.st_rules.specs.Events as ev
 use Rattle.st_rules.specs.Events.{Scene, counted, world_step}
@@ -20,16 +18,11 @@ use Rattle.st_lemmas.proofs.Numbers.{numbered_own, numbered_other}
 use Rattle.st_views.specs.Halves.{client_at, client_of, Ghost, half_of}
 use Rattle.st_laws_server.specs.Pair.{client_view, client_at_site, client_in, pair}
 use Rattle.st_laws_server.specs.Stands.{pairs}
-use Rattle.st_laws_server.proofs.Counts.{few_more}
 use Rattle.st_laws_client.specs.Law.{Place}
 use Rattle.st_laws.specs.Stands.{Standing, Both}
-use Rattle.st_laws.specs.World.{AllStand, Is_full, Server_stands}
 use Rattle.st_laws.proofs.Pairs.{length_set, numbered_some, found_at_place, own_view}
 use Rattle.st_laws_elders.specs.Frozen.{Crashed}
-use Rattle.st_laws_elders.specs.Paths.{pairs_of}
 use Rattle.st_laws_elders.proofs.Crashes.{crashed, place_map}
-use Rattle.st_laws_elders.proofs.Everywhere.{timed_on}
-use Rattle.st_laws_elders.proofs.Fold.{counted_same, same}
 
 module _ (k : Config) (ok : Config_ok k) (s : ℕ) (w : World) (node : ServerNode) (ended : ℕ → ℕ → ℕ) (G : ℕ → Ghost) (c : ℕ) (site : ClientSite) (b : Both k s w node ended G) (there : site_of w (client c) ≡ Some site) (runs : site.node.running ≡ true) where
   abbrev v : World
@@ -88,5 +81,5 @@ module _ (k : Config) (ok : Config_ok k) (s : ℕ) (w : World) (node : ServerNod
       others : (d : ℕ) → d ≢ c → pair d s (upd ended c ends d) v node (G d) ≡ pair d s (ended d) w node (G d)
       others d n =
           let x : client_in v d s (upd ended c ends d) ≡ client_in w d s (ended d) =
-              ap (client_in v d s) (upd-other ended c ends d n) ∙ ap (client_at_site v d s (ended d)) (site_d d n) ∙ same_view d (ended d) (site_of w (client d)) in
+          ap (client_in v d s) (upd-other ended c ends d n) ∙ ap (client_at_site v d s (ended d)) (site_d d n) ∙ same_view d (ended d) (site_of w (client d)) in
           λ j. record { c = x j; s = half_of (client d) (clock_s j) node.running node.state (G d); net = (G d).net }

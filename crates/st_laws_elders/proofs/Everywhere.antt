@@ -292,14 +292,18 @@ module _ (k : Config) (count : ℕ) (H : ℕ → net.World → Type 0) (w : Worl
         messages = λ m h. new m (all_messages (server t) out (quiet w1) m (subst (λ (x : Scene). Has m x.world.net.messages) says h));
         own =
             record {
-            stands = record {
-              ended = z.ended;
-              ghosts = l.step.ghosts;
-              both = both_on k t w sc.world node l.node2 z.ended z.ghosts l.step.ghosts l.step.parts.clients l.step.parts.ended l.step.grows z.both l.step.stands;
-              timed = timed_on k t w sc.world z.ghosts l.step.ghosts z.timed l.step.parts.config l.step.parts.drift l.step.parts.clocks (λ j. length (l.step.parts.clients j)) many l.step.drift;
-              calm = l.calm z.calm;
-              few = l.few z.few;
-            }; from = y.from; is = y.is; path = l.step.keeps y.from y.path };
+              stands = record {
+                ended = z.ended;
+                ghosts = l.step.ghosts;
+                both = both_on k t w sc.world node l.node2 z.ended z.ghosts l.step.ghosts l.step.parts.clients l.step.parts.ended l.step.grows z.both l.step.stands;
+                timed = timed_on k t w sc.world z.ghosts l.step.ghosts z.timed l.step.parts.config l.step.parts.drift l.step.parts.clocks (λ j. length (l.step.parts.clients j)) many l.step.drift;
+                calm = l.calm z.calm;
+                few = l.few z.few;
+              };
+              from = y.from;
+              is = y.is;
+              path = l.step.keeps y.from y.path;
+            };
       }
     where
       z : Server_stands k w t node
@@ -401,14 +405,19 @@ module _ (k : Config) (count : ℕ) (H : ℕ → net.World → Type 0) (w : Worl
           subst (λ (x : Scene). After x.world) (sym now)
           (by_server t v
           (placed t node (crash_node node) at
-          (record { stands = record {
-            ended = z.ended;
-            ghosts = z.ghosts;
-            both = both_on k t w v node (crash_node node) z.ended z.ghosts z.ghosts refl refl (λ c m i. i) z.both (subst (λ (x : Scene). Stands k t z.ended x.world (crash_node node) z.ghosts) now st);
-            timed = timed_on k t w v z.ghosts z.ghosts z.timed refl refl refl refl (many_placed t (crash_node node)) (λ c. refl);
-            calm = calm_crash node.state;
-            few = few_crash w.net.bytes node.state;
-          }; path = crash_leads k t z.ended w node z.ghosts a.sound runs z.both.stands y.from y.path; from = y.from; is = y.is })))
+          (record {
+            stands = record {
+              ended = z.ended;
+              ghosts = z.ghosts;
+              both = both_on k t w v node (crash_node node) z.ended z.ghosts z.ghosts refl refl (λ c m i. i) z.both (subst (λ (x : Scene). Stands k t z.ended x.world (crash_node node) z.ghosts) now st);
+              timed = timed_on k t w v z.ghosts z.ghosts z.timed refl refl refl refl (many_placed t (crash_node node)) (λ c. refl);
+              calm = calm_crash node.state;
+              few = few_crash w.net.bytes node.state;
+            };
+            path = crash_leads k t z.ended w node z.ghosts a.sound runs z.both.stands y.from y.path;
+            from = y.from;
+            is = y.is;
+          })))
 
   server_starts : (t : ℕ) (sc : Scene) → admissible.refusal w (events.Start (nodes.Server (server t))) ≡ None → sc ≡ happens (counted w) (events.Start (nodes.Server (server t))) →
       world_step w (events.Start (nodes.Server (server t))) ≡ Ok sc → After sc.world
@@ -433,14 +442,19 @@ module _ (k : Config) (count : ℕ) (H : ℕ → net.World → Type 0) (w : Worl
           subst (λ (x : Scene). After x.world) (sym now)
           (by_server t v
           (placed t node next at
-          (record { stands = record {
-            ended = z.ended;
-            ghosts = S;
-            both = both_on k t w v node next z.ended z.ghosts S refl refl (λ c m i. i) z.both (subst (λ (x : Scene). Stands k t z.ended x.world next S) now st);
-            timed = timed_on k t w v z.ghosts S z.timed refl refl refl refl (many_placed t next) (λ c. refl);
-            calm = calm_start node.state now_;
-            few = few_start w.net.bytes node.state now_;
-          }; path = start_leads k t z.ended w node z.ghosts a.sound a.waits down z.both.stands y.from y.path; from = y.from; is = y.is })))
+          (record {
+            stands = record {
+              ended = z.ended;
+              ghosts = S;
+              both = both_on k t w v node next z.ended z.ghosts S refl refl (λ c m i. i) z.both (subst (λ (x : Scene). Stands k t z.ended x.world next S) now st);
+              timed = timed_on k t w v z.ghosts S z.timed refl refl refl refl (many_placed t next) (λ c. refl);
+              calm = calm_start node.state now_;
+              few = few_start w.net.bytes node.state now_;
+            };
+            path = start_leads k t z.ended w node z.ghosts a.sound a.waits down z.both.stands y.from y.path;
+            from = y.from;
+            is = y.is;
+          })))
 
   -- time passes
   passes : (steps : List ℕ) → length steps ≡ length w.clocks → world_step w (events.Advance steps) ≡ Ok (happens (counted w) (events.Advance steps)) → After (happens (counted w) (events.Advance steps)).world

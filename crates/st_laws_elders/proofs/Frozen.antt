@@ -1,8 +1,6 @@
 -- A life that a crash ended stands still through the moves of its association, up to its lease end.
-use Rattle.std.proofs.Common.{◌≡◌, ◌≢◌, ℕ, ◌+◌, ◌<◌, ◌≤◌, ◌⊎◌, Bool, true, false, List, ◌∷◌, refl, sym, ap, ◌∙◌, subst, inl, inr, arith}
-use Rattle.st_assoc.specs.Assoc as net
-use Rattle.st_assoc.specs.Assoc.{Config, Config_ok, Alive, Lock, Msg, Body, Row, upd, Client, Assoc, In, msg, Move, Moves, Stays, Goes_on, steady, World, Shared, In_service, Rows_compat, Step, Work, Reached, Then, Works, Hello, Plain, Reassert, Reasserted, Granted, Welcome, Other_epoch, Advance, Greets, Asks, Loses, Crashes, Begins, Renews, Installs, Asked_of_none, Asked, Declines, Repeats, Again, Sweeps, Reduces, Adopts, Reasserts, Settles, Rests, Welcomes, Welcomes_again, Acks, Refuses, Accepts, Suspects, Steals, Grace_ends, Grants, Grants_again, Demands, Releases, Rises, Stops, Starts}
-use Rattle.st_assoc.proofs.Lists.{upd_all, upd_both}
+use Rattle.std.proofs.Common.{◌≡◌, ℕ, ◌+◌, ◌<◌, ◌≤◌, ◌⊎◌, Bool, true, false, List, ◌∷◌, refl, sym, ◌∙◌, subst, inl, inr, arith}
+use Rattle.st_assoc.specs.Assoc.{Config, Config_ok, Msg, Client, Assoc, In, msg, Move, Moves, Stays, Goes_on, steady, Works, Hello, Reassert, Reasserted, Welcome, Other_epoch, Advance, Greets, Asks, Loses, Crashes, Begins, Renews, Installs, Asked_of_none, Asked, Declines, Repeats, Again, Sweeps, Reduces, Adopts, Reasserts, Settles, Rests, Welcomes, Welcomes_again, Acks, Refuses, Accepts, Suspects, Steals, Grace_ends, Grants, Grants_again, Demands, Releases, Rises, Stops, Starts}
 use Rattle.st_assoc.proofs.Claims.{in_service}
 use Rattle.st_assoc.proofs.Invariant.{Invariant, kept_one}
 use Rattle.st_laws_elders.specs.Frozen.{is_bare, stood, Split, Unserved}

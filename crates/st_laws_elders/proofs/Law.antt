@@ -1,5 +1,5 @@
 -- The lives of pending entries that a crash ended stand still from the start of a run on, and through every event.
-use Rattle.std.proofs.Common.{◌≡◌, ℕ, ◌+◌, true, false, Option, Some, None, Ok, refl, sym, ap, ◌∙◌, subst}
+use Rattle.std.proofs.Common.{◌≡◌, ℕ, true, Option, Some, None, Ok, refl, sym, ap, ◌∙◌, subst}
 use Rattle.st_base.specs.declared.ids.ClientId.{ClientId}
 use Rattle.st_base.specs.declared.ids.NodeId.TheVariants as nodes
 use Rattle.st_messages.specs.declared.ask.Ask.{Ask}
@@ -19,7 +19,7 @@ use Rattle.st_laws.proofs.Everywhere.{stays}
 use Rattle.st_laws_reads.specs.World.{CopiesHold}
 use Rattle.st_laws_elders.specs.Elders.{Elders_begin, Elders_hold, Elders_stand_alone, Events_keep_elders}
 use Rattle.st_laws_elders.proofs.Aloneness.{elders_alone}
-use Rattle.st_laws_elders.proofs.Falling.{V, elders_fall}
+use Rattle.st_laws_elders.proofs.Falling.{elders_fall}
 use Rattle.st_laws_elders.proofs.Stepping.{elders_go_on}
 
 pub first : Elders_begin

@@ -1,5 +1,5 @@
 -- Reads return the last writes throughout a run: what is pending of lives that are over stands alone at each step.
-use Rattle.std.proofs.Common.{◌≡◌, ℕ, ◌+◌, true, false, List, [], ◌∷◌, ◌++◌, Option, Some, None, Ok, Err, refl}
+use Rattle.std.proofs.Common.{◌≡◌, ℕ, ◌+◌, true, List, [], ◌∷◌, ◌++◌, Option, Some, None, Ok, Err, refl}
 use Rattle.std.specs.Prelude.{Result}
 use Rattle.std.specs.List.{list_all}
 use Rattle.st_base.specs.declared.ids.NodeId.TheVariants as nodes
@@ -20,7 +20,7 @@ use Rattle.st_laws.proofs.Runs.{full}
 use Rattle.st_laws_copies.specs.World.{Taking, taken}
 use Rattle.st_laws_reads.specs.Events.{Elders_alone}
 use Rattle.st_laws_reads.specs.Left.{Others_left}
-use Rattle.st_laws_reads.specs.Runs.{Is_owed, Taken_owed}
+use Rattle.st_laws_reads.specs.Runs.{Taken_owed}
 use Rattle.st_laws_reads.proofs.Reading.{known}
 use Rattle.st_laws_reads.proofs.Runs.{Stood, at_first, next}
 use Rattle.st_laws_elders.specs.Elders.{Elders_hold}

@@ -16,8 +16,6 @@ use Rattle.st_views.specs.Halves.{Ghost, half_of}
 use Rattle.st_lemmas.proofs.Numbers.{numbered_own}
 use Rattle.st_laws_server.specs.View.{Stopped, Stands_at}
 use Rattle.st_laws_server.specs.Pair.{client_in, pair}
-use Rattle.st_assoc.proofs.World.{invariant}
-use Rattle.st_laws_server.specs.Stands.{pairs}
 use Rattle.st_laws_elders.specs.Paths.{Leads, Stepped_on}
 use Rattle.st_laws_server.proofs.Delivery.{taken, sound_of}
 use Rattle.st_laws_server.proofs.Epochs as epochs

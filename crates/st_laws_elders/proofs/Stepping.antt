@@ -1,8 +1,7 @@
 -- Lives that a crash ended stand still through each event at which no client crashes.
-use Rattle.std.proofs.Common.{◌≡◌, ℕ, ◌+◌, ◌<◌, ◌≤◌, ◌⊎◌, Bool, true, false, List, [], ◌∷◌, Option, Some, None, Ok, refl, sym, ap, ◌∙◌, subst, inl, inr, arith}
+use Rattle.std.proofs.Common.{◌≡◌, ℕ, ◌<◌, ◌⊎◌, List, [], ◌∷◌, Option, Some, None, Ok, refl, sym, ap, ◌∙◌, subst, inl, inr, arith}
 use Rattle.st_base.specs.declared.ids.ClientId.{ClientId}
 use Rattle.st_base.specs.declared.ids.NodeId.TheVariants as nodes
-use Rattle.st_base.specs.declared.ids.Stamp.{Stamp}
 use Rattle.st_messages.specs.declared.event.Event.{Event}
 use Rattle.st_messages.specs.declared.event.Event.TheVariants as events
 use Rattle.st_rules.specs.declared.log.LogEntry.{LogEntry}
@@ -11,8 +10,7 @@ use Rattle.st_rules.specs.declared.world.LeaseLife.{LeaseLife}
 use Rattle.st_rules.specs.Admissible as adm
 use Rattle.st_rules.specs.Client.{association_with}
 use Rattle.st_rules.specs.ClientState.{Association}
-use Rattle.st_rules.specs.Events.{Scene, counted, happens, world_step}
-use Rattle.st_rules.specs.FlatLog.{is_pending}
+use Rattle.st_rules.specs.Events.{Scene, counted, world_step}
 use Rattle.st_rules.specs.Keys.{client}
 use Rattle.st_rules.specs.Server.{ServerNode}
 use Rattle.st_rules.specs.World as world
@@ -21,10 +19,9 @@ use Rattle.st_assoc.specs.Assoc as net
 use Rattle.st_assoc.specs.Assoc.{Config}
 use Rattle.st_lemmas.proofs.Steps.{step_happens}
 use Rattle.st_laws_pages.specs.Fates.{Before_end, Pending_all}
-use Rattle.st_laws_pages.specs.Lives.{Ended_holds, LivesHold}
+use Rattle.st_laws_pages.specs.Lives.{LivesHold}
 use Rattle.st_laws_pages.proofs.Living.{row_is}
 use Rattle.st_laws_server.specs.Pair.{client_at_site, client_in, client_view, stamp_number}
-use Rattle.st_laws_server.specs.Stands.{pairs}
 use Rattle.st_laws.specs.World.{AllStand, Is_full, Server_stands}
 use Rattle.st_laws_elders.specs.Paths.{Came_from, Followed, Here, Led, Led_server, pairs_of, Events_are_paths}
 use Rattle.st_laws_elders.specs.Frozen.{Frozen_life, Is_over}
@@ -118,7 +115,7 @@ module _ (k : Config) (count : ℕ) (w : World) (h : Elders_hold k count w) (e :
         all = followed.after;
         elders = pending_both (Before_end sc.world) (Of_crashed (Stands_still k count w h.all) sc.world) (Of_crashed (Stands_still k count sc.world followed.after) sc.world) sc.world.log
             (λ o b g row q crashed next at.
-                let from = followed.came o.file.server.0 next at in
-                still_on k count w sc.world h.all followed.after o row q b next (followed.after.servers o.file.server.0 next at) from (g row q crashed from.node from.before))
+            let from = followed.came o.file.server.0 next at in
+            still_on k count w sc.world h.all followed.after o row q b next (followed.after.servers o.file.server.0 next at) from (g row q crashed from.node from.before))
             followed.after.fates.pending was.pending;
       }

@@ -1,13 +1,11 @@
 -- What is pending of lives that a crash ended was so before, through each event at which no client crashes.
-use Rattle.std.proofs.Common.{◌≡◌, ℕ, ◌+◌, ◌<◌, ◌⊎◌, Bool, true, false, List, [], ◌∷◌, ◌++◌, Option, Some, None, Ok, refl, sym, ap, ◌∙◌, subst, inl, inr, arith}
+use Rattle.std.proofs.Common.{◌≡◌, ℕ, Bool, true, false, List, [], ◌∷◌, ◌++◌, Option, Some, None, Ok, refl, sym, ap, ◌∙◌, subst, inl, inr, arith}
 use Rattle.std.specs.Prelude.{find, map}
-use Rattle.st_base.specs.declared.config.Config as base
 use Rattle.st_base.specs.declared.ids.ClientId.{ClientId}
 use Rattle.st_base.specs.declared.ids.FileId.{FileId}
 use Rattle.st_base.specs.declared.ids.Life.{Life}
 use Rattle.st_base.specs.declared.ids.NodeId.TheVariants as nodes
 use Rattle.st_base.specs.declared.ids.PageNo.{PageNo}
-use Rattle.st_base.specs.declared.ids.ServerId.{ServerId}
 use Rattle.st_base.specs.declared.ids.Stamp.{Stamp}
 use Rattle.st_messages.specs.declared.event.Event.{Event}
 use Rattle.st_messages.specs.declared.event.Event.TheVariants as events
@@ -32,9 +30,7 @@ use Rattle.st_rules.specs.Server.{ServerNode}
 use Rattle.st_rules.specs.World as world
 use Rattle.st_rules.specs.World.{World, ClientSite, Net, Tally, clock_of, ended_of, is_life_of, numbered, site_of, with_numbered}
 use Rattle.st_lemmas.specs.Lists.{Has}
-use Rattle.st_lemmas.proofs.Lookups.{some_is}
 use Rattle.st_lemmas.proofs.Numbers.{numbered_own}
-use Rattle.st_lemmas.proofs.Tables.{has_append}
 use Rattle.st_laws_pages.specs.Fates.{Pending_all}
 use Rattle.st_laws_pages.specs.Lives.{All_known, ended_rows, LivesHold, Node_holds, owner_of, Stepped}
 use Rattle.st_laws_pages.specs.Losses.{Fit}
@@ -52,7 +48,7 @@ use Rattle.st_laws_pages.proofs.Living.{row_is}
 use Rattle.st_laws_pages.proofs.Noting.{step_notes}
 use Rattle.st_laws_pages.proofs.Turning.{Said, client_lives, known_owner, owners_more, says_lives}
 use Rattle.st_laws_elders.specs.Elders.{Of_crashed, Tracked}
-use Rattle.st_laws_elders.proofs.Calm.{Cases, each_event}
+use Rattle.st_laws_elders.proofs.Calm.{each_event}
 
 -- a lease that is lost is no crash
 uncrashed : (c : ClientId) (s : ClientState) (os : List Output) (row : LeaseLife) → Has row (ended_rows c s os) → row.crashed ≡ false

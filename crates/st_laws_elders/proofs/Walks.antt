@@ -1,13 +1,12 @@
 -- A life that a crash ended stands still along the machine's paths; it begins at the crash; and no lock is beside it.
-use Rattle.std.proofs.Common.{◌≡◌, ◌≢◌, ℕ, zero, suc, ◌+◌, ◌<◌, ◌≤◌, ◌⊎◌, Bool, true, false, List, ◌∷◌, refl, sym, ap, ◌∙◌, subst, inl, inr, arith}
-use Rattle.st_assoc.specs.Assoc as net
-use Rattle.st_assoc.specs.Assoc.{Alive, Config, Config_ok, Msg, Row, upd, next_life, Client, Assoc, In, Move, Moves, Stays, Goes_on, steady, World, Shared, In_service, Rows_compat, Step, Work, Reached, Then, Works}
+use Rattle.std.proofs.Common.{◌≡◌, ◌≢◌, ℕ, zero, suc, ◌+◌, ◌<◌, ◌≤◌, ◌⊎◌, Bool, true, false, List, refl, sym, ap, ◌∙◌, subst, inl, inr, arith}
+use Rattle.st_assoc.specs.Assoc.{Alive, Config, Config_ok, Msg, Row, upd, Client, Assoc, Move, Moves, Stays, Goes_on, steady, World, Shared, In_service, Rows_compat, Step, Work, Reached, Then, Works}
 use Rattle.st_assoc.proofs.Lists.{upd_all, upd_both, upd-same, upd-other}
 use Rattle.st_assoc.proofs.Invariant.{Invariant}
 use Rattle.st_assoc.proofs.World.{invariant, exclusive}
 use Rattle.st_laws_elders.specs.Paths.{Path, Here, Stepped_on, Worked_on}
-use Rattle.st_laws_elders.specs.Frozen.{stood, Split, Unserved, replaced, Frozen_life, Crashed, Is_over, Locked_half, Paths_keep_lives, Crashes_leave_lives, Lives_stand_alone}
-use Rattle.st_laws_elders.proofs.Frozen.{one, all, no_less, still}
+use Rattle.st_laws_elders.specs.Frozen.{stood, Unserved, replaced, Frozen_life, Is_over, Locked_half, Paths_keep_lives, Crashes_leave_lives, Lives_stand_alone}
+use Rattle.st_laws_elders.proofs.Frozen.{one, all, no_less}
 
 -- What the server has is the same, also where an association is replaced.
 module _ (W : World) (c : ℕ) (A : Assoc) (row : A.s.row ≡ (W.at c).s.row) (up : A.s.up ≡ (W.at c).s.up) (grace : A.s.grace ≡ (W.at c).s.grace) where
@@ -142,10 +141,10 @@ module _ (k : Config) (ok : Config_ok k) (c i : ℕ) (C : Client) (locked : Lock
           let p : upd W.at c X c ≡ X = upd-same W.at c X in
           let q : upd W.at c X d ≡ W.at d = upd-other W.at c X d ne in
           let r = exclusive k (replaced W c X) ok f.reached c d i (λ (e : c ≡ d). ne (sym e))
-              (subst (λ (a : Assoc). Alive k a.c) (sym p) (record { leased = locked.leased; lasts = t }))
-              (subst (λ (a : Assoc). Alive k a.c) (sym q) h)
-              (subst (λ (a : Assoc). 1 ≤ (a.c.held i).mode) (sym p) some)
-              (subst (λ (a : Assoc). 1 ≤ (a.c.held i).mode) (sym q) (omega (arith, e))) in
+          (subst (λ (a : Assoc). Alive k a.c) (sym p) (record { leased = locked.leased; lasts = t }))
+          (subst (λ (a : Assoc). Alive k a.c) (sym q) h)
+          (subst (λ (a : Assoc). 1 ≤ (a.c.held i).mode) (sym p) some)
+          (subst (λ (a : Assoc). 1 ≤ (a.c.held i).mode) (sym q) (omega (arith, e))) in
           let u = ap (λ (a : Assoc). (a.c.held i).mode) p in let v = ap (λ (a : Assoc). (a.c.held i).mode) q in let two = locked.exclusive in
           absurd (omega (arith, r, u, v, two, e))
 
