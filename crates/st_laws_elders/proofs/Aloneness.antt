@@ -1,6 +1,6 @@
 -- What is pending of lives that are over stands alone: such a life stands still with an exclusive lock on the file.
 use Rattle.std.proofs.Common.{◌≡◌, ℕ, ◌+◌, ◌<◌, ◌≤◌, Bool, true, false, ◌&&◌, ◌==◌, List, [], ◌∷◌, Option, Some, None, refl, sym, ap, ◌∙◌, subst, inl, inr, arith}
-use Rattle.std.specs.Prelude.{find, map, option_map}
+use Rattle.std.specs.Prelude.{length, find, map, option_map}
 use Rattle.std.proofs.lemmas.Bool.{eq-eqb}
 use Rattle.st_base.specs.declared.ids.ClientId.{ClientId}
 use Rattle.st_base.specs.declared.ids.NodeId.TheVariants as nodes
@@ -30,6 +30,7 @@ use Rattle.st_laws_pages.proofs.Lasting.{no_option}
 use Rattle.st_laws_pages.proofs.Living.{row_is}
 use Rattle.st_laws.specs.Stands.{Standing}
 use Rattle.st_laws.specs.World.{Server_stands, There}
+use Rattle.st_laws.proofs.Everywhere.{numbered_is}
 use Rattle.st_laws.proofs.Pairs.{only_here, own_view}
 use Rattle.st_laws_copies.specs.World.{Unheld}
 use Rattle.st_laws_reads.specs.Events.{Elder, Elders_alone}
@@ -159,5 +160,11 @@ module _ (k : Config) (count : ℕ) (w : World) (h : Elders_hold k count w) (e :
   all_unheld d other run [] f t = record {}
   all_unheld d other run (y ∷ xs) f t = record { one = λ l sv. unheld d other run y (f y (inl refl)) t.one l sv; rest = all_unheld d other run xs (λ x i. f x (inr i)) t.rest }
 
-pub elders_alone : (k : Config) (count : ℕ) (w : World) → Elders_hold k count w → ((d : ℕ) (site : ClientSite) → site_of w (client d) ≡ Some site → All_there w site.node.state.associations) → Elders_alone w
-elders_alone k count w h there e logged pending elder d other run = all_unheld k count w h e logged pending elder d other run other.node.state.associations (λ y i. i) (there d other run.there)
+pub elders_alone : (k : Config) (count : ℕ) (w : World) → Elders_hold k count w →
+    ((d : ℕ) (site : ClientSite) → site_of w (client d) ≡ Some site → (a : Association) → Has a site.node.state.associations → (1 ≤ a.server.0) × (a.server.0 ≤ length w.servers)) → Elders_alone w
+elders_alone k count w h placed e logged pending elder d other run =
+    all_unheld k count w h e logged pending elder d other run other.node.state.associations (λ y i. i) (there other.node.state.associations (λ y i. placed d other run.there y i))
+  where
+    there : (xs : List Association) → ((a : Association) → Has a xs → (1 ≤ a.server.0) × (a.server.0 ≤ length w.servers)) → All_there w xs
+    there [] f = record {}
+    there (a ∷ xs) f = let z = f a (inl refl) in let n = numbered_is w.servers a.server.0 z.0 z.1 in record { one = record { node = n.0; is = n.1 }; rest = there xs (λ y i. f y (inr i)) }

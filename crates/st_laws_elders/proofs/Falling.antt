@@ -1,6 +1,6 @@
 -- A client's crash: the lives that it ends stand still, with the locks of what is pending, and those that stood still do so on.
-use Rattle.std.proofs.Common.{◌≡◌, ◌≢◌, ℕ, ◌+◌, ◌<◌, ◌≤◌, ◌⊎◌, true, false, ◌&&◌, ◌==◌, List, [], ◌∷◌, Option, Some, None, refl, sym, ap, ◌∙◌, subst, inl, inr, arith, eqb}
-use Rattle.std.specs.Prelude.{map, is_some, option_map}
+use Rattle.std.proofs.Common.{Bool, ◌||◌, ◌≡◌, ◌≢◌, ℕ, ◌+◌, ◌<◌, ◌≤◌, ◌⊎◌, true, false, ◌&&◌, ◌==◌, List, [], ◌∷◌, Option, Some, None, refl, sym, ap, ◌∙◌, subst, inl, inr, arith, eqb}
+use Rattle.std.specs.Prelude.{find, map, is_some, option_map}
 use Rattle.std.proofs.lemmas.Bool.{eq-eqb}
 use Rattle.std.proofs.lemmas.Bool.Decides.{eqb_tells}
 use Rattle.st_base.specs.declared.config.Config as base
@@ -17,7 +17,7 @@ use Rattle.st_rules.specs.declared.pages.DirtyPage.{DirtyPage}
 use Rattle.st_rules.specs.declared.world.LeaseLife.{LeaseLife}
 use Rattle.st_rules.specs.Client as cl
 use Rattle.st_rules.specs.ClientLease as lease
-use Rattle.st_rules.specs.ClientPages.{Store, dirty_of}
+use Rattle.st_rules.specs.ClientPages.{has_dirty, has_write_on, is_dirty_of, is_dirty_on}
 use Rattle.st_rules.specs.ClientState.{Association, ClientSession}
 use Rattle.st_rules.specs.Events as ev
 use Rattle.st_rules.specs.Events.{counted, is_hard_fate}
@@ -26,15 +26,20 @@ use Rattle.st_rules.specs.FlatLog.{is_of_life, is_pending}
 use Rattle.st_rules.specs.Keys.{client, server_node}
 use Rattle.st_rules.specs.Server.{ServerNode}
 use Rattle.st_rules.specs.World.{World, ClientSite, clock_of, end_or_present, ended_of, is_life_of, lease_end_of, life_of_association, lives_of, node_of, server, site_of}
+use Rattle.st_assoc.proofs.World.{exactly}
 use Rattle.st_assoc.specs.Assoc as net
 use Rattle.st_assoc.specs.Assoc.{Config, Crashes, Goes_on, In_service, Moves, Row, Rows_compat, Stays, next_life, upd}
 use Rattle.st_lemmas.specs.Lists.{Has}
-use Rattle.st_lemmas.proofs.Tables.{has_map}
+use Rattle.st_lemmas.proofs.Tables.{and_true, found_at, has_map}
 use Rattle.st_views.specs.Halves.{client_of, date_in, held_in, leased_in}
 use Rattle.st_laws_client.specs.Shown.{Lasts}
 use Rattle.st_laws_server.specs.Pair.{client_in, stamp_number}
 use Rattle.st_laws_server.proofs.Counts.{few_more}
 use Rattle.st_laws_pages.specs.Fates.{Before_end, Pending_all}
+use Rattle.st_laws_pages.specs.Flush.{Dirty_here}
+use Rattle.st_base.specs.declared.ids.PageNo.{PageNo}
+use Rattle.st_rules.specs.declared.pages.DirtyPage.{DirtyPage}
+use Rattle.std.specs.List.{list_any}
 use Rattle.st_laws_pages.proofs.FateLaw.{pending_fewer}
 use Rattle.st_laws_pages.proofs.Lives.{find_back, find_front}
 use Rattle.st_laws_pages.proofs.Living.{row_is}
@@ -92,14 +97,18 @@ pending_from : (P : LogOwner → Type 0) (es : List LogEntry) → ((e : LogEntry
 pending_from P [] f = record {}
 pending_from P (e ∷ es) f = record { one = f e (inl refl); rest = pending_from P es (λ x i. f x (inr i)) }
 
-fate_at : (c : ClientId) (life : Life) (sv : ServerId) (x : Store) (es : List LogEntry) (e : LogEntry) → Fates_ok c life sv x es → Has e es → Fate_ok c life sv x e
-fate_at c life sv x [] e r h = elim h [ ]
-fate_at c life sv x (y ∷ es) e r (inl q) = subst (λ (z : LogEntry). Fate_ok c life sv x z) (sym q) r.one
-fate_at c life sv x (y ∷ es) e r (inr h) = fate_at c life sv x es e r.rest h
+has_any : {A : Type 0} (q : A → Bool) (xs : List A) (x : A) → Has x xs → q x ≡ true → list_any q xs ≡ true
+has_any q [] x h r = elim h [ ]
+has_any q (y ∷ ys) x (inl e) r = ap (λ b. b || list_any q ys) (ap q (sym e) ∙ r)
+has_any q (y ∷ ys) x (inr h) r = or_right (q y) (list_any q ys) (has_any q ys x h r)
+  where
+    or_right : (a b : Bool) → b ≡ true → (a || b) ≡ true
+    or_right true b e = refl
+    or_right false b e = e
 
-dirty_some : (o : Option DirtyPage) → is_some o ≡ true → (d : DirtyPage) × (o ≡ Some d)
-dirty_some None e = cc
-dirty_some (Some d) e = (d, refl)
+-- a file of a dirty page has a dirty page
+dirty_any : (ino : ℕ) (p : PageNo) (xs : List DirtyPage) (d : DirtyPage) → find (is_dirty_of ino p) xs ≡ Some d → list_any (is_dirty_on ino) xs ≡ true
+dirty_any ino p xs d e = let f = found_at (is_dirty_of ino p) xs d e in has_any (is_dirty_on ino) xs d f.1 (and_true (is_dirty_on ino d) _ f.0).0
 
 -- a lock is under a lease, which has an end
 leased_held : (o : Option ClientSession) (i : ℕ) → 2 ≤ (held_in o i).mode → leased_in o ≡ true
@@ -190,7 +199,7 @@ module _ (k : Config) (count : ℕ) (w : World) (c : ℕ) (site : ClientSite) (t
           end = ap (λ (l : LeaseLife). l.end) is;
         }
 
-    module _ (asked : ℕ → Option Ask) (copies : Client_copies asked (client c) w.log (clock_of w (nodes.Client (client c))) site.node.state) (e : LogEntry) (logged : Has e w.log) (pending : is_pending e.fate ≡ true) where
+    module _ (cared : (a : Association) → Has a site.node.state.associations → Pending_all (Dirty_here (client c) a) w.log) (e : LogEntry) (logged : Has e w.log) (pending : is_pending e.fate ≡ true) where
       abbrev o : LogOwner
       o = e.of
 
@@ -198,35 +207,8 @@ module _ (k : Config) (count : ℕ) (w : World) (c : ℕ) (site : ClientSite) (t
       before = owner_at (Before_end w) w.log e all.fates.pending logged pending
 
       module _ (row : LeaseLife) (x : Own_row row o) where
-        own_life : is_of_life (client c) x.a.server x.a.life o ≡ true
-        own_life =
-            ap (λ z. z && ((o.file.server.0 == x.a.server.0) && (o.life.0 == x.a.life.0))) (eq-eqb o.client.0 c (ap (λ (d : ClientId). d.0) x.client_is))
-            ∙ ap (λ z. z && (o.life.0 == x.a.life.0)) (eq-eqb o.file.server.0 x.a.server.0 (ap (λ (d : ServerId). d.0) x.server_is)) ∙ eq-eqb o.life.0 x.a.life.0 (ap (λ (d : Life). d.0) x.life_is)
-
-        lasts : Lasts site.node.state.config.lease (clock_of w (nodes.Client (client c))).0 x.a.session
-        lasts =
-            lease_lasts w all.fates (client c) site there runs x.a copies.apart x.here
-            (record {
-              end = before.end;
-              is = subst (λ (l : Life). lease_end_of w (client c) x.a.server l ≡ Some before.end) x.life_is
-                  (subst (λ (v : ServerId). lease_end_of w (client c) v o.life ≡ Some before.end) x.server_is (subst (λ (y : ClientId). lease_end_of w y o.file.server o.life ≡ Some before.end) x.client_is before.is));
-              before = subst (λ (y : ClientId). (clock_of w (nodes.Client y)).0 < before.end.0) x.client_is before.before;
-            })
-
-        held : Stands_at (client c) w.log x.a
-        held = (while_at _ _ (client c) w.log site.node.state.associations x.a copies.copies x.here).lasting lasts
-
-        two : 2 ≤ (held_in x.a.session o.file.ino).mode
-        two = go (fate_at (client c) x.a.life x.a.server x.a.store w.log e held.fates logged own_life)
-          where
-            not_hard : (f : Fate) → is_pending f ≡ true → is_hard_fate f ≡ true → ⊥
-            not_hard fates.Pending y z = cc z
-            not_hard fates.Hard y z = cc y
-            not_hard (fates.Gone g) y z = cc y
-
-            go : (is_hard_fate e.fate ≡ true) ⊎ (is_some (dirty_of x.a.store.pages o.file.ino o.page) ≡ true) → 2 ≤ (held_in x.a.session o.file.ino).mode
-            go (inl y) = absurd (not_hard e.fate pending y)
-            go (inr y) = let q = dirty_some _ y in (held.pages o.file.ino o.page).mode q.0 q.1
+        dirty : has_dirty x.a.store.pages o.file.ino ≡ true
+        dirty = let d = owner_at (Dirty_here (client c) x.a) w.log e (cared x.a x.here) logged pending x.client_is x.server_is x.life_is in dirty_any o.file.ino o.page x.a.store.pages.dirty d.0 d.1
 
         -- the life stands still from now on
         falls : (node : ServerNode) (z : Server_stands k w o.file.server.0 node) → Stood_life k V o.file.server.0 node (stands o.file.server.0 node z) row o
@@ -252,6 +234,13 @@ module _ (k : Config) (count : ℕ) (w : World) (c : ℕ) (site : ClientSite) (t
             view : client_in w c s (z.ended c) ≡ client_of (z.ended c) (clock_of w (nodes.Client (client c))).0 x.a
             view = own_view w c s (z.ended c) site st.association there runs st.sim.place ∙ ap (client_of (z.ended c) (clock_of w (nodes.Client (client c))).0) (sym is)
 
+            -- the page is dirty, so the lock is exclusive
+            two : 2 ≤ (held_in x.a.session o.file.ino).mode
+            two =
+                subst (λ (C : net.Client). 2 ≤ (C.held o.file.ino).mode) view
+                ((exactly k (pairs_of k w s node z) all.sound z.both.stands.reached c).busy o.file.ino
+                (ap (λ (C : net.Client). C.busy o.file.ino) view ∙ ap (λ b. b || has_write_on x.a.store.commands o.file.ino) dirty))
+
             leased : leased_in x.a.session ≡ true
             leased = leased_held x.a.session o.file.ino two
 
@@ -271,5 +260,5 @@ module _ (k : Config) (count : ℕ) (w : World) (c : ℕ) (site : ClientSite) (t
               next (stands o.file.server.0 next z) (came o.file.server.0 next at)
               (owner_at (Of_crashed (Stands_still k count w all) w) w.log e h.elders logged pending row w_row crash next (before_at o.file.server.0 next at))
 
-    pub elders_fall : (asked : ℕ → Option Ask) → Client_copies asked (client c) w.log (clock_of w (nodes.Client (client c))) site.node.state → Elders_hold k count V
-    elders_fall asked copies = record { all = after; elders = log_left (Of_crashed (Stands_still k count V after) V) (pending_from (Of_crashed (Stands_still k count V after) V) w.log (λ e i p. crashed_stand asked copies e i p)) }
+    pub elders_fall : ((a : Association) → Has a site.node.state.associations → Pending_all (Dirty_here (client c) a) w.log) → Elders_hold k count V
+    elders_fall cared = record { all = after; elders = log_left (Of_crashed (Stands_still k count V after) V) (pending_from (Of_crashed (Stands_still k count V after) V) w.log (λ e i p. crashed_stand cared e i p)) }

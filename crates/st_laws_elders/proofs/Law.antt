@@ -1,5 +1,5 @@
 -- The lives of pending entries that a crash ended stand still from the start of a run on, and through every event.
-use Rattle.std.proofs.Common.{◌≡◌, ℕ, true, Option, Some, None, Ok, refl, sym, ap, ◌∙◌, subst}
+use Rattle.std.proofs.Common.{List, ◌≡◌, ℕ, true, Option, Some, None, Ok, refl, sym, ap, ◌∙◌, subst}
 use Rattle.st_base.specs.declared.ids.ClientId.{ClientId}
 use Rattle.st_base.specs.declared.ids.NodeId.TheVariants as nodes
 use Rattle.st_messages.specs.declared.ask.Ask.{Ask}
@@ -16,7 +16,9 @@ use Rattle.st_lemmas.proofs.Tables.{not_false}
 use Rattle.st_laws.specs.World.{AllStand, Is_full}
 use Rattle.st_laws.proofs.Beginning.{begun}
 use Rattle.st_laws.proofs.Everywhere.{stays}
-use Rattle.st_laws_reads.specs.World.{CopiesHold}
+use Rattle.st_rules.specs.Keys.{client}
+use Rattle.st_rules.specs.Safety.{Step}
+use Rattle.st_laws_pages.specs.Flush.{FlushHold}
 use Rattle.st_laws_elders.specs.Elders.{Elders_begin, Elders_hold, Elders_stand_alone, Events_keep_elders}
 use Rattle.st_laws_elders.proofs.Aloneness.{elders_alone}
 use Rattle.st_laws_elders.proofs.Falling.{elders_fall}
@@ -31,7 +33,7 @@ crash_runs : (w : World) (c : ClientId) → adm.refusal w (events.Crash (nodes.C
 unfolding adm.refusal
 crash_runs w c r = not_false _ (stands_not _ _ (or_none _ _ r).1)
 
-module _ (asks : ℕ → ℕ → Option Ask) (k : Config) (count : ℕ) (w : World) (h : Elders_hold k count w) (copies : CopiesHold asks w) where
+module _ (past : List Step) (k : Config) (count : ℕ) (w : World) (h : Elders_hold k count w) (flush : FlushHold past w) where
   crash : (c : ClientId) (sc : Scene) → Is_full w (events.Crash (nodes.Client c)) → world_step w (events.Crash (nodes.Client c)) ≡ Ok sc → Elders_hold k count sc.world
   unfolding ev.happens ev.crashes
   crash c sc full taken = go (site_of w c) refl
@@ -51,7 +53,7 @@ module _ (asks : ℕ → ℕ → Option Ask) (k : Config) (count : ℕ) (w : Wor
           let r : site.node.running ≡ true = ap site_runs (sym f) ∙ runs in
           let here : sc.world ≡ (ev.crashes_client (counted w) c (Some site)).world = happened ∙ ap (λ s. (ev.crashes_client (counted w) c s).world) f in
           subst (Elders_hold k count) (sym here)
-          (elders_fall k count w c.0 site f r h (subst (AllStand k count) here (stays k count w (events.Crash (nodes.Client c)) sc h.all full taken)) (asks c.0) ((copies c.0 site f).runs r))
+          (elders_fall k count w c.0 site f r h (subst (AllStand k count) here (stays k count w (events.Crash (nodes.Client c)) sc h.all full taken)) (λ a i. ((flush.sites c site f r).cared a i).entries))
 
   pub step : (e : Event) (sc : Scene) → Is_full w e → world_step w e ≡ Ok sc → Elders_hold k count sc.world
   step (events.Crash (nodes.Client c)) sc full taken = crash c sc full taken
@@ -68,7 +70,7 @@ module _ (asks : ℕ → ℕ → Option Ask) (k : Config) (count : ℕ) (w : Wor
   step (events.Start n) sc full taken = elders_go_on k count w h _ sc full taken (λ c q. cc q)
 
 pub events_keep : Events_keep_elders
-events_keep asks k count w e sc h copies full taken = step asks k count w h copies e sc full taken
+events_keep past k count w e sc h flush full taken = step past k count w h flush e sc full taken
 
 pub alone : Elders_stand_alone
-alone asks k count w h copies = elders_alone k count w h (λ d site f. (copies d site f).servers)
+alone past k count w h flush = elders_alone k count w h (λ d site f. flush.servers (client d) site f)

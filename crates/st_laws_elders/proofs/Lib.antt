@@ -15,3 +15,4 @@ pub mod Falling
 pub mod Aloneness
 pub mod Law
 pub mod Reading
+pub mod AllRuns

@@ -52,9 +52,9 @@ run k count (e ∷ es) all past t s h o d = go (world_step t.world e) refl o d (
     go (Err r) q o d f = tt
     go (Ok sc) q o d f =
         let in_range = (and_true (is_event count e) (list_all (is_event count) es) all).0 in
-        let elders = counted_alone t.world (alone (known past) k count t.world h s.copies) in
+        let elders = counted_alone t.world (alone past k count t.world h s.stand.both.flush) in
         let z = next k count past t e sc in_range q s o.0 (record { taken = all_owed (counted t.world) e (taken (counted t.world) e) elders d.0.taken; cuts = d.0.cuts }) in
-        (z.0, f (past ++ step t e sc ∷ []) (traced_after e t sc) z.1 (events_keep (known past) k count t.world e sc h s.copies (full count t.world e s.all.nodes in_range) q) o.1 d.1)
+        (z.0, f (past ++ step t e sc ∷ []) (traced_after e t sc) z.1 (events_keep past k count t.world e sc h s.stand.both.flush (full count t.world e s.all.nodes in_range) q) o.1 d.1)
 
 pub reads : Runs_read_beside_elders
 reads k clients servers disks blocks form es head events left =

@@ -1,22 +1,21 @@
 -- What is pending of lives that a crash ended.
-use Rattle.std.specs.Prelude.{◌≡◌, ℕ, ◌+◌, true, Option, Some, Ok}
+use Rattle.std.specs.Prelude.{◌≡◌, ℕ, ◌+◌, true, List, Some, Ok}
 use Rattle.st_base.specs.declared.config.Config as base
-use Rattle.st_messages.specs.declared.ask.Ask.{Ask}
 use Rattle.st_messages.specs.declared.event.Event.{Event}
 use Rattle.st_rules.specs.declared.log.LogOwner.{LogOwner}
 use Rattle.st_rules.specs.declared.world.LeaseLife.{LeaseLife}
 use Rattle.st_rules.specs.Events.{Scene, world_step}
-use Rattle.st_rules.specs.Safety.{IsHead}
+use Rattle.st_rules.specs.Safety.{IsHead, Promise, Step}
 use Rattle.st_rules.specs.Server.{ServerNode}
 use Rattle.st_rules.specs.World.{World, ended_of, fresh_world, node_of, server}
 use Rattle.st_assoc.specs.Assoc.{Client, Config}
 use Rattle.st_laws_pages.specs.Fates.{Pending_all}
+use Rattle.st_laws_pages.specs.Flush.{FlushHold}
 use Rattle.st_laws_pages.specs.Lives.{LivesHold}
 use Rattle.st_laws_server.specs.Pair.{stamp_number, terms_of}
 use Rattle.st_laws_server.specs.Stands.{pairs}
 use Rattle.st_laws.specs.World.{AllStand, Is_full, Server_stands}
 use Rattle.st_laws_reads.specs.Events.{Elders_alone}
-use Rattle.st_laws_reads.specs.World.{CopiesHold}
 use Rattle.st_laws_elders.specs.Frozen.{Frozen_life, Locked_half}
 
 -- a fact of an owner and of the row of its life, if a crash ended it
@@ -52,12 +51,16 @@ Elders_begin =
     (k : base.Config) (clients servers disks blocks form : ℕ) → IsHead k clients servers disks blocks form →
     Elders_hold (terms_of k) (clients + servers) (fresh_world k clients servers disks blocks form)
 
--- Every event leaves them standing still, where the copies of all clients stand before it.
+-- Every event leaves them standing still, where what is pending of present lives is dirty before it.
 abbrev pub Events_keep_elders : Type 0
 Events_keep_elders =
-    (asks : ℕ → ℕ → Option Ask) (k : Config) (count : ℕ) (w : World) (e : Event) (sc : Scene) → Elders_hold k count w → CopiesHold asks w →
+    (past : List Step) (k : Config) (count : ℕ) (w : World) (e : Event) (sc : Scene) → Elders_hold k count w → FlushHold past w →
     Is_full w e → world_step w e ≡ Ok sc → Elders_hold k count sc.world
 
 -- And so what is pending of lives that are over stands alone.
 abbrev pub Elders_stand_alone : Type 0
-Elders_stand_alone = (asks : ℕ → ℕ → Option Ask) (k : Config) (count : ℕ) (w : World) → Elders_hold k count w → CopiesHold asks w → Elders_alone w
+Elders_stand_alone = (past : List Step) (k : Config) (count : ℕ) (w : World) → Elders_hold k count w → FlushHold past w → Elders_alone w
+
+-- It does so at each step of every run.
+abbrev pub Elders_are_alone : Promise
+Elders_are_alone past x = Elders_alone x.before.world

@@ -1,7 +1,8 @@
 //! What is pending of lives that are over stands alone.
 #![tactic(auto)]
 
-ghost use Rattle.st_laws_elders.specs.Elders.{Elders_begin, Elders_stand_alone, Events_keep_elders};
+ghost use Rattle.st_laws.specs.Law.{In_every_run};
+ghost use Rattle.st_laws_elders.specs.Elders.{Elders_are_alone, Elders_begin, Elders_stand_alone, Events_keep_elders};
 ghost use Rattle.st_laws_elders.specs.Frozen.{Crashes_leave_lives, Lives_stand_alone, Paths_keep_lives};
 ghost use Rattle.st_laws_elders.specs.Paths.{Events_are_paths};
 ghost use Rattle.st_laws_elders.specs.Runs.{Runs_read_beside_elders};
@@ -20,8 +21,8 @@ pub fn lives_stand_still()
 {}
 
 /// What is pending of lives that are over stands alone: the lives of pending entries that a crash ended stand still, with an exclusive
-/// lock on the file, from the start of a run on and through every event, where the copies of all clients stand before it; and so no
-/// client that runs has a lock on the file, under a lease that is not over.
+/// lock on the file, from the start of a run on and through every event, where what is pending of present lives is dirty before it; and
+/// so no client that runs has a lock on the file, under a lease that is not over.
 pub fn elders_stand_alone()
     ensures begin { Elders_begin }
     ensures steps { Events_keep_elders }
@@ -31,4 +32,10 @@ pub fn elders_stand_alone()
 /// Reads return the last writes in every run in which each step has what is owed of it, where nothing is owed of lives that are over.
 pub fn runs_read_beside_elders()
     ensures { Runs_read_beside_elders }
+{}
+
+/// In every run, at each of its steps what is pending of lives that are over leaves no client that runs a lock on its file under a lease
+/// that is not over.
+pub fn elders_are_alone()
+    ensures { In_every_run Elders_are_alone }
 {}
