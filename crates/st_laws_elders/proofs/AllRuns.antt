@@ -35,10 +35,11 @@ run k count (e ∷ es) all past t s o = go (world_step t.world e) refl o (λ pas
         ((past : List Step) (t : Traced) → Stood k count past t → Throughout Places_after past (steps es t) → Throughout Elders_are_alone past (steps es t)) → Throughout Elders_are_alone past (safety.steps_on (steps es) t e r)
     go (Err r) q o f = tt
     go (Ok sc) q o f =
-        let is_full = full count t.world e s.elders.all.nodes (and_true (is_event count e) (list_all (is_event count) es) all).0 in
-        (alone past k count t.world s.elders s.stand.both.flush,
-            f (past ++ step t e sc ∷ []) (traced_after e t sc)
-            (record { places = o.0; stand = (one_step past t e sc q s.places s.stand).stand; elders = events_keep past k count t.world e sc s.elders s.stand.both.flush is_full q }) o.1)
+        let is_full = full count t.world e s.elders.all.nodes (and_true (is_event count e) (list_all (is_event count) es) all).0 in (
+          alone past k count t.world s.elders s.stand.both.flush,
+          f (past ++ step t e sc ∷ []) (traced_after e t sc)
+              (record { places = o.0; stand = (one_step past t e sc q s.places s.stand).stand; elders = events_keep past k count t.world e sc s.elders s.stand.both.flush is_full q }) o.1,
+        )
 
 pub runs_alone : In_every_run Elders_are_alone
 runs_alone k clients servers disks blocks form es head events =

@@ -1,16 +1,11 @@
 -- A client's crash: the lives that it ends stand still, with the locks of what is pending, and those that stood still do so on.
-use Rattle.std.proofs.Common.{Bool, ◌||◌, ◌≡◌, ◌≢◌, ℕ, ◌+◌, ◌<◌, ◌≤◌, ◌⊎◌, true, false, ◌&&◌, ◌==◌, List, [], ◌∷◌, Option, Some, None, refl, sym, ap, ◌∙◌, subst, inl, inr, arith, eqb}
-use Rattle.std.specs.Prelude.{find, map, is_some, option_map}
-use Rattle.std.proofs.lemmas.Bool.{eq-eqb}
+use Rattle.std.proofs.Common.{Bool, ◌||◌, ◌≡◌, ◌≢◌, ℕ, ◌+◌, ◌<◌, ◌≤◌, ◌⊎◌, true, false, List, [], ◌∷◌, Option, Some, None, refl, sym, ap, ◌∙◌, subst, inl, inr, arith, eqb}
+use Rattle.std.specs.Prelude.{find, map, option_map}
 use Rattle.std.proofs.lemmas.Bool.Decides.{eqb_tells}
 use Rattle.st_base.specs.declared.config.Config as base
 use Rattle.st_base.specs.declared.ids.ClientId.{ClientId}
 use Rattle.st_base.specs.declared.ids.Life.{Life}
 use Rattle.st_base.specs.declared.ids.NodeId.TheVariants as nodes
-use Rattle.st_base.specs.declared.ids.ServerId.{ServerId}
-use Rattle.st_messages.specs.declared.ask.Ask.{Ask}
-use Rattle.st_rules.specs.declared.log.Fate.{Fate}
-use Rattle.st_rules.specs.declared.log.Fate.TheVariants as fates
 use Rattle.st_rules.specs.declared.log.LogEntry.{LogEntry}
 use Rattle.st_rules.specs.declared.log.LogOwner.{LogOwner}
 use Rattle.st_rules.specs.declared.pages.DirtyPage.{DirtyPage}
@@ -25,14 +20,13 @@ use Rattle.st_rules.specs.FlatLog as log
 use Rattle.st_rules.specs.FlatLog.{is_of_life, is_pending}
 use Rattle.st_rules.specs.Keys.{client, server_node}
 use Rattle.st_rules.specs.Server.{ServerNode}
-use Rattle.st_rules.specs.World.{World, ClientSite, clock_of, end_or_present, ended_of, is_life_of, lease_end_of, life_of_association, lives_of, node_of, server, site_of}
+use Rattle.st_rules.specs.World.{World, ClientSite, clock_of, end_or_present, ended_of, is_life_of, life_of_association, lives_of, node_of, server, site_of}
 use Rattle.st_assoc.proofs.World.{exactly}
 use Rattle.st_assoc.specs.Assoc as net
 use Rattle.st_assoc.specs.Assoc.{Config, Crashes, Goes_on, In_service, Moves, Row, Rows_compat, Stays, next_life, upd}
 use Rattle.st_lemmas.specs.Lists.{Has}
 use Rattle.st_lemmas.proofs.Tables.{and_true, found_at, has_map}
 use Rattle.st_views.specs.Halves.{client_of, date_in, held_in, leased_in}
-use Rattle.st_laws_client.specs.Shown.{Lasts}
 use Rattle.st_laws_server.specs.Pair.{client_in, stamp_number}
 use Rattle.st_laws_server.proofs.Counts.{few_more}
 use Rattle.st_laws_pages.specs.Fates.{Before_end, Pending_all}
@@ -46,9 +40,6 @@ use Rattle.st_laws_pages.proofs.Living.{row_is}
 use Rattle.st_laws.specs.Stands.{Both, Standing}
 use Rattle.st_laws.specs.World.{AllStand, Server_stands}
 use Rattle.st_laws.proofs.Pairs.{length_set, only_here, own_view}
-use Rattle.st_laws_copies.specs.Copies.{Fate_ok, Fates_ok}
-use Rattle.st_laws_copies.specs.Law.{Client_copies, Stands_at}
-use Rattle.st_laws_reads.proofs.Alone.{lease_lasts, while_at}
 use Rattle.st_laws_elders.specs.Elders.{Elders_hold, Of_crashed, Stands_still, Stood_life}
 use Rattle.st_laws_elders.specs.Frozen.{Crashed, Frozen_life}
 use Rattle.st_laws_elders.specs.Paths.{Came_from, Here, Path, Worked_on, pairs_of}

@@ -2,7 +2,6 @@
 use Rattle.std.proofs.Common.{List, ◌≡◌, ℕ, true, Option, Some, None, Ok, refl, sym, ap, ◌∙◌, subst}
 use Rattle.st_base.specs.declared.ids.ClientId.{ClientId}
 use Rattle.st_base.specs.declared.ids.NodeId.TheVariants as nodes
-use Rattle.st_messages.specs.declared.ask.Ask.{Ask}
 use Rattle.st_messages.specs.declared.event.Event.{Event}
 use Rattle.st_messages.specs.declared.event.Event.TheVariants as events
 use Rattle.st_rules.specs.Admissible as adm

@@ -21,7 +21,6 @@ use Rattle.st_laws_copies.specs.World.{Taking, taken}
 use Rattle.st_laws_reads.specs.Events.{Elders_alone}
 use Rattle.st_laws_reads.specs.Left.{Others_left}
 use Rattle.st_laws_reads.specs.Runs.{Taken_owed}
-use Rattle.st_laws_reads.proofs.Reading.{known}
 use Rattle.st_laws_reads.proofs.Runs.{Stood, at_first, next}
 use Rattle.st_laws_elders.specs.Elders.{Elders_hold}
 use Rattle.st_laws_elders.specs.Runs.{Is_left, Runs_read_beside_elders, Taken_left}

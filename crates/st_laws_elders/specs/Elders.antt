@@ -38,7 +38,8 @@ pub record Stood_life (k : Config) (w : World) (s : ℕ) (node : ServerNode) (z 
 -- so it does where its server is there
 abbrev pub Stands_still : (k : Config) (count : ℕ) (w : World) → AllStand k count w → LeaseLife → LogOwner → Type 0
 Stands_still k count w all row o =
-    (node : ServerNode) (at : node_of w (server o.file.server.0) ≡ Some node) → Stood_life k w o.file.server.0 node (all.servers o.file.server.0 node at) row o
+    (node : ServerNode) (at : node_of w (server o.file.server.0) ≡ Some node) →
+    Stood_life k w o.file.server.0 node (all.servers o.file.server.0 node at) row o
 
 -- All stands, and the lives of pending entries that a crash ended stand still.
 pub record Elders_hold (k : Config) (count : ℕ) (w : World) : Type 0 where

@@ -2,7 +2,8 @@
 use Rattle.std.specs.Prelude.{◌≡◌, ◌≢◌, ◌⊎◌, ℕ, ◌+◌, ◌<◌, ◌≤◌, Bool, true, false, List}
 use Rattle.st_assoc.specs.Assoc as net
 use Rattle.st_laws_elders.specs.Paths.{Path}
-use Rattle.st_assoc.specs.Assoc.{Alive, Config, Config_ok, Assoc, Body, Client, Msg, In, Reached, next_life, upd, Hello, Plain, Released, Reassert, Welcome, Ack, Reasserted, Granted, Demand, Other_epoch}
+use Rattle.st_assoc.specs.Assoc.{Alive, Config, Config_ok, Assoc, Body, Client, Msg, In, Reached, next_life, upd}
+use Rattle.st_assoc.specs.Assoc.{Hello, Plain, Released, Reassert, Welcome, Ack, Reasserted, Granted, Demand, Other_epoch}
 
 -- what is said before a session begins
 abbrev pub is_bare : Body → Bool
@@ -60,8 +61,8 @@ pub record Locked_half (C : Client) (i : ℕ) : Type 0 where
 -- A path leaves the life standing still, up to its lease end.
 abbrev pub Paths_keep_lives : Type 0
 Paths_keep_lives =
-    (k : Config) (c i : ℕ) (C : Client) (W V : net.World) → Config_ok k → Locked_half C i → Path k W V → Is_over k C (W.at c) ⊎ Frozen_life k c C.life C W →
-    Is_over k C (V.at c) ⊎ Frozen_life k c C.life C V
+    (k : Config) (c i : ℕ) (C : Client) (W V : net.World) → Config_ok k → Locked_half C i → Path k W V →
+    Is_over k C (W.at c) ⊎ Frozen_life k c C.life C W → Is_over k C (V.at c) ⊎ Frozen_life k c C.life C V
 
 -- A crash leaves the client's half standing still.
 abbrev pub Crashes_leave_lives : Type 0
@@ -72,5 +73,5 @@ Crashes_leave_lives =
 -- later lives included.
 abbrev pub Lives_stand_alone : Type 0
 Lives_stand_alone =
-    (k : Config) (c i d : ℕ) (C : Client) (W : net.World) → Config_ok k → Locked_half C i → (W.at c).c.clock < C.date + k.lease → Frozen_life k c C.life C W →
-    Alive k (W.at d).c → ((W.at d).c.held i).mode ≡ 0
+    (k : Config) (c i d : ℕ) (C : Client) (W : net.World) → Config_ok k → Locked_half C i → (W.at c).c.clock < C.date + k.lease →
+    Frozen_life k c C.life C W → Alive k (W.at d).c → ((W.at d).c.held i).mode ≡ 0

@@ -47,7 +47,8 @@ abbrev pub pairs_of : (k : Config) (w : World) (s : ℕ) (node : ServerNode) →
 pairs_of k w s node z = pairs s z.ended w node z.ghosts
 
 -- A server was there before, and a path leads from its associations then to those that it has now.
-pub record Came_from (k : Config) (count : ℕ) (w : World) (all : AllStand k count w) (v : World) (s : ℕ) (next : ServerNode) (z : Server_stands k v s next) : Type 0 where
+pub record Came_from (k : Config) (count : ℕ) (w : World) (all : AllStand k count w) (v : World) (s : ℕ) (next : ServerNode)
+    (z : Server_stands k v s next) : Type 0 where
   pub node : ServerNode
   pub before : node_of w (server s) ≡ Some node
   pub path : Path k (pairs_of k w s node (all.servers s node before)) (pairs_of k v s next z)
@@ -60,4 +61,5 @@ pub record Followed (k : Config) (count : ℕ) (w : World) (all : AllStand k cou
 -- Every event is steps of the machine of each server and its clients.
 abbrev pub Events_are_paths : Type 0
 Events_are_paths =
-    (k : Config) (count : ℕ) (w : World) (e : Event) (sc : Scene) (all : AllStand k count w) → Is_full w e → world_step w e ≡ Ok sc → Followed k count w all sc.world
+    (k : Config) (count : ℕ) (w : World) (e : Event) (sc : Scene) (all : AllStand k count w) → Is_full w e → world_step w e ≡ Ok sc →
+    Followed k count w all sc.world
