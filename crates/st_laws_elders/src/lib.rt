@@ -5,7 +5,9 @@ ghost use Rattle.st_laws.specs.Law.{In_every_run};
 ghost use Rattle.st_laws_elders.specs.Elders.{Elders_are_alone, Elders_begin, Elders_stand_alone, Events_keep_elders};
 ghost use Rattle.st_laws_elders.specs.Frozen.{Crashes_leave_lives, Lives_stand_alone, Paths_keep_lives};
 ghost use Rattle.st_laws_elders.specs.Paths.{Events_are_paths};
-ghost use Rattle.st_laws_elders.specs.Runs.{Runs_read_beside_elders};
+ghost use Rattle.st_laws_elders.specs.Runs.{In_runs_left};
+ghost use Rattle.st_laws_reads.specs.Carry.{WritesCarryTheContent};
+ghost use Rattle.st_rules.specs.Safety.{ReadsReturnLastWrites};
 
 /// Every event is steps of the machine of each server and its clients, which go on from where they were.
 pub fn events_are_paths()
@@ -29,9 +31,11 @@ pub fn elders_stand_alone()
     ensures alone { Elders_stand_alone }
 {}
 
-/// Reads return the last writes in every run in which each step has what is owed of it, where nothing is owed of lives that are over.
+/// In every run in which each step has what is owed of it, where nothing is owed of lives that are over: reads return the last writes, and
+/// each write that is submitted carries the content of its page.
 pub fn runs_read_beside_elders()
-    ensures { Runs_read_beside_elders }
+    ensures reads { In_runs_left ReadsReturnLastWrites }
+    ensures carries { In_runs_left WritesCarryTheContent }
 {}
 
 /// In every run, at each of its steps what is pending of lives that are over leaves no client that runs a lock on its file under a lease

@@ -13,3 +13,4 @@ pub mod Clearing
 pub mod Cleared
 pub mod Clear_pages
 pub mod Cutting
+pub mod Carrying

@@ -15,7 +15,7 @@ use Rattle.st_rules.specs.History.{Traced, traced, traced_after}
 use Rattle.st_rules.specs.Keys.{client}
 use Rattle.st_rules.specs.Lines.{AtEach}
 use Rattle.st_rules.specs.Safety as safety
-use Rattle.st_rules.specs.Safety.{IsHead, IsLast, ReadsReturnLastWrites, Step, Throughout, is_event, step, steps}
+use Rattle.st_rules.specs.Safety.{IsHead, IsLast, Promise, ReadsReturnLastWrites, Step, Throughout, is_event, step, steps}
 use Rattle.st_rules.specs.World.{World, ClientSite, clock_of, fresh_site, fresh_world, node_at_start}
 use Rattle.st_assoc.specs.Assoc.{Config}
 use Rattle.st_lemmas.specs.Lists.{Has}
@@ -44,6 +44,8 @@ use Rattle.st_laws_pages.proofs.Whole.{fresh_waits}
 use Rattle.st_laws.proofs.Waiting.{waits_owed}
 use Rattle.st_laws_reads.specs.Events.{Others_owed}
 use Rattle.st_laws_reads.specs.Left.{Cuts_asked}
+use Rattle.st_laws_reads.specs.Carry.{Is_carried, Runs_carry, WritesCarryTheContent}
+use Rattle.st_laws_reads.proofs.Carrying.{carried_taken, others_silent, silent_carried}
 use Rattle.st_laws_reads.proofs.Cutting.{others_owed}
 use Rattle.st_laws_reads.proofs.Owing.{input_owed}
 use Rattle.st_laws_reads.proofs.Reading.{dull_reads, known, more_known, numbered_there, others_dull, reads_taken}
@@ -59,9 +61,14 @@ pub record Stood (k : Config) (count : ℕ) (past : List Step) (t : Traced) : Ty
   pub clear : AllCleared t.world
   pub waits : WaitsHold t.world
 
+-- What is promised of a step.
+pub record Kept (past : List Step) (x : Step) : Type 0 where
+  pub reads : ReadsReturnLastWrites past x
+  pub carry : WritesCarryTheContent past x
+
 -- What a step leaves.
 record Leaves_all (k : Config) (count : ℕ) (past : List Step) (t : Traced) (e : Event) (sc : Scene) : Type 0 where
-  reads : ReadsReturnLastWrites past (step t e sc)
+  kept : Kept past (step t e sc)
   copies : CopiesHold (known (past ++ step t e sc ∷ [])) sc.world
 
 module _ (k : Config) (count : ℕ) (past : List Step) (t : Traced) (e : Event) (sc : Scene) (is : world_step t.world e ≡ Ok sc) (s : Stood k count past t) (after : AllStand k count sc.world) (cuts : Cuts_asked (step t e sc)) where
@@ -74,7 +81,11 @@ module _ (k : Config) (count : ℕ) (past : List Step) (t : Traced) (e : Event) 
   goes : (o : Option Taking) → taken (counted t.world) e ≡ o → Taken_owed (counted t.world) e o → Leaves_all k count past t e sc
   goes None q o =
       record {
-        reads = subst (λ os. AtEach (IsLast past st) sc.world t.world.log os) (ap (λ (z : Scene). z.seen) (sym (step_happens t.world e sc is).1)) (dull_reads past st sc.world t.world.log _ (others_dull (counted t.world) e q));
+        kept =
+            record {
+              reads = subst (λ os. AtEach (IsLast past st) sc.world t.world.log os) (ap (λ (z : Scene). z.seen) (sym (step_happens t.world e sc is).1)) (dull_reads past st sc.world t.world.log _ (others_dull (counted t.world) e q));
+              carry = subst (λ os. AtEach Is_carried sc.world t.world.log os) (ap (λ (z : Scene). z.seen) (sym (step_happens t.world e sc is).1)) (silent_carried sc.world t.world.log _ (others_silent (counted t.world) e q));
+            };
         copies = others.law (known (past ++ st ∷ [])) k count t.world e sc s.all is q free more;
       }
     where
@@ -84,7 +95,7 @@ module _ (k : Config) (count : ℕ) (past : List Step) (t : Traced) (e : Event) 
           others_owed k count (counted t.world) sc after (clear_step t.world e sc is s.clear) cuts s.waits e (waits_owed k count t.world s.all e p.0) p.1 o
   goes (Some x) q o =
       record {
-        reads = reads_taken k count past t e sc x s.all after is q there owed more;
+        kept = record { reads = reads_taken k count past t e sc x s.all after is q there owed more; carry = carried_taken k count past t e sc x s.all after is q there owed more };
         copies = takings.law (known (past ++ st ∷ [])) k count t.world e sc x s.all after is q owed more;
       }
     where
@@ -96,24 +107,24 @@ module _ (k : Config) (count : ℕ) (past : List Step) (t : Traced) (e : Event) 
 
 -- A step of the run: it reads right, and all stands behind it.
 pub next : (k : Config) (count : ℕ) (past : List Step) (t : Traced) (e : Event) (sc : Scene) → is_event count e ≡ true → world_step t.world e ≡ Ok sc → Stood k count past t → Places_after past (step t e sc) → Is_owed past (step t e sc) →
-    ReadsReturnLastWrites past (step t e sc) × Stood k count (past ++ step t e sc ∷ []) (traced_after e t sc)
+    Kept past (step t e sc) × Stood k count (past ++ step t e sc ∷ []) (traced_after e t sc)
 next k count past t e sc in_range q s places owed =
     let after = stays k count t.world e sc s.all (full count t.world e s.all.nodes in_range) q in
     let z = goes k count past t e sc q s after owed.cuts (taken (counted t.world) e) refl owed.taken in
-    (z.reads, record { all = after; places = places; stand = (one_step past t e sc q s.places s.stand).stand; copies = z.copies; clear = clear_step t.world e sc q s.clear; waits = (cut_law t.world e sc q (waits_owed k count t.world s.all e (step_happens t.world e sc q).0) s.waits).holds })
+    (z.kept, record { all = after; places = places; stand = (one_step past t e sc q s.places s.stand).stand; copies = z.copies; clear = clear_step t.world e sc q s.clear; waits = (cut_law t.world e sc q (waits_owed k count t.world s.all e (step_happens t.world e sc q).0) s.waits).holds })
 
-run : (k : Config) (count : ℕ) (es : List Event) → list_all (is_event count) es ≡ true → (past : List Step) (t : Traced) → Stood k count past t → Throughout Places_after past (steps es t) → Throughout Is_owed past (steps es t) → Throughout ReadsReturnLastWrites past (steps es t)
+run : (P : Promise) → ((past : List Step) (x : Step) → Kept past x → P past x) → (k : Config) (count : ℕ) (es : List Event) → list_all (is_event count) es ≡ true → (past : List Step) (t : Traced) → Stood k count past t → Throughout Places_after past (steps es t) → Throughout Is_owed past (steps es t) → Throughout P past (steps es t)
 unfolding steps safety.steps_on Throughout
-run k count [] all past t s o d = tt
-run k count (e ∷ es) all past t s o d = go (world_step t.world e) refl o d (λ past t. run k count es (and_true (is_event count e) (list_all (is_event count) es) all).1 past t)
+run P pick k count [] all past t s o d = tt
+run P pick k count (e ∷ es) all past t s o d = go (world_step t.world e) refl o d (λ past t. run P pick k count es (and_true (is_event count e) (list_all (is_event count) es) all).1 past t)
   where
     go : (r : Result Scene WorldRefusal) → world_step t.world e ≡ r → Throughout Places_after past (safety.steps_on (steps es) t e r) → Throughout Is_owed past (safety.steps_on (steps es) t e r) →
-        ((past : List Step) (t : Traced) → Stood k count past t → Throughout Places_after past (steps es t) → Throughout Is_owed past (steps es t) → Throughout ReadsReturnLastWrites past (steps es t)) →
-        Throughout ReadsReturnLastWrites past (safety.steps_on (steps es) t e r)
+        ((past : List Step) (t : Traced) → Stood k count past t → Throughout Places_after past (steps es t) → Throughout Is_owed past (steps es t) → Throughout P past (steps es t)) →
+        Throughout P past (safety.steps_on (steps es) t e r)
     go (Err r) q o d f = tt
     go (Ok sc) q o d f =
         let z = next k count past t e sc (and_true (is_event count e) (list_all (is_event count) es) all).0 q s o.0 d.0 in
-        (z.0, f (past ++ step t e sc ∷ []) (traced_after e t sc) z.1 o.1 d.1)
+        (pick past (step t e sc) z.0, f (past ++ step t e sc ∷ []) (traced_after e t sc) z.1 o.1 d.1)
 
 -- At the start nothing is at hand.
 differs : (n a c : ℕ) → n < a → Differs (record { 0 = n }) (map cl.fresh_association (numbers a c))
@@ -186,6 +197,13 @@ at_first k clients servers disks blocks form head =
       waits = fresh_waits k clients servers disks blocks form;
     }
 
+in_run : (P : Promise) → ((past : List Step) (x : Step) → Kept past x → P past x) → (k : base.Config) (clients servers disks blocks form : ℕ) (es : List Event) → IsHead k clients servers disks blocks form → list_all (is_event (clients + servers)) es ≡ true →
+    Throughout Is_owed [] (steps es (traced (fresh_world k clients servers disks blocks form))) → Throughout P [] (steps es (traced (fresh_world k clients servers disks blocks form)))
+in_run P pick k clients servers disks blocks form es head events owed =
+    run P pick (terms_of k) (clients + servers) es events [] (traced (fresh_world k clients servers disks blocks form)) (at_first k clients servers disks blocks form head) (places_law k clients servers disks blocks form es head) owed
+
 pub law : Runs_read
-law k clients servers disks blocks form es head events owed =
-    run (terms_of k) (clients + servers) es events [] (traced (fresh_world k clients servers disks blocks form)) (at_first k clients servers disks blocks form head) (places_law k clients servers disks blocks form es head) owed
+law = in_run ReadsReturnLastWrites (λ past x z. z.reads)
+
+pub carry_law : Runs_carry
+carry_law = in_run WritesCarryTheContent (λ past x z. z.carry)

@@ -4,3 +4,4 @@ pub mod Events
 pub mod Clear
 pub mod Left
 pub mod Runs
+pub mod Carry

@@ -1,6 +1,7 @@
 //! Laws of the copies of all clients of a world: whose pages are as the log has them, through the events of a run.
 #![tactic(auto)]
 
+ghost use Rattle.st_laws_reads.specs.Carry.{Runs_carry};
 ghost use Rattle.st_laws_reads.specs.Clear.{Runs_clear};
 ghost use Rattle.st_laws_reads.specs.Events.{Others_keep_copies};
 ghost use Rattle.st_laws_reads.specs.Law.{Pending_pages_stand_alone};
@@ -33,4 +34,9 @@ pub fn runs_clear()
 /// Reads return the last writes in every run in which each step has what other laws owe of it.
 pub fn runs_read()
     ensures { Runs_read }
+{}
+
+/// So does every write that is submitted carry the content of its page by the log at that line.
+pub fn runs_carry()
+    ensures { Runs_carry }
 {}
