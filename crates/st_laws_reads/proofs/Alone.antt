@@ -48,7 +48,7 @@ while_at l now c es [] a r h = elim h [ ]
 while_at l now c es (x ∷ xs) a r (inl e) = subst (λ (y : Association). Stands_while l now c es y) (sym e) r.one
 while_at l now c es (x ∷ xs) a r (inr h) = while_at l now c es xs a r.rest h
 
-fate_at : (c : ClientId) (life : Life) (sv : ServerId) (x : Store) (es : List LogEntry) (e : LogEntry) → Fates_ok c life sv x es → Has e es → Fate_ok c life sv x e
+pub fate_at : (c : ClientId) (life : Life) (sv : ServerId) (x : Store) (es : List LogEntry) (e : LogEntry) → Fates_ok c life sv x es → Has e es → Fate_ok c life sv x e
 fate_at c life sv x [] e r h = elim h [ ]
 fate_at c life sv x (y ∷ es) e r (inl q) = subst (λ (z : LogEntry). Fate_ok c life sv x z) (sym q) r.one
 fate_at c life sv x (y ∷ es) e r (inr h) = fate_at c life sv x es e r.rest h

@@ -77,11 +77,11 @@ life_parts c s l o e =
     (ap (λ n. record { 0 = n }) (eqb-true o.client.0 c.0 x.0), ap (λ n. record { 0 = n }) (eqb-true o.file.server.0 s.0 y.0), ap (λ n. record { 0 = n }) (eqb-true o.life.0 l.0 y.1))
 
 -- whose something is pending in a log
-record Pends (es : List LogEntry) (o : LogOwner) : Type 0 where
-  entry : LogEntry
-  has : Has entry es
-  pending : is_pending entry.fate ≡ true
-  is : entry.of ≡ o
+pub record Pends (es : List LogEntry) (o : LogOwner) : Type 0 where
+  pub entry : LogEntry
+  pub has : Has entry es
+  pub pending : is_pending entry.fate ≡ true
+  pub is : entry.of ≡ o
 
 pends_all : (es fs : List LogEntry) → ((e : LogEntry) → Has e fs → Has e es) → Pending_all (Pends es) fs
 pends_all es [] g = record {}
@@ -160,11 +160,11 @@ module _ (asks : ℕ → ℕ → Option Ask) (k : Config) (count : ℕ) (w : Wor
   abbrev now : ℕ
   now = (clock_of w (nodes.Client (client d))).0
 
-  own_copies : Client_copies (asks d) (client d) w.log (clock_of w (nodes.Client (client d))) state
+  pub own_copies : Client_copies (asks d) (client d) w.log (clock_of w (nodes.Client (client d))) state
   own_copies = (copies d other runs.there).runs runs.runs
 
   -- of no lock where something of another client is pending, or of a life that is over
-  unheld_for : (o : LogOwner) → Pends w.log o → ((a : Association) → Has a state.associations → is_of_life (client d) a.server a.life o ≡ true → ⊥) ⊎ Unit {0} → (b : Association) → Has b state.associations → Lasts state.config.lease now b.session → o.file.server ≡ b.server →
+  pub unheld_for : (o : LogOwner) → Pends w.log o → ((a : Association) → Has a state.associations → is_of_life (client d) a.server a.life o ≡ true → ⊥) ⊎ Unit {0} → (b : Association) → Has b state.associations → Lasts state.config.lease now b.session → o.file.server ≡ b.server →
       (is_of_life (client d) b.server b.life o ≡ true → ⊥) → (held_in b.session o.file.ino).mode ≡ 0
   unheld_for o p x b hb lb sv not_own = go (status w p.entry)
     where

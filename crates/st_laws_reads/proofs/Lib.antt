@@ -14,3 +14,4 @@ pub mod Cleared
 pub mod Clear_pages
 pub mod Cutting
 pub mod Carrying
+pub mod Settled

@@ -5,3 +5,4 @@ pub mod Clear
 pub mod Left
 pub mod Runs
 pub mod Carry
+pub mod Settled

@@ -6,12 +6,24 @@ ghost use Rattle.st_laws_reads.specs.Clear.{Runs_clear};
 ghost use Rattle.st_laws_reads.specs.Events.{Others_keep_copies};
 ghost use Rattle.st_laws_reads.specs.Law.{Pending_pages_stand_alone};
 ghost use Rattle.st_laws_reads.specs.Runs.{Runs_read};
+ghost use Rattle.st_laws_reads.specs.Settled.{Locked_pages_are_own, Locked_pages_are_settled};
 ghost use Rattle.st_laws_reads.specs.World.{Takings_keep_copies};
 
 /// In a world where all stands, while an entry of a running client's present life is pending, no other client has a lock on its file
 /// under a lease that is not over.
 pub fn pending_pages_stand_alone()
     ensures { Pending_pages_stand_alone }
+{}
+
+/// Nothing is pending of a page that a client that runs has not dirty, while it has a lock on the file under a lease that is not over:
+/// what the disks give for the page is then its content.
+pub fn locked_pages_are_settled()
+    ensures { Locked_pages_are_settled }
+{}
+
+/// And what is pending of a page is then of that client's present life alone.
+pub fn locked_pages_are_own()
+    ensures { Locked_pages_are_own }
 {}
 
 /// An event at which a client takes an input (a tick, an ask, a message, the end of a command) keeps the copies of all clients, its

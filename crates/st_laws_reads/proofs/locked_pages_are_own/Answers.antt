@@ -1,0 +1,5 @@
+use Rattle.st_laws_reads.proofs.Settled.{own_law}
+use Rattle.st_laws_reads.proofs.locked_pages_are_own.Goals as goal
+
+pub returns : goal.returns
+returns c = own_law

@@ -1,0 +1,5 @@
+use Rattle.st_laws_reads.proofs.Settled.{law}
+use Rattle.st_laws_reads.proofs.locked_pages_are_settled.Goals as goal
+
+pub returns : goal.returns
+returns c = law
