@@ -1,0 +1,2 @@
+mod FilledRuns
+mod Parts

@@ -1,0 +1,7 @@
+use Rattle.std.proofs.Common.{◌≡◌, ◌++◌, take}
+use Rattle.std.specs.List.{flat_map}
+use Rattle.st_rules.specs.Report as text
+use Rattle.st_report.proofs.bodies.put_each_lock_row.Given as goal
+
+abbrev pub invariant-loop-r : goal.invariant-loop-r
+invariant-loop-r l = l.out.items ≡ l.fn.out.items ++ flat_map text.lock_row (take l.r-index l.rows)

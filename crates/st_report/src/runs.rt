@@ -1,0 +1,66 @@
+ghost use Rattle.std.specs.Prelude.{◌≡◌, ◌++◌, OnOk};
+ghost use Rattle.st_base.specs.Page.{filled};
+ghost use Rattle.st_rules.specs.Report as text;
+
+use crate::words::{put_number, put_text};
+use st_base::PageBytes;
+use std::alloc::AllocError;
+
+fn put_run(out: &mut Vec<u8>, count: u64, byte: u8) -> Result<(), AllocError>
+    ensures { OnOk result (out.new.items ≡ out.old.items ++ text.one_run count byte) }
+{
+    put_number(out, count)?;
+    out.push(b'x')?;
+    put_number(out, u64::from(byte))
+}
+
+/// Appends the runs of these bytes, before which `first` stands.
+fn put_runs_from(out: &mut Vec<u8>, first: u8, bytes: &[u8]) -> Result<(), AllocError>
+    ensures { OnOk result (out.new.items ≡ out.old.items ++ text.runs_from 1 first bytes.now) }
+{
+    let mut count = 1u64;
+    let mut byte = first;
+    for b in bytes {
+        if *b == byte {
+            count += 1;
+        } else {
+            put_run(out, count, byte)?;
+            out.push(b',')?;
+            count = 1;
+            byte = *b;
+        }
+    }
+    put_run(out, count, byte)
+}
+
+/// Appends the runs of equal bytes in these bytes.
+#[tactic(auto, unfolding(st_rules::specs::Report::runs))]
+pub(crate) fn put_runs(out: &mut Vec<u8>, bytes: &[u8]) -> Result<(), AllocError>
+    ensures { OnOk result (out.new.items ≡ out.old.items ++ text.runs bytes.now) }
+{
+    match bytes {
+        [] => Ok(()),
+        [first, rest @ ..] => {
+            out.push(b' ')?;
+            put_runs_from(out, *first, rest)
+        }
+    }
+}
+
+/// Appends the one run of a page of one byte repeated.
+fn put_filled(out: &mut Vec<u8>, byte: u8) -> Result<(), AllocError>
+    ensures { OnOk result (out.new.items ≡ out.old.items ++ text.runs (filled byte)) }
+{
+    put_text(out, b" ")?;
+    put_run(out, 4096, byte)
+}
+
+/// Appends the runs of equal bytes in a page. It counts no bytes of a page of one byte repeated.
+pub(crate) fn put_page(out: &mut Vec<u8>, bytes: &PageBytes) -> Result<(), AllocError>
+    ensures { OnOk result (out.new.items ≡ out.old.items ++ text.runs bytes.now) }
+{
+    match bytes.repeated() {
+        Some(byte) => put_filled(out, byte),
+        None => put_runs(out, bytes.as_slice()),
+    }
+}
