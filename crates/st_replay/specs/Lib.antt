@@ -1,0 +1,4 @@
+pub mod Schedule
+pub mod Replay
+pub mod Pieces
+pub mod Playing

@@ -1,0 +1,14 @@
+//! Replaying: a schedule is read from a source in pieces, its events are run in a world, and the report is written to a sink as the
+//! run goes on. `docs/PROTOCOL.md`, "Schedules" and "Report lines".
+#![tactic(auto)]
+
+mod fault;
+mod lines;
+mod play;
+mod player;
+// mod replay;
+
+pub use fault::{LineRefusal, ReplayFault};
+// pub use replay::replay;
+pub use st_rules::Summary;
+pub use st_world_all::World;
