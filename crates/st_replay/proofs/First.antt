@@ -101,7 +101,7 @@ unread_lines : (l : List ℕ) (f : ScheduleRefusal) (ls : List (List ℕ)) → r
 unfolding replay_lines
 unread_lines l f ls h = ap (with_head ls) h
 
-first_stops : (old : List ℕ) (n : ℕ) (l : List ℕ) (f : LineRefusal) (ls : List (List ℕ)) → n ≡ 1 → IsUnread (read_line progress.Nothing l) f →
+pub first_stops : (old : List ℕ) (n : ℕ) (l : List ℕ) (f : LineRefusal) (ls : List (List ℕ)) → n ≡ 1 → IsUnread (read_line progress.Nothing l) f →
     EndsAt old n f (behind old (replay_lines (l ∷ ls)))
 first_stops old n l (why.Schedule f) ls number h =
     stopped_at old 1 n (why.Schedule f) (sym number) ∙ sym (ap (behind old) (unread_lines l f ls h))

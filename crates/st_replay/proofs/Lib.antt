@@ -2,3 +2,5 @@ pub mod Room
 pub mod Ranges
 pub mod Steps
 pub mod First
+pub mod Newlines
+pub mod Feeding

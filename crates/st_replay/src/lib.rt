@@ -3,6 +3,7 @@
 #![tactic(auto)]
 
 mod fault;
+mod feed;
 mod lines;
 mod play;
 mod player;

@@ -1,3 +1,4 @@
+ghost use Rattle.std.specs.Prelude.{◌≡◌, ◌+◌, ◌<◌, take, drop, length};
 ghost use Rattle.st_replay.specs.Playing.{IsFirst};
 
 /// The place of the first newline.
@@ -12,4 +13,21 @@ pub(crate) fn newline(bytes: &[u8]) -> Option<usize>
         at += 1;
     }
     None
+}
+
+/// The bytes before this place.
+pub(crate) fn before(bytes: &[u8], at: usize) -> &[u8]
+    requires { at < length bytes.now }
+    ensures { result.now ≡ take at bytes.now }
+{
+    &bytes[..at]
+}
+
+/// The bytes behind this place.
+pub(crate) fn after(bytes: &[u8], at: usize) -> &[u8]
+    requires { at < length bytes.now }
+    ensures exact { result.now ≡ drop (at + 1) bytes.now }
+    ensures fewer { length result.now < length bytes.now }
+{
+    &bytes[at + 1..]
 }
