@@ -4,3 +4,4 @@ pub mod Steps
 pub mod First
 pub mod Newlines
 pub mod Feeding
+pub mod LastLines

@@ -2,11 +2,13 @@
 //! run goes on. `docs/PROTOCOL.md`, "Schedules" and "Report lines".
 #![tactic(auto)]
 
+mod ending;
 mod fault;
 mod feed;
 mod lines;
 mod play;
 mod player;
+mod sinks;
 // mod replay;
 
 pub use fault::{LineRefusal, ReplayFault};
