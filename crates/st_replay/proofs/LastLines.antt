@@ -1,5 +1,5 @@
 -- The end of the lines.
-use Rattle.std.proofs.Common.{◌≡◌, ℕ, ◌+◌, ◌<◌, List, [], ◌∷◌, ◌++◌, length, refl, sym, ◌∙◌, ap, subst, arith}
+use Rattle.std.proofs.Common.{◌≡◌, ℕ, ◌+◌, ◌<◌, List, [], ◌∷◌, ◌++◌, length, refl, sym, ◌∙◌, ap, subst, arith, append-nil}
 use Rattle.std.specs.Prelude.{Option, Some, None, Result, Ok, Err, IfOk, OnOk}
 use Rattle.st_rules.specs.declared.observation.Summary.{Summary}
 use Rattle.st_rules.specs.World.{World}
@@ -11,9 +11,9 @@ use Rattle.st_schedule.specs.declared.reader.Progress.{Progress}
 use Rattle.st_schedule.specs.declared.reader.Progress.TheVariants as progress
 use Rattle.st_schedule.specs.Reader.{read_end}
 use Rattle.st_replay.specs.declared.fault.LineRefusal.TheVariants as why
-use Rattle.st_replay.specs.Replay.{Whole, Stopped, behind, last_line, replay_lines}
-use Rattle.st_replay.specs.Playing.{EndsAt, IsHere, from_here}
-use Rattle.st_replay.specs.Streaming.{EndsWhole}
+use Rattle.st_replay.specs.Replay.{Replay, Whole, Stopped, behind, last_line, text, replay_lines}
+use Rattle.st_replay.specs.Playing.{EndsAt, Goes, IsHere, from_here}
+use Rattle.st_replay.specs.Streaming.{Concludes, EndsWhole, one}
 use Rattle.st_replay.proofs.Steps.{stopped_at, end_stops, end_goes}
 
 pub none_lines : replay_lines [] ≡ record { front = []; last = Stopped 1 (why.Schedule NoHead) }
@@ -39,3 +39,13 @@ pub ended_whole : {E : Type 0} (r : Result Summary E) (old new : List ℕ) (v : 
 ended_whole (Ok s) old new v w q line is h counts appended =
     subst (λ u. EndsWhole old new s u q line) (sym is) (end_goes old line w q (sym h), counts, appended ∙ ap (λ t. old ++ t) (whole_line w))
 ended_whole (Err e) old new v w q line is h counts appended = tt
+
+pub concluded : {E : Type 0} (r : Result Summary E) (old mid new : List ℕ) (w v u : Option World) (p q : Progress) (line next : ℕ) (held : List ℕ) → Goes old w p line mid v q next (one held) →
+    IfOk r (λ s. EndsWhole mid new s v q next) → OnOk r (u ≡ v) → IfOk r (λ s. Concludes old new s u (from_here w p line (one held)))
+concluded (Ok s) old mid new w None u p q line next held goes h same = absurd h
+concluded (Ok s) old mid new w (Some x) u p q line next held goes h same =
+    let all : record { front = mid; last = Whole x } ≡ behind old (from_here w p line (one held)) =
+    h.0 ∙ goes [] ∙ ap (λ ls. behind old (from_here w p line ls)) (append-nil (one held)) in
+    subst (λ y. Concludes old new s y (from_here w p line (one held))) (sym same)
+    (sym (ap (λ (r : Replay). r.last) all), h.1, h.2 ∙ ap (λ (r : Replay). text r) all)
+concluded (Err e) old mid new w v u p q line next held goes h same = tt

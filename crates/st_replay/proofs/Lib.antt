@@ -5,3 +5,4 @@ pub mod First
 pub mod Newlines
 pub mod Feeding
 pub mod LastLines
+pub mod Streams

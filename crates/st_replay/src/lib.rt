@@ -8,8 +8,8 @@ mod feed;
 mod lines;
 mod play;
 mod player;
+mod replay;
 mod sinks;
-// mod replay;
 
 pub use fault::{LineRefusal, ReplayFault};
 // pub use replay::replay;

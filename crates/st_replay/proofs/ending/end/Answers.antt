@@ -8,4 +8,4 @@ returns-in-Err-clause-stops c =
 pub returns-in-Some-clause-whole : goal.returns-in-Some-clause-whole
 returns-in-Some-clause-whole c =
     ended_whole c.put_whole.result c.args.player.now.text.items c.put_whole.new.text.items c.args.player.now.world c.in-Some.world c.args.player.now.reader c.args.player.now.line
-    c.in-Some.is ? c.put_whole.ensures.summary c.put_whole.ensures.text
+    c.in-Some.is c.in-Ok.ensures c.put_whole.ensures.summary c.put_whole.ensures.text
