@@ -6,3 +6,4 @@ pub mod Newlines
 pub mod Feeding
 pub mod LastLines
 pub mod Streams
+pub mod Reported

@@ -72,10 +72,10 @@ written_first (Some bytes) (Some more) before written pending v q next holds s =
     )
 
 -- a front of a text was written
-prefix_of : (before now : Option (List ℕ)) (whole t rest : List ℕ) → Appends before now t → whole ≡ t ++ rest → AppendsPrefix before now whole
+pub prefix_of : (before now : Option (List ℕ)) (whole t rest : List ℕ) → Appends before now t → whole ≡ t ++ rest → AppendsPrefix before now whole
 prefix_of before now whole t rest h e = (length t, subst (Appends before now) (sym (ap (take (length t)) e ∙ take-append_seam t rest)) h)
 
-if_prefix : (left before now : Option (List ℕ)) (t : List ℕ) → Appends before now t → IfSome left (λ bytes. (rest : List ℕ) × (report_of bytes ≡ t ++ rest)) →
+pub if_prefix : (left before now : Option (List ℕ)) (t : List ℕ) → Appends before now t → IfSome left (λ bytes. (rest : List ℕ) × (report_of bytes ≡ t ++ rest)) →
     IfSome left (λ bytes. AppendsPrefix before now (report_of bytes))
 if_prefix None before now t h f = tt
 if_prefix (Some bytes) before now t h f = prefix_of before now (report_of bytes) t f.0 h f.1

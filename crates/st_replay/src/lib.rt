@@ -5,13 +5,14 @@
 mod ending;
 mod fault;
 mod feed;
+mod finish;
 mod lines;
 mod play;
 mod player;
-mod replay;
 mod sinks;
+mod source;
 
 pub use fault::{LineRefusal, ReplayFault};
-// pub use replay::replay;
+pub use source::replay;
 pub use st_rules::Summary;
 pub use st_world_all::World;
