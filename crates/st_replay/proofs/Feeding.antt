@@ -1,5 +1,5 @@
 -- A piece on its way: the lines that were played of it, and the bytes that are left.
-use Rattle.std.proofs.Common.{◌≡◌, ℕ, suc, ◌+◌, ◌<◌, ◌≤◌, List, [], ◌∷◌, ◌++◌, length, refl, sym, ◌∙◌, ap, subst, arith, append-nil}
+use Rattle.std.proofs.Common.{◌≡◌, ℕ, suc, ◌+◌, ◌<◌, ◌≤◌, List, [], ◌∷◌, ◌++◌, length, refl, sym, ◌∙◌, ap, subst, arith}
 use Rattle.std.specs.Prelude.{Option, Some, None, Result, Ok, Err}
 use Rattle.std.proofs.lemmas.List.{append_assoc, length-append}
 use Rattle.st_rules.specs.World.{World}
@@ -18,7 +18,7 @@ use Rattle.st_replay.specs.Playing.{AtStop, OnStop, EndsAt, Feeds, Goes, HasNone
 use Rattle.st_replay.proofs.Room.{long_refused}
 use Rattle.st_replay.proofs.Steps.{line_stops}
 use Rattle.st_replay.proofs.First.{first_stops}
-use Rattle.st_replay.proofs.Newlines.{Begins, line_begins, none_both, none_handled, one_handled}
+use Rattle.st_replay.proofs.Newlines.{line_begins, none_both, none_handled, one_handled}
 
 pub record Going (old : List ℕ) (w : Option World) (p : Progress) (line : ℕ) (held piece : List ℕ)
     (new : List ℕ) (v : Option World) (q : Progress) (next : ℕ) (holds rest : List ℕ) : Type 0 where

@@ -11,7 +11,7 @@ use Rattle.st_schedule.specs.declared.reader.Line.{Line}
 use Rattle.st_schedule.specs.declared.reader.Line.TheVariants as said
 use Rattle.st_schedule.specs.declared.reader.Progress.{Progress}
 use Rattle.st_schedule.specs.declared.reader.Progress.TheVariants as progress
-use Rattle.st_schedule.specs.Reader.{Told, read_line, SpellsLine}
+use Rattle.st_schedule.specs.Reader.{read_line}
 use Rattle.st_schedule.proofs.LinesAsSpelled.{line_is_read, line_is_spelled}
 use Rattle.st_replay.specs.declared.fault.LineRefusal.{LineRefusal}
 use Rattle.st_replay.specs.declared.fault.LineRefusal.TheVariants as why
@@ -19,7 +19,7 @@ use Rattle.st_replay.specs.declared.fault.Stop.{Stop}
 use Rattle.st_replay.specs.declared.fault.Stop.TheVariants as stops
 use Rattle.st_replay.specs.Schedule.{schedule_of}
 use Rattle.st_replay.specs.Replay.{Stopped, behind, with_head, replay_from, replay_lines}
-use Rattle.st_replay.specs.Playing.{EndsAt, IsPlaying, IsUnread, AtStop, OnStop, from_line, from_world, needs}
+use Rattle.st_replay.specs.Playing.{EndsAt, IsPlaying, IsUnread, AtStop, OnStop, from_line, needs}
 use Rattle.st_replay.proofs.Room.{read_short, takes}
 use Rattle.st_replay.proofs.Ranges.{head_within, fresh_clocks_length}
 use Rattle.st_replay.proofs.Steps.{behind_both, stopped_at}

@@ -1,6 +1,6 @@
 -- What a line spells is in the ranges that a world wants.
-use Rattle.std.proofs.Common.{◌≡◌, ℕ, ◌+◌, ◌≤◌, inl, inr, Bool, true, List, [], ◌∷◌, length, map, refl, sym, ◌∙◌, ap, subst, arith}
-use Rattle.std.specs.Prelude.{◌==◌, ◌&&◌, ◌||◌, nat_le, ◌++◌, zero, suc, Ok}
+use Rattle.std.proofs.Common.{◌≡◌, ℕ, ◌+◌, ◌≤◌, inl, inr, Bool, true, List, [], ◌∷◌, length, map, refl, ◌∙◌, ap, arith}
+use Rattle.std.specs.Prelude.{◌==◌, ◌&&◌, ◌||◌, nat_le, zero, suc, Ok}
 use Rattle.std.specs.List.{list_all, AllByRecursion}
 use Rattle.std.proofs.lemmas.Bool.Decides.{nat_tests}
 use Rattle.std.proofs.lemmas.Bool.{eq-eqb}
@@ -20,9 +20,9 @@ use Rattle.st_messages.specs.Kinds.{between}
 use Rattle.st_messages.specs.Fits.{is_ask, is_name_ask, is_file, has_length}
 use Rattle.st_rules.specs.Safety.{IsHead, is_event, is_increment}
 use Rattle.st_rules.specs.Extents.{numbers}
-use Rattle.st_rules.specs.World.{World, fresh_world, client_clock, server_clock}
-use Rattle.st_schedule.specs.Words.{is_name, is_visible}
-use Rattle.st_schedule.specs.Grammar.{Fits, FitsAsk, FitsName, FitsHead, IsFile, IsWithin, IsAfter, IsForm, IsStep, AreCounts, byte_of}
+use Rattle.st_rules.specs.World.{fresh_world, client_clock, server_clock}
+use Rattle.st_schedule.specs.Words.{is_name}
+use Rattle.st_schedule.specs.Grammar.{Fits, FitsAsk, FitsName, FitsHead, IsFile, IsWithin, IsAfter, IsForm, IsStep, byte_of}
 
 both : (a b : Bool) → a ≡ true → b ≡ true → (a && b) ≡ true
 both a b e f = rw (e, f) refl

@@ -1,6 +1,6 @@
 -- What was written, next to the replay of all that the source held.
-use Rattle.std.proofs.Common.{◌≡◌, ℕ, ◌+◌, ◌<◌, ◌≤◌, List, [], ◌∷◌, ◌++◌, length, take, drop, refl, sym, ◌∙◌, ap, subst, arith, append-nil, take-append-drop}
-use Rattle.std.specs.Prelude.{Option, Some, None, Result, Ok, Err, IfSome, IfOk}
+use Rattle.std.proofs.Common.{◌≡◌, ℕ, ◌≤◌, List, [], ◌++◌, take, drop, refl, sym, ◌∙◌, ap, subst, arith, append-nil, take-append-drop}
+use Rattle.std.specs.Prelude.{Option, Some, None, Result, Ok, Err, IfSome}
 use Rattle.std.specs.Io.KnownBytes.{Appends, IsAtEnd}
 use Rattle.std.proofs.KnownBytes.{Appends-nil, Appends-trans}
 use Rattle.std.proofs.lemmas.List.{append_assoc}
@@ -8,7 +8,6 @@ use Rattle.st_link.specs.Causes.{Rose}
 use Rattle.st_link.specs.Prefixes.{AppendsPrefix}
 use Rattle.st_rules.specs.declared.observation.Summary.{Summary}
 use Rattle.st_rules.specs.World.{World}
-use Rattle.st_rules.specs.Events.{summary}
 use Rattle.st_schedule.specs.declared.reader.Progress.{Progress}
 use Rattle.st_replay.specs.declared.fault.LineRefusal.{LineRefusal}
 use Rattle.st_replay.specs.declared.fault.ReplayFault.{ReplayFault}
@@ -17,9 +16,9 @@ use Rattle.st_replay.specs.declared.fault.Stop.{Stop}
 use Rattle.st_replay.specs.declared.fault.Stop.TheVariants as stops
 use Rattle.st_replay.specs.Schedule.{lines_of}
 use Rattle.st_replay.specs.Replay.{Replay, Last, Whole, Stopped, behind, last_line, text, replay_lines, replay_of, report_of}
-use Rattle.st_replay.specs.Ends.{Completes, HasCauses, IsCutOff, OnRead, Reports}
+use Rattle.st_replay.specs.Ends.{Completes, HasCauses, OnRead, Reports}
 use Rattle.st_replay.specs.Playing.{AtStop, EndsAt, from_here}
-use Rattle.st_replay.specs.Streaming.{Concludes, Halts, RefusalCauses, Refuses, RefusesLine, Streams, one}
+use Rattle.st_replay.specs.Streaming.{Halts, RefusalCauses, Refuses, RefusesLine, Streams, one}
 use Rattle.st_replay.proofs.Newlines.{one_line}
 use Rattle.st_replay.proofs.Steps.{behind_both}
 use Rattle.st_replay.proofs.Streams.{if_prefix, prefix_of}

@@ -1,5 +1,5 @@
 -- One line more: its event is run, or it is refused.
-use Rattle.std.proofs.Common.{◌≡◌, ℕ, suc, ◌+◌, ◌≤◌, ◌<◌, Bool, true, false, List, [], ◌∷◌, ◌++◌, length, refl, sym, ◌∙◌, ap, subst, arith, append-nil, inl, inr}
+use Rattle.std.proofs.Common.{◌≡◌, ℕ, suc, ◌+◌, ◌≤◌, ◌<◌, true, List, [], ◌∷◌, ◌++◌, length, refl, sym, ◌∙◌, ap, subst, arith, append-nil, inl, inr}
 use Rattle.std.specs.Prelude.{Option, Some, None, Result, Ok, Err, OnOk, nat_lt}
 use Rattle.std.proofs.lemmas.List.{append_assoc}
 use Rattle.std.proofs.lemmas.Bool.Decides.{nat_tests}
@@ -8,7 +8,7 @@ use Rattle.st_messages.specs.declared.event.Event.{Event}
 use Rattle.st_rules.specs.declared.observation.Observation.{Observation}
 use Rattle.st_rules.specs.declared.observation.WorldRefusal.{WorldRefusal}
 use Rattle.st_rules.specs.World.{World}
-use Rattle.st_rules.specs.Events.{Scene, scene, world_step}
+use Rattle.st_rules.specs.Events.{scene, world_step}
 use Rattle.st_rules.specs.Run.{Run, run, go_on, behind as run_behind}
 use Rattle.st_rules.specs.Report.{lines, lines_from}
 use Rattle.st_rules.specs.Safety.{is_event}
@@ -20,7 +20,7 @@ use Rattle.st_schedule.specs.declared.reader.Progress.{Progress}
 use Rattle.st_schedule.specs.declared.reader.Progress.TheVariants as progress
 use Rattle.st_schedule.specs.Words.{split}
 use Rattle.st_schedule.specs.Reading.{line_event}
-use Rattle.st_schedule.specs.Reader.{Told, nodes_of, counted, with_line, later_line, short_line, read_line, read_end, HasNodes, HasRoom, after_line, MOST_EVENTS, SpellsLine}
+use Rattle.st_schedule.specs.Reader.{nodes_of, counted, with_line, later_line, read_line, read_end, HasNodes, HasRoom, after_line, MOST_EVENTS, SpellsLine}
 use Rattle.st_schedule.proofs.LinesAsSpelled.{line_is_read, line_is_spelled}
 use Rattle.st_replay.specs.declared.fault.Stop.{Stop}
 use Rattle.st_replay.specs.declared.fault.Stop.TheVariants as stops

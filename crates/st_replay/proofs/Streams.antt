@@ -1,13 +1,12 @@
 -- What stands while a source is taken piece by piece, and what is known where that stops.
-use Rattle.std.proofs.Common.{◌≡◌, ℕ, suc, ◌+◌, ◌<◌, ◌≤◌, List, [], ◌∷◌, ◌++◌, length, take, drop, refl, sym, ◌∙◌, ap, subst, arith, append-nil, take-append-drop}
-use Rattle.std.specs.Prelude.{Option, Some, None, Result, Ok, Err, IfSome}
-use Rattle.std.specs.Io.KnownBytes.{Appends, Consumes, IsAtEnd, Keeps}
+use Rattle.std.proofs.Common.{◌≡◌, ℕ, ◌+◌, ◌<◌, List, [], ◌++◌, length, take, drop, refl, sym, ◌∙◌, ap, subst, arith, append-nil, take-append-drop}
+use Rattle.std.specs.Prelude.{Option, Some, None, IfSome}
+use Rattle.std.specs.Io.KnownBytes.{Appends, Consumes, Keeps}
 use Rattle.std.proofs.KnownBytes.{Consumes-trans, Consumes-kept, Appends-nil, Appends-trans}
 use Rattle.std.proofs.Math.Seq.{take-append_seam}
 use Rattle.std.proofs.lemmas.List.{append_assoc, length-append}
 use Rattle.st_link.specs.Prefixes.{AppendsPrefix}
 use Rattle.st_rules.specs.World.{World}
-use Rattle.st_schedule.specs.declared.fault.ScheduleRefusal.{ScheduleRefusal}
 use Rattle.st_schedule.specs.declared.fault.ScheduleRefusal.TheVariants.{NoHead, NoEnd}
 use Rattle.st_schedule.specs.declared.reader.Progress.{Progress}
 use Rattle.st_schedule.specs.declared.reader.Progress.TheVariants as progress
@@ -16,13 +15,13 @@ use Rattle.st_replay.specs.declared.fault.LineRefusal.TheVariants as why
 use Rattle.st_replay.specs.declared.fault.Stop.{Stop}
 use Rattle.st_replay.specs.declared.fault.Stop.TheVariants as stops
 use Rattle.st_replay.specs.Schedule.{lines_of}
-use Rattle.st_replay.specs.Replay.{Replay, Last, Whole, Stopped, behind, last_line, text, replay_lines, replay_of, report_of}
+use Rattle.st_replay.specs.Replay.{Replay, Whole, behind, last_line, text, replay_lines, replay_of, report_of}
 use Rattle.st_replay.specs.Pieces.{Passes, whole_lines}
 use Rattle.st_replay.specs.Ends.{IsCutOff}
 use Rattle.st_replay.specs.Playing.{AtStop, EndsAt, Feeds, Handled, HasNone, IsHere, from_here}
 use Rattle.st_replay.specs.Streaming.{Streams, Halts}
 use Rattle.st_replay.proofs.Newlines.{none_handled, no_wholes, more_handled}
-use Rattle.st_replay.proofs.Steps.{behind_both, end_stops, end_goes}
+use Rattle.st_replay.proofs.Steps.{behind_both, end_goes}
 use Rattle.st_replay.proofs.LastLines.{here_ends}
 
 -- nothing was taken

@@ -1,5 +1,5 @@
 -- A replay on its way: what follows, and which states there are.
-use Rattle.std.specs.Prelude.{◌≡◌, ◌≤◌, ◌<◌, take, get_or, ℕ, ◌+◌, ◌-◌, ◌*◌, ◌==◌, Bool, true, not, List, [], ◌∷◌, ◌++◌, length, Option, Some, None, Result, Ok, Err}
+use Rattle.std.specs.Prelude.{◌≡◌, ◌≤◌, ◌<◌, take, get_or, ℕ, ◌+◌, ◌-◌, ◌*◌, ◌==◌, true, not, List, ◌++◌, length, Option, Some, None, Result, Ok, Err}
 use Rattle.std.specs.List.{list_all}
 use Rattle.st_rules.specs.World.{World}
 use Rattle.st_schedule.specs.declared.reader.Progress.{Progress}

@@ -1,6 +1,5 @@
 use Rattle.std.proofs.Common.{◌≡◌, ◌-◌, arith, Err}
 use Rattle.st_rules.specs.Events.{world_step}
-use Rattle.st_world_all.specs.Steps.{StepsAs}
 use Rattle.st_replay.proofs.Steps.{event_goes, event_stops}
 use Rattle.st_replay.proofs.play.play_event.Goals as goal
 

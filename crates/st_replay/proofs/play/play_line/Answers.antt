@@ -1,6 +1,4 @@
-use Rattle.std.proofs.Common.{◌+◌, ◌≤◌, length}
 use Rattle.st_schedule.specs.declared.reader.Line.TheVariants as said
-use Rattle.st_replay.specs.Playing.{needs}
 use Rattle.st_replay.proofs.Room.{takes}
 use Rattle.st_replay.proofs.Steps.{event_fits, has_nodes, ran, on_ok, end_read, stop_line}
 use Rattle.st_replay.proofs.play.play_line.Goals as goal

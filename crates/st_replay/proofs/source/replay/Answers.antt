@@ -1,6 +1,3 @@
-use Rattle.std.specs.Prelude.{Err, IfSome}
-use Rattle.st_replay.specs.Replay.{replay_of}
-use Rattle.st_replay.specs.Ends.{Reports}
 use Rattle.st_replay.proofs.Reported.{reported, refused_everywhere, all_completes}
 use Rattle.st_replay.proofs.source.replay.Goals as goal
 

@@ -1,0 +1,135 @@
+ghost use Rattle.std.specs.Prelude.{◌≡◌, ◌≤◌, ◌⊎◌, false, IfSome, IsTrue};
+ghost use Rattle.std.specs.Io.KnownBytes.{Appends, IsAtEnd};
+ghost use Rattle.st_link.specs.Causes.{Rose};
+ghost use Rattle.st_link.specs.Prefixes.{AppendsPrefix};
+ghost use Rattle.st_replay.specs.Ends.{IsCutOff};
+ghost use Rattle.st_replay.specs.Replay.{replay_of, report_of};
+ghost use Rattle.st_tank_all.specs.Status.{status_of};
+ghost use Rattle.st_tank_all.specs.Words as words_of;
+ghost use Rattle.st_tank_all.specs.Words.{complaint};
+
+use st_link::{Sink, Source, put_all};
+use st_replay::ReplayFault;
+use std::alloc::Global;
+
+const REPLAY: &[u8] = b"replay";
+
+const USAGE: &[u8] =
+    b"usage: tank replay | generate N SEED | work N SEED | node server|client ID NAME\n";
+
+fn are_right(words: &[String]) -> bool
+    ensures { result ≡ words_of.right words.now }
+{
+    match words {
+        [word] => word.as_bytes() == REPLAY,
+        _ => false,
+    }
+}
+
+/// Replays a schedule. Returns 0 or 1, 3 for a failed read, 4 for a failed write, and 5 where memory ran out.
+fn replay<I: Source, O: Sink>(alloc: Global, input: &mut I, out: &mut O) -> u8
+    ensures report { result ≤ 1 → IfSome (I.left input.old) (λ bytes.
+        (result ≡ status_of (replay_of bytes).last) × Appends (O.written out.old) (O.written out.new) (report_of bytes)) }
+    ensures prefix { IfSome (I.left input.old) (λ bytes. AppendsPrefix (O.written out.old) (O.written out.new) (report_of bytes)) }
+    ensures through { result ≡ 0 → IsAtEnd (I.left input.new) }
+    ensures still { result ≤ 1 → (I.faults input.new ≡ I.faults input.old) × (O.faults out.new ≡ O.faults out.old) }
+    ensures read { result ≡ 3 → Rose (I.faults input.old) (I.faults input.new) }
+    ensures cut_off { result ≡ 3 → IsCutOff (I.left input.old) (I.left input.new) (O.written out.old) (O.written out.new) }
+    ensures write { result ≡ 4 → Rose (O.faults out.old) (O.faults out.new) }
+    ensures other { ¬ (result ≡ 2) }
+    ensures known { result ≤ 5 }
+{
+    match st_replay::replay(alloc, input, out) {
+        Ok(_) => 0,
+        Err(ReplayFault::Line(..)) => 1,
+        Err(ReplayFault::Read) => 3,
+        Err(ReplayFault::Write) => 4,
+        Err(ReplayFault::Memory) => 5,
+    }
+}
+
+/// Writes a text to the error sink, and returns whether all of it was written.
+fn tell<E: Sink>(err: &mut E, text: &[u8]) -> bool
+    ensures prefix { AppendsPrefix (E.written err.old) (E.written err.new) text.now }
+    ensures all { IsTrue result → Appends (E.written err.old) (E.written err.new) text.now }
+    ensures still { IsTrue result → E.faults err.new ≡ E.faults err.old }
+    ensures cause { result ≡ false → Rose (E.faults err.old) (E.faults err.new) }
+{
+    match put_all(err, text) {
+        Ok(()) => true,
+        Err(_) => false,
+    }
+}
+
+/// Writes the usage to the error sink. Returns 2, or 4 where that write fails.
+#[tactic(auto, unfolding(crate::specs::Words::USAGE))]
+fn usage<E: Sink>(err: &mut E) -> u8
+    ensures prefix { AppendsPrefix (E.written err.old) (E.written err.new) words_of.USAGE }
+    ensures all { result ≡ 2 → Appends (E.written err.old) (E.written err.new) words_of.USAGE }
+    ensures cause { (result ≡ 2) ⊎ ((result ≡ 4) × Rose (E.faults err.old) (E.faults err.new)) }
+{
+    if tell(err, USAGE) { 2 } else { 4 }
+}
+
+/// Writes to the error sink why a replay failed, if it did.
+#[tactic(auto, unfolding(crate::specs::Words::fault_text))]
+fn tell_fault<E: Sink>(err: &mut E, status: u8)
+    ensures prefix { AppendsPrefix (E.written err.old) (E.written err.new) (words_of.fault_text status) }
+    ensures all { Appends (E.written err.old) (E.written err.new) (words_of.fault_text status) ⊎ Rose (E.faults err.old) (E.faults err.new) }
+    ensures still { status ≤ 1 → err.new ≡ err.old }
+{
+    match status {
+        3 => {
+            let _ = tell(err, b"tank: read failed\n");
+        }
+        4 => {
+            let _ = tell(err, b"tank: write failed\n");
+        }
+        5 => {
+            let _ = tell(err, b"tank: out of memory\n");
+        }
+        _ => {}
+    }
+}
+
+/// The program. With the one word `replay` it reads a schedule from `input` and writes the schedule's report to `out`. It
+/// returns 0 where the schedule was read and run through its end, 1 where a line was refused, 2 for wrong words, 3 for a
+/// failed read, 4 for a failed write, and 5 where memory ran out. `docs/PROTOCOL.md`, "The program", has the texts that are
+/// written to `err`.
+pub fn run<I: Source, O: Sink, E: Sink>(
+    alloc: Global,
+    words: &[String],
+    input: &mut I,
+    out: &mut O,
+    err: &mut E,
+) -> u8
+    // At 0 and 1 the report of all bytes of the source was written, and nothing else; it is 0 exactly where the report is whole.
+    ensures report { result ≤ 1 → IfSome (I.left input.old) (λ bytes.
+        (result ≡ status_of (replay_of bytes).last) × Appends (O.written out.old) (O.written out.new) (report_of bytes)) }
+    ensures through { result ≡ 0 → IsAtEnd (I.left input.new) }
+    ensures still { result ≤ 1 → (I.faults input.new ≡ I.faults input.old) × (O.faults out.new ≡ O.faults out.old) × (E.faults err.new ≡ E.faults err.old) }
+
+    // At every status the output got a prefix of that report.
+    ensures prefix { IfSome (I.left input.old) (λ bytes. AppendsPrefix (O.written out.old) (O.written out.new) (report_of bytes)) }
+
+    // Each other status has its cause, except 5: no clause says when memory runs out.
+    ensures known { result ≤ 5 }
+    ensures words { result ≡ 2 → words_of.right words.now ≡ false }
+    ensures usage { words_of.right words.now ≡ false → (result ≡ 2) ⊎ ((result ≡ 4) × Rose (E.faults err.old) (E.faults err.new)) }
+    ensures unused { words_of.right words.now ≡ false → (input.new ≡ input.old) × (out.new ≡ out.old) }
+    ensures read { result ≡ 3 → Rose (I.faults input.old) (I.faults input.new) }
+    // After a failed read the output has what was observed in the lines whose newlines were taken, and none of these is refused.
+    ensures cut_off { result ≡ 3 → IsCutOff (I.left input.old) (I.left input.new) (O.written out.old) (O.written out.new) }
+    ensures write { result ≡ 4 → words_of.HasWriteCause (words_of.right words.now) (O.faults out.old) (O.faults out.new) (E.faults err.old) (E.faults err.new) }
+
+    // The error sink gets the text of the status, all of it unless the sink failed.
+    ensures told_prefix { AppendsPrefix (E.written err.old) (E.written err.new) (complaint (words_of.right words.now) result) }
+    ensures told { Appends (E.written err.old) (E.written err.new) (complaint (words_of.right words.now) result) ⊎ Rose (E.faults err.old) (E.faults err.new) }
+{
+    if !are_right(words) {
+        return usage(err);
+    }
+    let status = replay(alloc, input, out);
+    tell_fault(err, status);
+    status
+}
