@@ -50,7 +50,8 @@ on_and_on old mid new w u v p r q line n next handled more a b = λ ls.
     b ls ∙ a (more ++ ls) ∙ ap (λ x. behind old (from_here w p line x)) (sym (append_assoc handled more ls))
 
 -- one line more
-pub one_played : (old : List ℕ) (w : Option World) (p : Progress) (line : ℕ) (held piece : List ℕ) (mid : List ℕ) (u : Option World) (r : Progress) (n : ℕ) (holds rest : List ℕ)
+pub one_played : (old : List ℕ) (w : Option World) (p : Progress) (line : ℕ) (held piece : List ℕ) (mid : List ℕ) (u : Option World) (r : Progress)
+    (n : ℕ) (holds rest : List ℕ)
     (new : List ℕ) (v : Option World) (q : Progress) (next : ℕ) (part after empty : List ℕ) → Going old w p line held piece mid u r n holds rest →
     rest ≡ part ++ 10 ∷ after → HasNone part → Goes mid u r n new v q next ((holds ++ part) ∷ []) → next ≡ n + 1 → IsHere v q next →
     length (holds ++ part) + 1 + needs q ≤ needs r → empty ≡ [] → Going old w p line held piece new v q next empty after
@@ -73,8 +74,10 @@ one_played old w p line held piece mid u r n holds rest new v q next part after 
     })
 
 -- the rest is held
-pub fed : (old : List ℕ) (w : Option World) (p : Progress) (line : ℕ) (held piece : List ℕ) (new : List ℕ) (v : Option World) (q : Progress) (next : ℕ) (holds rest all : List ℕ) →
-    Going old w p line held piece new v q next holds rest → HasNone rest → all ≡ holds ++ rest → length all ≤ 256 → Feeds old w p line held new v q next all piece
+pub fed : (old : List ℕ) (w : Option World) (p : Progress) (line : ℕ) (held piece : List ℕ) (new : List ℕ) (v : Option World) (q : Progress) (next : ℕ)
+    (holds rest all : List ℕ) →
+    Going old w p line held piece new v q next holds rest → HasNone rest → all ≡ holds ++ rest → length all ≤ 256 →
+    Feeds old w p line held new v q next all piece
 fed old w p line held piece new v q next holds rest all g none e few =
     let both : length all ≡ length holds + length rest = ap length e ∙ length-append holds rest in
     let has = g.room in
@@ -90,13 +93,16 @@ fed old w p line held piece new v q next holds rest all g none e few =
     }
 
 -- a refusal of what follows is one of the whole
-pub whole_stops : (old : List ℕ) (w : Option World) (p : Progress) (line : ℕ) (held piece : List ℕ) (mid : List ℕ) (u : Option World) (r : Progress) (m : ℕ) (holds rest : List ℕ)
+pub whole_stops : (old : List ℕ) (w : Option World) (p : Progress) (line : ℕ) (held piece : List ℕ) (mid : List ℕ) (u : Option World) (r : Progress)
+    (m : ℕ) (holds rest : List ℕ)
     (new : List ℕ) (n : ℕ) (f : LineRefusal) (more : List ℕ) → Going old w p line held piece mid u r m holds rest →
-    EndsAt new n f (behind mid (from_here u r m (lines_of ((holds ++ rest) ++ more)))) → EndsAt new n f (behind old (from_here w p line (lines_of ((held ++ piece) ++ more))))
+    EndsAt new n f (behind mid (from_here u r m (lines_of ((holds ++ rest) ++ more)))) →
+    EndsAt new n f (behind old (from_here w p line (lines_of ((held ++ piece) ++ more))))
 whole_stops old w p line held piece mid u r m holds rest new n f more g h =
     h ∙ g.goes (lines_of ((holds ++ rest) ++ more)) ∙ ap (λ x. behind old (from_here w p line x)) (sym (g.are.lines more))
 
-here_stops : (old : List ℕ) (v : Option World) (q : Progress) (line : ℕ) (l : List ℕ) (f : ScheduleRefusal) (ls : List (List ℕ)) → IsHere v q line → read_line q l ≡ Err f →
+here_stops : (old : List ℕ) (v : Option World) (q : Progress) (line : ℕ) (l : List ℕ) (f : ScheduleRefusal) (ls : List (List ℕ)) → IsHere v q line →
+    read_line q l ≡ Err f →
     EndsAt old line (why.Schedule f) (behind old (from_here v q line (l ∷ ls)))
 here_stops old None progress.Nothing line l f ls here h = first_stops old line l (why.Schedule f) ls here h
 here_stops old None (progress.Reading form counts done) line l f ls here h = absurd here
@@ -110,23 +116,29 @@ long_stops old v q line [] more here none long = absurd (omega arith)
 long_stops old v q line (b ∷ h) more here none long =
     let y = line_begins b h more none in
     let long_line : 256 < length ((b ∷ h) ++ y.end) = (let both = length-append (b ∷ h) y.end in omega (arith, both)) in
-    here_stops old v q line ((b ∷ h) ++ y.end) LineTooLong y.others here (long_refused q ((b ∷ h) ++ y.end) long_line) ∙ ap (λ x. behind old (from_here v q line x)) (sym y.are)
+    here_stops old v q line ((b ∷ h) ++ y.end) LineTooLong y.others here (long_refused q ((b ∷ h) ++ y.end) long_line)
+    ∙ ap (λ x. behind old (from_here v q line x)) (sym y.are)
 
 -- The same of a call that was stopped.
 
 -- at a line
-pub stop_played : (s : Stop) (old : List ℕ) (w : Option World) (p : Progress) (line : ℕ) (held piece : List ℕ) (mid : List ℕ) (u : Option World) (r : Progress) (m : ℕ) (holds rest : List ℕ)
+pub stop_played : (s : Stop) (old : List ℕ) (w : Option World) (p : Progress) (line : ℕ) (held piece : List ℕ) (mid : List ℕ) (u : Option World)
+    (r : Progress) (m : ℕ) (holds rest : List ℕ)
     (new : List ℕ) (part after : List ℕ) → Going old w p line held piece mid u r m holds rest → rest ≡ part ++ 10 ∷ after → HasNone part →
     AtStop s (λ n f. (ls : List (List ℕ)) → EndsAt new n f (behind mid (from_here u r m ((holds ++ part) ∷ ls)))) →
     AtStop s (λ n f. (more : List ℕ) → EndsAt new n f (behind old (from_here w p line (lines_of ((held ++ piece) ++ more)))))
 stop_played (stops.Line n f) old w p line held piece mid u r m holds rest new part after g e none h = λ more.
     whole_stops old w p line held piece mid u r m holds rest new n f more g
-    (h (lines_of (after ++ more)) ∙ ap (λ x. behind mid (from_here u r m x)) (sym ((one_handled (holds ++ rest) holds rest part after [] e g.none none (none_handled (holds ++ rest))).lines more)))
+    (h (lines_of (after ++ more))
+    ∙ ap (λ x. behind mid (from_here u r m x)) (sym ((one_handled (holds ++ rest) holds rest part after [] e g.none none (none_handled
+    (holds ++ rest))).lines more)))
 stop_played stops.Memory old w p line held piece mid u r m holds rest new part after g e none h = tt
 
 -- at a line that is too long
-pub stop_held : (s : Stop) (old : List ℕ) (w : Option World) (p : Progress) (line : ℕ) (held piece : List ℕ) (new : List ℕ) (v : Option World) (q : Progress) (next : ℕ) (holds rest : List ℕ) →
-    Going old w p line held piece new v q next holds rest → HasNone rest → AtStop s (λ n f. (n ≡ next) × (f ≡ why.Schedule LineTooLong) × (256 < length (holds ++ rest))) →
+pub stop_held : (s : Stop) (old : List ℕ) (w : Option World) (p : Progress) (line : ℕ) (held piece : List ℕ) (new : List ℕ) (v : Option World)
+    (q : Progress) (next : ℕ) (holds rest : List ℕ) →
+    Going old w p line held piece new v q next holds rest → HasNone rest →
+    AtStop s (λ n f. (n ≡ next) × (f ≡ why.Schedule LineTooLong) × (256 < length (holds ++ rest))) →
     AtStop s (λ n f. (more : List ℕ) → EndsAt new n f (behind old (from_here w p line (lines_of ((held ++ piece) ++ more)))))
 stop_held (stops.Line n f) old w p line held piece new v q next holds rest g none h = λ more.
     whole_stops old w p line held piece new v q next holds rest new n f more g
@@ -135,8 +147,10 @@ stop_held (stops.Line n f) old w p line held piece new v q next holds rest g non
     (long_stops new v q next (holds ++ rest) more g.here (none_both holds rest g.none none) h.2)))
 stop_held stops.Memory old w p line held piece new v q next holds rest g none h = tt
 
-pub held_stops : {T : Type 0} (result : Result T Stop) (old : List ℕ) (w : Option World) (p : Progress) (line : ℕ) (held piece : List ℕ) (new : List ℕ) (v : Option World) (q : Progress) (next : ℕ) (holds rest : List ℕ) →
-    Going old w p line held piece new v q next holds rest → HasNone rest → OnStop result (λ n f. (n ≡ next) × (f ≡ why.Schedule LineTooLong) × (256 < length (holds ++ rest))) →
+pub held_stops : {T : Type 0} (result : Result T Stop) (old : List ℕ) (w : Option World) (p : Progress) (line : ℕ) (held piece : List ℕ) (new : List ℕ)
+    (v : Option World) (q : Progress) (next : ℕ) (holds rest : List ℕ) →
+    Going old w p line held piece new v q next holds rest → HasNone rest →
+    OnStop result (λ n f. (n ≡ next) × (f ≡ why.Schedule LineTooLong) × (256 < length (holds ++ rest))) →
     OnStop result (λ n f. (more : List ℕ) → EndsAt new n f (behind old (from_here w p line (lines_of ((held ++ piece) ++ more)))))
 held_stops (Ok x) old w p line held piece new v q next holds rest g none h = tt
 held_stops (Err s) old w p line held piece new v q next holds rest g none h = stop_held s old w p line held piece new v q next holds rest g none h

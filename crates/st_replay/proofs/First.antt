@@ -32,7 +32,8 @@ fresh_events : (k : Config) (n : Counts) (form : ℕ) → (world_of k n form).ta
 unfolding fresh_world
 fresh_events k n form = refl
 
-lines_of_head : (l : List ℕ) (k : Config) (n : Counts) (form : ℕ) (q : Progress) (ls : List (List ℕ)) → read_line progress.Nothing l ≡ Ok (said.Head k n form, q) →
+lines_of_head : (l : List ℕ) (k : Config) (n : Counts) (form : ℕ) (q : Progress) (ls : List (List ℕ)) →
+    read_line progress.Nothing l ≡ Ok (said.Head k n form, q) →
     replay_lines (l ∷ ls) ≡ behind opening (replay_from 1 (world_of k n form) (schedule_of ls 2 q))
 unfolding replay_lines
 lines_of_head l k n form q ls h = ap (with_head ls) h
@@ -50,7 +51,8 @@ head_goes old new l k n form q w ls h is appended =
     ∙ ap (λ r. behind old (behind opening r)) (first_number k n form ls q) ∙ ap (behind old) (sym (lines_of_head l k n form q ls h))
 
 -- what a reader of a head has read then
-after_head : (l : List ℕ) (k : Config) (n : Counts) (form : ℕ) (q : Progress) → read_line progress.Nothing l ≡ Ok (said.Head k n form, q) → q ≡ progress.Reading form n 0
+after_head : (l : List ℕ) (k : Config) (n : Counts) (form : ℕ) (q : Progress) → read_line progress.Nothing l ≡ Ok (said.Head k n form, q) →
+    q ≡ progress.Reading form n 0
 after_head l k n form q h =
     let s = line_is_spelled progress.Nothing l (said.Head k n form, q) tt h in
     let read = sym h ∙ line_is_read progress.Nothing l (said.Head k n form) s (read_short progress.Nothing l (said.Head k n form, q) h).0 tt in
@@ -97,7 +99,8 @@ no_stop (Ok x) fact h = tt
 no_stop (Err (stops.Line n f)) fact h = absurd h
 no_stop (Err stops.Memory) fact h = tt
 
-unread_lines : (l : List ℕ) (f : ScheduleRefusal) (ls : List (List ℕ)) → read_line progress.Nothing l ≡ Err f → replay_lines (l ∷ ls) ≡ record { front = []; last = Stopped 1 (why.Schedule f) }
+unread_lines : (l : List ℕ) (f : ScheduleRefusal) (ls : List (List ℕ)) → read_line progress.Nothing l ≡ Err f →
+    replay_lines (l ∷ ls) ≡ record { front = []; last = Stopped 1 (why.Schedule f) }
 unfolding replay_lines
 unread_lines l f ls h = ap (with_head ls) h
 

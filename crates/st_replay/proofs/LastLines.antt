@@ -34,13 +34,15 @@ whole_line : (w : World) → ended (summary w) ≡ last_line (Whole w)
 unfolding last_line
 whole_line w = refl
 
-pub ended_whole : {E : Type 0} (r : Result Summary E) (old new : List ℕ) (v : Option World) (w : World) (q : Progress) (line : ℕ) → v ≡ Some w → Ok tt ≡ read_end q → IfOk r (λ s. s ≡ summary w) →
+pub ended_whole : {E : Type 0} (r : Result Summary E) (old new : List ℕ) (v : Option World) (w : World) (q : Progress) (line : ℕ) → v ≡ Some w →
+    Ok tt ≡ read_end q → IfOk r (λ s. s ≡ summary w) →
     OnOk r (new ≡ old ++ ended (summary w)) → IfOk r (λ s. EndsWhole old new s v q line)
 ended_whole (Ok s) old new v w q line is h counts appended =
     subst (λ u. EndsWhole old new s u q line) (sym is) (end_goes old line w q (sym h), counts, appended ∙ ap (λ t. old ++ t) (whole_line w))
 ended_whole (Err e) old new v w q line is h counts appended = tt
 
-pub concluded : {E : Type 0} (r : Result Summary E) (old mid new : List ℕ) (w v u : Option World) (p q : Progress) (line next : ℕ) (held : List ℕ) → Goes old w p line mid v q next (one held) →
+pub concluded : {E : Type 0} (r : Result Summary E) (old mid new : List ℕ) (w v u : Option World) (p q : Progress) (line next : ℕ) (held : List ℕ) →
+    Goes old w p line mid v q next (one held) →
     IfOk r (λ s. EndsWhole mid new s v q next) → OnOk r (u ≡ v) → IfOk r (λ s. Concludes old new s u (from_here w p line (one held)))
 concluded (Ok s) old mid new w None u p q line next held goes h same = absurd h
 concluded (Ok s) old mid new w (Some x) u p q line next held goes h same =

@@ -1,5 +1,30 @@
 -- Lines, from their front.
-use Rattle.std.proofs.Common.{◌≡◌, ℕ, ◌+◌, ◌<◌, Bool, true, false, cond, List, [], ◌∷◌, ◌++◌, length, take, drop, get_or, refl, sym, ◌∙◌, ap, subst, add-one, drop-cons, take-append-drop}
+use Rattle.std.proofs.Common.{
+  ◌≡◌,
+  ℕ,
+  ◌+◌,
+  ◌<◌,
+  Bool,
+  true,
+  false,
+  cond,
+  List,
+  [],
+  ◌∷◌,
+  ◌++◌,
+  length,
+  take,
+  drop,
+  get_or,
+  refl,
+  sym,
+  ◌∙◌,
+  ap,
+  subst,
+  add-one,
+  drop-cons,
+  take-append-drop,
+}
 use Rattle.std.specs.Prelude.{◌==◌, ◌&&◌, not, Some}
 use Rattle.std.proofs.lemmas.List.{append_assoc}
 use Rattle.st_replay.specs.Schedule.{onto, lines_of}
@@ -40,7 +65,8 @@ wholes_none (b ∷ h) x k = let z = first_none b h k in
 pub no_wholes : (h : List ℕ) → HasNone h → whole_lines h ≡ []
 unfolding whole_lines
 no_wholes [] k = refl
-no_wholes (b ∷ h) k = let z = first_none b h k in chosen_false (b == 10) ([] ∷ whole_lines h) (onto_first b (whole_lines h)) z.0 ∙ ap (onto_first b) (no_wholes h z.1)
+no_wholes (b ∷ h) k = let z = first_none b h k in chosen_false (b == 10) ([] ∷ whole_lines h) (onto_first b (whole_lines h)) z.0
+    ∙ ap (onto_first b) (no_wholes h z.1)
 
 -- and they are one line, if there are any
 abbrev pub one : List ℕ → List (List ℕ)
@@ -109,10 +135,12 @@ one_handled bytes h rest part after ls e k l handled = record {
 }
 
 -- one piece more
-pub more_handled : (bytes held piece holds : List ℕ) (ls new : List (List ℕ)) → Handled bytes held ls → Handled (held ++ piece) holds new → Handled (bytes ++ piece) holds (ls ++ new)
+pub more_handled : (bytes held piece holds : List ℕ) (ls new : List (List ℕ)) → Handled bytes held ls → Handled (held ++ piece) holds new →
+    Handled (bytes ++ piece) holds (ls ++ new)
 more_handled bytes held piece holds ls new a b = record {
   lines = λ more. ap lines_of (append_assoc bytes piece more) ∙ a.lines (piece ++ more) ∙ ap (λ x. ls ++ lines_of x) (sym (append_assoc held piece more))
       ∙ ap (λ x. ls ++ x) (b.lines more) ∙ sym (append_assoc ls new (lines_of (holds ++ more)));
-  wholes = λ more. ap whole_lines (append_assoc bytes piece more) ∙ a.wholes (piece ++ more) ∙ ap (λ x. ls ++ whole_lines x) (sym (append_assoc held piece more))
+  wholes = λ more. ap whole_lines (append_assoc bytes piece more) ∙ a.wholes (piece ++ more)
+      ∙ ap (λ x. ls ++ whole_lines x) (sym (append_assoc held piece more))
       ∙ ap (λ x. ls ++ x) (b.wholes more) ∙ sym (append_assoc ls new (whole_lines (holds ++ more)));
 }

@@ -126,7 +126,8 @@ numbers_length a zero = refl
 numbers_length a (suc c) = ap suc (numbers_length (a + 1) c)
 
 -- a world has a clock for each node
-pub fresh_clocks_length : (k : Config) (clients servers disks blocks form : ℕ) → length (fresh_world k clients servers disks blocks form).clocks ≡ clients + servers
+pub fresh_clocks_length : (k : Config) (clients servers disks blocks form : ℕ) →
+    length (fresh_world k clients servers disks blocks form).clocks ≡ clients + servers
 unfolding fresh_world
 fresh_clocks_length k clients servers disks blocks form =
     let a : length (map client_clock (numbers 1 clients)) ≡ clients = length_map client_clock (numbers 1 clients) ∙ numbers_length 1 clients in

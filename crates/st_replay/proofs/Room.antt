@@ -21,7 +21,21 @@ use Rattle.st_schedule.specs.Words.{split, room, is_long}
 use Rattle.st_schedule.specs.Grammar.{MOST_SETTING, grains, counts_of, head_numbers, head_words, AreCounts, IsForm, FitsHead}
 use Rattle.st_schedule.specs.Reading.{line_event, head_at}
 use Rattle.st_schedule.specs.Reader as head
-use Rattle.st_schedule.specs.Reader.{Told, started, checked, head_of_words, first_line, counted, with_line, nodes_of, later_line, short_line, read_line, MOST_EVENTS, SpellsLine}
+use Rattle.st_schedule.specs.Reader.{
+  Told,
+  started,
+  checked,
+  head_of_words,
+  first_line,
+  counted,
+  with_line,
+  nodes_of,
+  later_line,
+  short_line,
+  read_line,
+  MOST_EVENTS,
+  SpellsLine,
+}
 use Rattle.st_schedule.proofs.Words.{room-split}
 use Rattle.st_schedule.proofs.ValuesWereWritten.{chosen}
 use Rattle.st_schedule.proofs.EventsWereWritten.{end_is_spelled}
@@ -62,7 +76,8 @@ end_length : (l : List ℕ) → split l ≡ codes "end" ∷ [] → length l ≡ 
 end_length l h = let r : room (split l) ≡ 4 = ap room h in omega (arith, room-split l)
 
 line_takes : (form : ℕ) (counts : Counts) (done : ℕ) (l : List ℕ) (r : Result (Option Event) Fault) (y : Line × Progress) → length l ≤ 256 →
-    line_event form (nodes_of counts) (split l) ≡ r → with_line form counts done l r ≡ Ok y → length l + 1 + needs y.1 ≤ needs (progress.Reading form counts done)
+    line_event form (nodes_of counts) (split l) ≡ r → with_line form counts done l r ≡ Ok y →
+    length l + 1 + needs y.1 ≤ needs (progress.Reading form counts done)
 line_takes form counts done l (Err f) y short e h = absurd (cc)
 line_takes form counts done l (Ok None) y short e h =
     let same : (said.End, progress.Ended) ≡ y = cc in
@@ -82,7 +97,8 @@ setting_length n h = length-decimal-le 19 n (omega arith) (omega arith) (omega a
 few_digits : (k n : ℕ) → 0 < k → n < 10 ^ k → n ≤ 4096 → length (decimal n) ≤ k
 few_digits k n some h small = length-decimal-le k n some h (omega arith)
 
-settings_room : (c : Config) (n : Counts) (form : ℕ) → FitsHead c n form → room (map decimal (head_numbers c n form)) ≤ room (map decimal (grains form c.grain ++ counts_of n)) + 160
+settings_room : (c : Config) (n : Counts) (form : ℕ) → FitsHead c n form →
+    room (map decimal (head_numbers c n form)) ≤ room (map decimal (grains form c.grain ++ counts_of n)) + 160
 settings_room c n form fits =
     let a = setting_length c.lease fits.0.times.0 in
     let b = setting_length c.renew fits.0.times.1 in

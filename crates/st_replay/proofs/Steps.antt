@@ -37,7 +37,8 @@ use Rattle.st_replay.proofs.Ranges.{event_within}
 -- An event.
 
 -- a run behind the observations of one event
-run_one : (n : ℕ) (ending : Ending) (os : List Observation) (r : Run) → run_from n ending (run_behind (os ∷ []) r) ≡ behind (lines n os) (run_from (n + 1) ending r)
+run_one : (n : ℕ) (ending : Ending) (os : List Observation) (r : Run) →
+    run_from n ending (run_behind (os ∷ []) r) ≡ behind (lines n os) (run_from (n + 1) ending r)
 unfolding lines_from
 run_one n ending os r =
     let more : n + suc (length r.seen) ≡ n + 1 + length r.seen = omega arith in
@@ -77,7 +78,8 @@ event_stops old line w f e rest h number =
 -- A line.
 
 -- what follows a line that is not read
-unread_run : (n : ℕ) (w : World) (line : ℕ) (f : ScheduleRefusal) → replay_from n w (stop (schedule.Stopped line f)) ≡ record { front = []; last = Stopped line (why.Schedule f) }
+unread_run : (n : ℕ) (w : World) (line : ℕ) (f : ScheduleRefusal) →
+    replay_from n w (stop (schedule.Stopped line f)) ≡ record { front = []; last = Stopped line (why.Schedule f) }
 unfolding replay_from run lines_from
 unread_run n w line f = refl
 
@@ -118,7 +120,8 @@ counted_event form counts done e y h =
       | inr q ↦ absurd (let k = q.1 in cc)
     ]
 
-same_event : (form : ℕ) (counts : Counts) (done : ℕ) (e v : Event) (q : Progress) → ReadsEvent form counts done (said.Event e, q) v → (done < 100000) × (q ≡ progress.Reading form counts (done + 1))
+same_event : (form : ℕ) (counts : Counts) (done : ℕ) (e v : Event) (q : Progress) → ReadsEvent form counts done (said.Event e, q) v →
+    (done < 100000) × (q ≡ progress.Reading form counts (done + 1))
 same_event form counts done e v q h = (h.few, ap (λ (y : Line × Progress). y.1) h.next)
 
 line_event_read : (form : ℕ) (counts : Counts) (done : ℕ) (l : List ℕ) (r : Result (Option Event) Fault) (e : Event) (q : Progress) →
@@ -146,7 +149,8 @@ event_read w v (progress.Reading form counts done) q line l e s h counted clocks
 event_read w v progress.Ended q line l e s h counted clocks = absurd (let k = (read_short progress.Ended l (said.Event e, q) h).1 in cc)
 
 -- the event is in its ranges
-pub event_fits : (w : World) (p : Progress) (line : ℕ) (l : List ℕ) (e : Event) → IsPlaying w p line → SpellsLine p l (said.Event e) → is_event (length w.clocks) e ≡ true
+pub event_fits : (w : World) (p : Progress) (line : ℕ) (l : List ℕ) (e : Event) → IsPlaying w p line → SpellsLine p l (said.Event e) →
+    is_event (length w.clocks) e ≡ true
 event_fits w progress.Nothing line l e s h = absurd s
 event_fits w (progress.Reading form counts done) line l e s h =
     rw (s.1) (event_within form (nodes_of counts) e h.0)
@@ -191,12 +195,14 @@ pub on_ok : {T E : Type 0} (r : Result T E) (fact : Type 0) → fact → OnOk r 
 on_ok (Ok x) fact h = h
 on_ok (Err e) fact h = tt
 
-pub ran : {T E : Type 0} (r : Result T E) (w v : World) (p q : Progress) (line : ℕ) (l : List ℕ) (e : Event) → IsPlaying w p line → read_line p l ≡ Ok (said.Event e, q) →
+pub ran : {T E : Type 0} (r : Result T E) (w v : World) (p q : Progress) (line : ℕ) (l : List ℕ) (e : Event) → IsPlaying w p line →
+    read_line p l ≡ Ok (said.Event e, q) →
     OnOk r (v.tally.events ≡ w.tally.events + 1) → OnOk r (length v.clocks ≡ length w.clocks) → OnOk r (IsPlaying v q (line + 1))
 ran (Ok x) w v p q line l e s h counted clocks = event_read w v p q line l e s h counted clocks
 ran (Err x) w v p q line l e s h counted clocks = tt
 
-unread_stops : (old : List ℕ) (n line : ℕ) (w : World) (p : Progress) (l : List ℕ) (f : LineRefusal) (ls : List (List ℕ)) → n ≡ line → IsUnread (read_line p l) f →
+unread_stops : (old : List ℕ) (n line : ℕ) (w : World) (p : Progress) (l : List ℕ) (f : LineRefusal) (ls : List (List ℕ)) → n ≡ line →
+    IsUnread (read_line p l) f →
     EndsAt old n f (behind old (from_line w p line (l ∷ ls)))
 unread_stops old n line w p l (why.Schedule f) ls number h =
     subst (λ k. EndsAt old k (why.Schedule f) (behind old (from_line w p line (l ∷ ls)))) (sym number) (line_stops old line w p l f ls h)

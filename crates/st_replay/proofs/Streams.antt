@@ -51,7 +51,8 @@ nothing_taken left written pending v q next holds a b c d e =
     Consumes-nothing (Some x) = refl
 
 -- all that was held is known
-known_replay : (taken t pending : List ℕ) (handled : List (List ℕ)) (v : Option World) (q : Progress) (next : ℕ) (holds more : List ℕ) → Handled taken holds handled →
+known_replay : (taken t pending : List ℕ) (handled : List (List ℕ)) (v : Option World) (q : Progress) (next : ℕ) (holds more : List ℕ) →
+    Handled taken holds handled →
     ((ls : List (List ℕ)) → behind (t ++ pending) (from_here v q next ls) ≡ replay_lines (handled ++ ls)) →
     behind (t ++ pending) (from_here v q next (lines_of (holds ++ more))) ≡ replay_of (taken ++ more)
 known_replay taken t pending handled v q next holds more are goes = goes (lines_of (holds ++ more)) ∙ ap replay_lines (sym (are.lines more))
@@ -60,21 +61,24 @@ known_replay taken t pending handled v q next holds more are goes = goes (lines_
 front_first : (t : List ℕ) (r p : Replay) → behind t r ≡ p → text p ≡ t ++ (r.front ++ last_line r.last)
 front_first t r p e = sym (ap (λ (x : Replay). text x) e) ∙ append_assoc t r.front (last_line r.last)
 
-pub written_first : (left now before written : Option (List ℕ)) (pending : List ℕ) (v : Option World) (q : Progress) (next : ℕ) (holds : List ℕ) → (s : Streams left now before written pending v q next holds) →
+pub written_first : (left now before written : Option (List ℕ)) (pending : List ℕ) (v : Option World) (q : Progress) (next : ℕ) (holds : List ℕ) →
+    (s : Streams left now before written pending v q next holds) →
     IfSome left (λ bytes. (rest : List ℕ) × (report_of bytes ≡ (s.written ++ pending) ++ rest))
 written_first None now before written pending v q next holds s = tt
 written_first (Some bytes) None before written pending v q next holds s = absurd s.took
 written_first (Some bytes) (Some more) before written pending v q next holds s =
     let r = from_here v q next (lines_of (holds ++ more)) in (
       r.front ++ last_line r.last,
-      front_first (s.written ++ pending) r (replay_of bytes) (known_replay s.taken s.written pending s.handled v q next holds more s.are s.goes ∙ ap replay_of (sym s.took)),
+      front_first (s.written ++ pending) r (replay_of bytes) (known_replay s.taken s.written pending s.handled v q next holds more s.are s.goes
+          ∙ ap replay_of (sym s.took)),
     )
 
 -- a front of a text was written
 pub prefix_of : (before now : Option (List ℕ)) (whole t rest : List ℕ) → Appends before now t → whole ≡ t ++ rest → AppendsPrefix before now whole
 prefix_of before now whole t rest h e = (length t, subst (Appends before now) (sym (ap (take (length t)) e ∙ take-append_seam t rest)) h)
 
-pub if_prefix : (left before now : Option (List ℕ)) (t : List ℕ) → Appends before now t → IfSome left (λ bytes. (rest : List ℕ) × (report_of bytes ≡ t ++ rest)) →
+pub if_prefix : (left before now : Option (List ℕ)) (t : List ℕ) → Appends before now t →
+    IfSome left (λ bytes. (rest : List ℕ) × (report_of bytes ≡ t ++ rest)) →
     IfSome left (λ bytes. AppendsPrefix before now (report_of bytes))
 if_prefix None before now t h f = tt
 if_prefix (Some bytes) before now t h f = prefix_of before now (report_of bytes) t f.0 h f.1
@@ -85,10 +89,12 @@ shorter : (left : Option (List ℕ)) (t u : List ℕ) → IfSome left (λ bytes.
 shorter None t u f n = tt
 shorter (Some bytes) t u f n = (
   drop n u ++ f.0,
-  f.1 ∙ ap (λ x. (t ++ x) ++ f.0) (sym (take-append-drop n u)) ∙ ap (λ x. x ++ f.0) (sym (append_assoc t (take n u) (drop n u))) ∙ append_assoc (t ++ take n u) (drop n u) f.0,
+  f.1 ∙ ap (λ x. (t ++ x) ++ f.0) (sym (take-append-drop n u)) ∙ ap (λ x. x ++ f.0) (sym (append_assoc t (take n u) (drop n u)))
+      ∙ append_assoc (t ++ take n u) (drop n u) f.0,
 )
 
-pub cut_short : (left now before written after : Option (List ℕ)) (pending : List ℕ) (v : Option World) (q : Progress) (next : ℕ) (holds : List ℕ) → Streams left now before written pending v q next holds →
+pub cut_short : (left now before written after : Option (List ℕ)) (pending : List ℕ) (v : Option World) (q : Progress) (next : ℕ) (holds : List ℕ) →
+    Streams left now before written pending v q next holds →
     AppendsPrefix written after pending → IfSome left (λ bytes. AppendsPrefix before after (report_of bytes))
 cut_short left now before written after pending v q next holds s h =
     if_prefix left before after (s.written ++ take h.0 pending) (Appends-trans before written after s.written (take h.0 pending) s.wrote h.1)
@@ -97,7 +103,8 @@ cut_short left now before written after pending v q next holds s h =
 nothing_more : (written : Option (List ℕ)) (pending : List ℕ) → AppendsPrefix written written pending
 nothing_more written pending = (0, Appends-nil written)
 
-pub so_far : (left now before written : Option (List ℕ)) (pending : List ℕ) (v : Option World) (q : Progress) (next : ℕ) (holds : List ℕ) → Streams left now before written pending v q next holds →
+pub so_far : (left now before written : Option (List ℕ)) (pending : List ℕ) (v : Option World) (q : Progress) (next : ℕ) (holds : List ℕ) →
+    Streams left now before written pending v q next holds →
     IfSome left (λ bytes. AppendsPrefix before written (report_of bytes))
 so_far left now before written pending v q next holds s = cut_short left now before written written pending v q next holds s (nothing_more written pending)
 
@@ -115,7 +122,8 @@ quiet_whole : (n : ℕ) (w : World) (r : Replay) → record { front = []; last =
 quiet_whole n w r e = record { nothing = sym (ap (λ (x : Replay). x.front) e); passes = subst (Passes n) (ap (λ (x : Replay). x.last) e) tt }
 
 quiet_here : (n : ℕ) (v : Option World) (q : Progress) (next : ℕ) → IsHere v q next → next ≡ n + 1 → Quiet n (from_here v q next [])
-quiet_here n None progress.Nothing next here number = quiet_stop n next (why.Schedule NoHead) _ (here_ends [] None progress.Nothing next NoHead here refl) (omega (arith, number))
+quiet_here n None progress.Nothing next here number = quiet_stop n next (why.Schedule NoHead) _ (here_ends [] None progress.Nothing next NoHead here refl)
+    (omega (arith, number))
 quiet_here n None (progress.Reading form counts done) next here number = absurd here
 quiet_here n None progress.Ended next here number = absurd here
 quiet_here n (Some w) progress.Nothing next here number = absurd here
@@ -126,9 +134,11 @@ quiet_here n (Some w) progress.Ended next here number = quiet_whole n w _ (end_g
 -- what was taken and not handled has no whole line
 wholes_taken : (taken holds : List ℕ) (handled : List (List ℕ)) → Handled taken holds handled → HasNone holds → whole_lines taken ≡ handled
 wholes_taken taken holds handled are none =
-    ap whole_lines (sym (append-nil taken)) ∙ are.wholes [] ∙ ap (λ x. handled ++ x) (ap whole_lines (append-nil holds) ∙ no_wholes holds none) ∙ append-nil handled
+    ap whole_lines (sym (append-nil taken)) ∙ are.wholes [] ∙ ap (λ x. handled ++ x) (ap whole_lines (append-nil holds) ∙ no_wholes holds none)
+    ∙ append-nil handled
 
-pub cut_off : (left now later before written : Option (List ℕ)) (pending : List ℕ) (v : Option World) (q : Progress) (next : ℕ) (holds : List ℕ) → Streams left now before written pending v q next holds →
+pub cut_off : (left now later before written : Option (List ℕ)) (pending : List ℕ) (v : Option World) (q : Progress) (next : ℕ) (holds : List ℕ) →
+    Streams left now before written pending v q next holds →
     pending ≡ [] → Keeps now later → IsCutOff left later before written
 cut_off left now later before written pending v q next holds s empty kept =
     let z = quiet_here (length s.handled) v q next s.here s.number in
@@ -136,18 +146,21 @@ cut_off left now later before written pending v q next holds s empty kept =
     let all : behind (s.written ++ pending) (from_here v q next []) ≡ replay_lines (whole_lines s.taken) =
     s.goes [] ∙ ap replay_lines (append-nil s.handled ∙ sym are) in
     let front : (replay_lines (whole_lines s.taken)).front ≡ s.written =
-    sym (ap (λ (x : Replay). x.front) all) ∙ ap (λ t. (s.written ++ pending) ++ t) z.nothing ∙ append-nil (s.written ++ pending) ∙ ap (λ t. s.written ++ t) empty ∙ append-nil s.written in
+    sym (ap (λ (x : Replay). x.front) all) ∙ ap (λ t. (s.written ++ pending) ++ t) z.nothing ∙ append-nil (s.written ++ pending)
+    ∙ ap (λ t. s.written ++ t) empty ∙ append-nil s.written in
     record {
       taken = s.taken;
       took = Consumes-kept left now later s.taken s.took kept;
       wrote = subst (Appends before written) (sym front) s.wrote;
-      passes = subst (λ ls. Passes (length ls) (replay_lines (whole_lines s.taken)).last) (sym are) (subst (Passes (length s.handled)) (ap (λ (x : Replay). x.last) all) z.passes);
+      passes = subst (λ ls. Passes (length ls) (replay_lines (whole_lines s.taken)).last) (sym are) (subst (Passes (length s.handled)) (ap (λ
+          (x : Replay). x.last) all) z.passes);
     }
 
 -- A piece more.
 
 pub piece_more : (left now later before written : Option (List ℕ)) (pending : List ℕ) (v : Option World) (q : Progress) (next : ℕ) (holds piece : List ℕ)
-    (text_now : List ℕ) (u : Option World) (r : Progress) (n : ℕ) (held : List ℕ) → Streams left now before written pending v q next holds → Consumes now later piece →
+    (text_now : List ℕ) (u : Option World) (r : Progress) (n : ℕ) (held : List ℕ) → Streams left now before written pending v q next holds →
+    Consumes now later piece →
     Feeds pending v q next holds text_now u r n held piece → Streams left later before written text_now u r n held
 piece_more left now later before written pending v q next holds piece text_now u r n held s took f =
     let both : length (s.handled ++ f.handled) ≡ length s.handled + length f.handled = length-append s.handled f.handled in
@@ -160,7 +173,8 @@ piece_more left now later before written pending v q next holds piece text_now u
       took = Consumes-trans left now later s.taken piece s.took took;
       wrote = s.wrote;
       are = more_handled s.taken holds piece held s.handled f.handled s.are f.are;
-      goes = λ ls. behind_both s.written text_now (from_here u r n ls) ∙ ap (behind s.written) (f.goes ls) ∙ sym (behind_both s.written pending (from_here v q next (f.handled ++ ls)))
+      goes = λ ls. behind_both s.written text_now (from_here u r n ls) ∙ ap (behind s.written) (f.goes ls)
+          ∙ sym (behind_both s.written pending (from_here v q next (f.handled ++ ls)))
           ∙ s.goes (f.handled ++ ls) ∙ ap replay_lines (sym (append_assoc s.handled f.handled ls));
       number = omega (arith, both, was, more);
       here = f.here;
@@ -169,7 +183,8 @@ piece_more left now later before written pending v q next holds piece text_now u
     }
 
 -- the text was written
-pub text_written : (left now before written after : Option (List ℕ)) (pending text_now : List ℕ) (v : Option World) (q : Progress) (next : ℕ) (holds : List ℕ) → Streams left now before written pending v q next holds →
+pub text_written : (left now before written after : Option (List ℕ)) (pending text_now : List ℕ) (v : Option World) (q : Progress) (next : ℕ)
+    (holds : List ℕ) → Streams left now before written pending v q next holds →
     Appends written after pending → text_now ≡ [] → Streams left now before after text_now v q next holds
 text_written left now before written after pending text_now v q next holds s wrote empty =
     record {
@@ -187,7 +202,8 @@ text_written left now before written after pending text_now v q next holds s wro
     }
 
 -- nothing was left to take
-pub none_left : (left now later before written : Option (List ℕ)) (pending piece : List ℕ) (v : Option World) (q : Progress) (next : ℕ) (holds : List ℕ) → Streams left now before written pending v q next holds →
+pub none_left : (left now later before written : Option (List ℕ)) (pending piece : List ℕ) (v : Option World) (q : Progress) (next : ℕ) (holds : List ℕ) →
+    Streams left now before written pending v q next holds →
     Consumes now later piece → piece ≡ [] → Streams left later before written pending v q next holds
 none_left left now later before written pending piece v q next holds s took empty =
     record {
@@ -206,7 +222,8 @@ none_left left now later before written pending piece v q next holds s took empt
 
 -- A refused line.
 
-line_known : (left now later before written : Option (List ℕ)) (pending : List ℕ) (v : Option World) (q : Progress) (next : ℕ) (holds piece text_now : List ℕ) (n : ℕ) (f : LineRefusal) →
+line_known : (left now later before written : Option (List ℕ)) (pending : List ℕ) (v : Option World) (q : Progress) (next : ℕ)
+    (holds piece text_now : List ℕ) (n : ℕ) (f : LineRefusal) →
     (s : Streams left now before written pending v q next holds) → Consumes now later piece →
     ((more : List ℕ) → EndsAt text_now n f (behind pending (from_here v q next (lines_of ((holds ++ piece) ++ more))))) →
     IfSome left (λ bytes. EndsAt (s.written ++ text_now) n f (replay_of bytes))
@@ -219,18 +236,22 @@ line_known (Some bytes) (Some xs) (Some ys) before written pending v q next hold
     ∙ known_replay s.taken s.written pending s.handled v q next holds (piece ++ ys) s.are s.goes
     ∙ ap (λ t. replay_of (s.taken ++ t)) (sym took) ∙ ap replay_of (sym s.took)
 
-at_line : (s : Stop) (left now later before written : Option (List ℕ)) (pending : List ℕ) (v : Option World) (q : Progress) (next : ℕ) (holds piece text_now : List ℕ) →
+at_line : (s : Stop) (left now later before written : Option (List ℕ)) (pending : List ℕ) (v : Option World) (q : Progress) (next : ℕ)
+    (holds piece text_now : List ℕ) →
     (g : Streams left now before written pending v q next holds) → Consumes now later piece →
     AtStop s (λ n f. (more : List ℕ) → EndsAt text_now n f (behind pending (from_here v q next (lines_of ((holds ++ piece) ++ more))))) →
     AtStop s (λ n f. IfSome left (λ bytes. EndsAt (g.written ++ text_now) n f (replay_of bytes)))
-at_line (stops.Line n f) left now later before written pending v q next holds piece text_now g took h = line_known left now later before written pending v q next holds piece text_now n f g took h
+at_line (stops.Line n f) left now later before written pending v q next holds piece text_now g took h = line_known left now later before written pending v
+    q next holds piece text_now n f g took h
 at_line stops.Memory left now later before written pending v q next holds piece text_now g took h = tt
 
-only_written : (left : Option (List ℕ)) (t u : List ℕ) → IfSome left (λ bytes. (rest : List ℕ) × (report_of bytes ≡ (t ++ u) ++ rest)) → IfSome left (λ bytes. (rest : List ℕ) × (report_of bytes ≡ t ++ rest))
+only_written : (left : Option (List ℕ)) (t u : List ℕ) → IfSome left (λ bytes. (rest : List ℕ) × (report_of bytes ≡ (t ++ u) ++ rest)) →
+    IfSome left (λ bytes. (rest : List ℕ) × (report_of bytes ≡ t ++ rest))
 only_written None t u f = tt
 only_written (Some bytes) t u f = (u ++ f.0, f.1 ∙ append_assoc t u f.0)
 
-pub halted : (s : Stop) (left now later before written : Option (List ℕ)) (pending : List ℕ) (v : Option World) (q : Progress) (next : ℕ) (holds piece text_now : List ℕ) →
+pub halted : (s : Stop) (left now later before written : Option (List ℕ)) (pending : List ℕ) (v : Option World) (q : Progress) (next : ℕ)
+    (holds piece text_now : List ℕ) →
     Streams left now before written pending v q next holds → Consumes now later piece →
     AtStop s (λ n f. (more : List ℕ) → EndsAt text_now n f (behind pending (from_here v q next (lines_of ((holds ++ piece) ++ more))))) →
     Halts left before written text_now s

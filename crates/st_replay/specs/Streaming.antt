@@ -20,7 +20,8 @@ use Rattle.st_replay.specs.Playing.{AtStop, EndsAt, HasNone, Handled, IsHere, fr
 
 -- Bytes were taken and a text was written; the lines that were handled are the first ones of these bytes, and the others are
 -- held; the text that was written, then the one that was not yet, and then what follows, are the replay.
-pub record Streams (left_before left_now written_before written_now : Option (List ℕ)) (pending : List ℕ) (v : Option World) (q : Progress) (next : ℕ) (holds : List ℕ) : Type 0 where
+pub record Streams (left_before left_now written_before written_now : Option (List ℕ)) (pending : List ℕ) (v : Option World) (q : Progress) (next : ℕ)
+    (holds : List ℕ) : Type 0 where
   pub taken : List ℕ
   pub written : List ℕ
   pub handled : List (List ℕ)
@@ -42,8 +43,10 @@ pub record Halts (left_before written_before written_now : Option (List ℕ)) (p
   pub stops : AtStop s (λ n f. IfSome left_before (λ bytes. EndsAt (written ++ pending) n f (replay_of bytes)))
 
 -- what stands where all was taken, or where the replay halted
-abbrev pub Plays : Result Unit Halt → Option (List ℕ) → Option (List ℕ) → Option (List ℕ) → Option (List ℕ) → List ℕ → Option World → Progress → ℕ → List ℕ → Type 0
-Plays (Ok u) left left_now written written_now pending v q next holds = Streams left left_now written written_now pending v q next holds × IsAtEnd left_now × (pending ≡ [])
+abbrev pub Plays : Result Unit Halt → Option (List ℕ) → Option (List ℕ) → Option (List ℕ) → Option (List ℕ) → List ℕ → Option World → Progress → ℕ →
+    List ℕ → Type 0
+Plays (Ok u) left left_now written written_now pending v q next holds = Streams left left_now written written_now pending v q next holds × IsAtEnd left_now
+    × (pending ≡ [])
 Plays (Err (halts.Stopped s)) left left_now written written_now pending v q next holds = Halts left written written_now pending s
 Plays (Err halts.Read) left left_now written written_now pending v q next holds =
     IsCutOff left left_now written written_now × IfSome left (λ bytes. AppendsPrefix written written_now (report_of bytes))

@@ -6,6 +6,7 @@ mod ending;
 mod fault;
 mod feed;
 mod finish;
+mod law;
 mod lines;
 mod play;
 mod player;
@@ -13,6 +14,7 @@ mod sinks;
 mod source;
 
 pub use fault::{LineRefusal, ReplayFault};
+pub use law::reports_are_those_of_runs;
 pub use source::replay;
 pub use st_rules::Summary;
 pub use st_world_all::World;

@@ -61,7 +61,8 @@ pub(crate) fn play_line(
     requires playing { IsPlaying world.old reader.old line }
     ensures goes { OnOk result ((ls : List (List ℕ)) → behind text.new.items (from_line world.new reader.new (line + 1) ls)
         ≡ behind text.old.items (from_line world.old reader.old line (bytes.now ∷ ls))) }
-    ensures stops { OnStop result (λ n f. (ls : List (List ℕ)) → EndsAt text.new.items n f (behind text.old.items (from_line world.old reader.old line (bytes.now ∷ ls)))) }
+    ensures stops { OnStop result (λ n f. (ls : List (List ℕ)) → EndsAt text.new.items n f
+        (behind text.old.items (from_line world.old reader.old line (bytes.now ∷ ls)))) }
     ensures playing { OnOk result (IsPlaying world.new reader.new (line + 1)) }
     ensures room { OnOk result (length bytes.now + 1 + needs reader.new ≤ needs reader.old) }
 {

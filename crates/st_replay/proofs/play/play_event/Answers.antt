@@ -10,5 +10,6 @@ returns-in_ok-put_lines-in-Ok-clause-goes c = λ rest.
 
 pub returns-in-Err-Refused-clause-stops : goal.returns-in-Err-Refused-clause-stops
 returns-in-Err-Refused-clause-stops c = λ rest.
-    let m : (world_step c.args.world.now c.args.event ≡ Err c.in-Err-Refused.refusal) × (c.step.new.self ≡ c.args.world.now) = rw c.in-Err-Refused.field-0-is at c.in-Err-Refused.ensures.machine in
+    let m : (world_step c.args.world.now c.args.event ≡ Err c.in-Err-Refused.refusal) ×
+    (c.step.new.self ≡ c.args.world.now) = rw c.in-Err-Refused.field-0-is at c.in-Err-Refused.ensures.machine in
     event_stops c.args.text.now.items c.args.line c.args.world.now c.in-Err-Refused.refusal c.args.event rest m.0 c.requires.number
