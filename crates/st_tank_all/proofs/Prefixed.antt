@@ -1,5 +1,5 @@
 -- A text that was written whole was written in part.
-use Rattle.std.proofs.Common.{◌≡◌, ℕ, List, length, take, sym, subst}
+use Rattle.std.proofs.Common.{ℕ, List, length, sym, subst}
 use Rattle.std.proofs.Math.Seq.{take-length}
 use Rattle.std.specs.Prelude.{Option, Some, None, Result, Ok, Err, IfSome}
 use Rattle.st_rules.specs.declared.observation.Summary.{Summary}
