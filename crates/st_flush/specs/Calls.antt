@@ -6,7 +6,7 @@ use Rattle.st_base.specs.declared.ids.ServerId.{ServerId}
 use Rattle.st_rules.specs.declared.client.Ended.{Ended}
 use Rattle.st_rules.specs.declared.client.IoKind.{IoKind}
 use Rattle.st_rules.specs.declared.client.PageCommand.{PageCommand}
-use Rattle.st_rules.specs.ClientPages.{CommandEnd, command_on}
+use Rattle.st_rules.specs.ClientPages.{CommandEnd, begin_command, command_on}
 use Rattle.st_rules.specs.Keys.{same_page}
 use Rattle.st_rules.specs.ClientInvariants.{same_page_command, same_command_number}
 use Rattle.st_rules.specs.ServerInvariants.{are_once}
@@ -23,6 +23,10 @@ no_commands_of s = record { server = s; commands = [] }
 -- other commands of the same server
 abbrev pub with_commands : List PageCommand → ServerCommands → ServerCommands
 with_commands cs s = record s { commands = cs }
+
+-- a command of a page is outstanding
+abbrev pub with_begun : ℕ → ℕ → PageNo → IoKind → ServerCommands → ServerCommands
+with_begun number ino page kind s = with_commands (begin_command s.commands number ino page kind) s
 
 -- What always stands: a page has at most one command, and each number is that of one command.
 pub record AreApart (cs : List PageCommand) : Type 0 where

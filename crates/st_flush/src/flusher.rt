@@ -3,7 +3,7 @@ ghost use Rattle.std.specs.Option.{option_map};
 ghost use Rattle.std.specs.List.{list_any};
 ghost use Rattle.st_rules.specs.ClientPages as pages;
 ghost use Rattle.st_rules.specs.ServerInvariants.{are_once};
-ghost use Rattle.st_flush.specs.Calls.{AreApart, Ends, is_taken_in, may_begin, no_commands_of, same_page_write, told, told_on, with_commands};
+ghost use Rattle.st_flush.specs.Calls.{AreApart, Ends, is_taken_in, may_begin, no_commands_of, same_page_write, told, told_on, with_begun, with_commands};
 
 use crate::picks::{
     AnyWrite, InRange, NotNumbered, NotReadOf, Numbered, OfPage, OnFile, ReadOf, WriteOf, WriteOn,
@@ -201,7 +201,7 @@ impl Flusher {
     fn begin(&mut self, command: PageCommand) -> Result<(), AllocError>
         requires page { pages.command_on self.old.commands command.ino command.page ≡ None }
         requires number { pages.command_of self.old.commands command.number ≡ None }
-        ensures ok { OnOk result (self.new ≡ with_commands (pages.begin_command self.old.commands command.number command.ino command.page command.kind) self.old) }
+        ensures ok { OnOk result (self.new ≡ with_begun command.number command.ino command.page command.kind self.old) }
         ensures err { OnErr result (self.new ≡ self.old) }
     {
         self.commands.push(command)?;
@@ -221,7 +221,7 @@ impl Flusher {
         requires server { permit.server ≡ self.old.server }
         requires page { pages.command_on self.old.commands ino page ≡ None }
         requires number { pages.command_of self.old.commands number ≡ None }
-        ensures ok { OnOk result (self.new ≡ with_commands (pages.begin_command self.old.commands number ino page kind) self.old) }
+        ensures ok { OnOk result (self.new ≡ with_begun number ino page kind self.old) }
         ensures err { OnErr result (self.new ≡ self.old) }
     {
         permit.spend();

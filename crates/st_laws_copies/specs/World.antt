@@ -174,7 +174,10 @@ pub record Client_rests (c : ClientId) (es : List LogEntry) (s : ClientState) : 
 abbrev pub Restarts_keep_copies : Type 0
 Restarts_keep_copies =
     (asked_as : ℕ → Option Ask) (c : ClientId) (es : List LogEntry) (now : Stamp) (s : ClientState) →
-    record { crashes : Client_copies asked_as c es now s → Client_rests c es (cl.crash s); starts : Client_rests c es s → Client_stands asked_as c es (cl.start s) }
+    record {
+      crashes : Client_copies asked_as c es now s → Client_rests c es (cl.crash s);
+      starts : Client_rests c es s → Client_stands asked_as c es (cl.start s);
+    }
 
 -- What stands of a client that does not run stands by a log that changes elsewhere: entries of others, effects, drops.
 pub record Rests_on (c : ClientId) (es : List LogEntry) (s : ClientState) : Type 0 where

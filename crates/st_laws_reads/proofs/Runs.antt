@@ -53,18 +53,18 @@ use Rattle.st_laws_reads.proofs.Takings as takings
 use Rattle.st_laws_reads.proofs.Takings.{Takes, takes_event}
 
 -- What stands behind the steps of a run.
-record Stood (k : Config) (count : ℕ) (past : List Step) (t : Traced) : Type 0 where
-  all : AllStand k count t.world
-  places : PlacesHold t.world
-  stand : Stand past t
-  copies : CopiesHold (known past) t.world
-  clear : AllCleared t.world
-  waits : WaitsHold t.world
+pub record Stood (k : Config) (count : ℕ) (past : List Step) (t : Traced) : Type 0 where
+  pub all : AllStand k count t.world
+  pub places : PlacesHold t.world
+  pub stand : Stand past t
+  pub copies : CopiesHold (known past) t.world
+  pub clear : AllCleared t.world
+  pub waits : WaitsHold t.world
 
 -- What is promised of a step.
-record Kept (past : List Step) (x : Step) : Type 0 where
-  reads : ReadsReturnLastWrites past x
-  carry : WritesCarryTheContent past x
+pub record Kept (past : List Step) (x : Step) : Type 0 where
+  pub reads : ReadsReturnLastWrites past x
+  pub carry : WritesCarryTheContent past x
 
 -- What a step leaves.
 record Leaves_all (k : Config) (count : ℕ) (past : List Step) (t : Traced) (e : Event) (sc : Scene) : Type 0 where
@@ -105,6 +105,14 @@ module _ (k : Config) (count : ℕ) (past : List Step) (t : Traced) (e : Event) 
       owed : Taking_owed (known (past ++ st ∷ [])) x
       owed = record { numbered = numbered_there past st (counted t.world) e x refl (λ c site f. let z = s.stand.asks c site f in record { count = z.count; keys = z.keys }) q; owed = input_owed k count past t e sc is s.all s.places s.stand s.clear x q o }
 
+-- A step of the run: it reads right, and all stands behind it.
+pub next : (k : Config) (count : ℕ) (past : List Step) (t : Traced) (e : Event) (sc : Scene) → is_event count e ≡ true → world_step t.world e ≡ Ok sc → Stood k count past t → Places_after past (step t e sc) → Is_owed past (step t e sc) →
+    Kept past (step t e sc) × Stood k count (past ++ step t e sc ∷ []) (traced_after e t sc)
+next k count past t e sc in_range q s places owed =
+    let after = stays k count t.world e sc s.all (full count t.world e s.all.nodes in_range) q in
+    let z = goes k count past t e sc q s after owed.cuts (taken (counted t.world) e) refl owed.taken in
+    (z.kept, record { all = after; places = places; stand = (one_step past t e sc q s.places s.stand).stand; copies = z.copies; clear = clear_step t.world e sc q s.clear; waits = (cut_law t.world e sc q (waits_owed k count t.world s.all e (step_happens t.world e sc q).0) s.waits).holds })
+
 run : (P : Promise) → ((past : List Step) (x : Step) → Kept past x → P past x) → (k : Config) (count : ℕ) (es : List Event) → list_all (is_event count) es ≡ true → (past : List Step) (t : Traced) → Stood k count past t → Throughout Places_after past (steps es t) → Throughout Is_owed past (steps es t) → Throughout P past (steps es t)
 unfolding steps safety.steps_on Throughout
 run P pick k count [] all past t s o d = tt
@@ -115,9 +123,8 @@ run P pick k count (e ∷ es) all past t s o d = go (world_step t.world e) refl 
         Throughout P past (safety.steps_on (steps es) t e r)
     go (Err r) q o d f = tt
     go (Ok sc) q o d f =
-        let after = stays k count t.world e sc s.all (full count t.world e s.all.nodes (and_true (is_event count e) (list_all (is_event count) es) all).0) q in
-        let z = goes k count past t e sc q s after d.0.cuts (taken (counted t.world) e) refl d.0.taken in
-        (pick past (step t e sc) z.kept, f (past ++ step t e sc ∷ []) (traced_after e t sc) (record { all = after; places = o.0; stand = (one_step past t e sc q s.places s.stand).stand; copies = z.copies; clear = clear_step t.world e sc q s.clear; waits = (cut_law t.world e sc q (waits_owed k count t.world s.all e (step_happens t.world e sc q).0) s.waits).holds }) o.1 d.1)
+        let z = next k count past t e sc (and_true (is_event count e) (list_all (is_event count) es) all).0 q s o.0 d.0 in
+        (pick past (step t e sc) z.0, f (past ++ step t e sc ∷ []) (traced_after e t sc) z.1 o.1 d.1)
 
 -- At the start nothing is at hand.
 differs : (n a c : ℕ) → n < a → Differs (record { 0 = n }) (map cl.fresh_association (numbers a c))
@@ -178,18 +185,22 @@ module _ (k : base.Config) (clients servers d b form : ℕ) where
       no : true ≡ false → ⊥
       no r = cc
 
-in_run : (P : Promise) → ((past : List Step) (x : Step) → Kept past x → P past x) → (k : base.Config) (clients servers disks blocks form : ℕ) (es : List Event) → IsHead k clients servers disks blocks form → list_all (is_event (clients + servers)) es ≡ true →
-    Throughout Is_owed [] (steps es (traced (fresh_world k clients servers disks blocks form))) → Throughout P [] (steps es (traced (fresh_world k clients servers disks blocks form)))
-in_run P pick k clients servers disks blocks form es head events owed =
-    run P pick (terms_of k) (clients + servers) es events [] (traced (fresh_world k clients servers disks blocks form))
-    (record {
+-- All stands at the start.
+pub at_first : (k : base.Config) (clients servers disks blocks form : ℕ) → IsHead k clients servers disks blocks form → Stood (terms_of k) (clients + servers) [] (traced (fresh_world k clients servers disks blocks form))
+at_first k clients servers disks blocks form head =
+    record {
       all = begun k clients servers disks blocks form head;
       places = fresh_places k clients servers disks blocks form;
       stand = fresh_stand k clients servers disks blocks form;
       copies = fresh_copies k clients servers disks blocks form;
       clear = fresh_clear k clients servers disks blocks form;
       waits = fresh_waits k clients servers disks blocks form;
-    }) (places_law k clients servers disks blocks form es head) owed
+    }
+
+in_run : (P : Promise) → ((past : List Step) (x : Step) → Kept past x → P past x) → (k : base.Config) (clients servers disks blocks form : ℕ) (es : List Event) → IsHead k clients servers disks blocks form → list_all (is_event (clients + servers)) es ≡ true →
+    Throughout Is_owed [] (steps es (traced (fresh_world k clients servers disks blocks form))) → Throughout P [] (steps es (traced (fresh_world k clients servers disks blocks form)))
+in_run P pick k clients servers disks blocks form es head events owed =
+    run P pick (terms_of k) (clients + servers) es events [] (traced (fresh_world k clients servers disks blocks form)) (at_first k clients servers disks blocks form head) (places_law k clients servers disks blocks form es head) owed
 
 pub law : Runs_read
 law = in_run ReadsReturnLastWrites (λ past x z. z.reads)

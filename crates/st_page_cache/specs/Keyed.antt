@@ -1,9 +1,9 @@
 -- Pages found by their keys: each key is told by its page.
-use Rattle.std.specs.Prelude.{◌≡◌, ◌≤◌, ◌&&◌, ◌==◌, Bool, List, Option, Some, None, length, map}
+use Rattle.std.specs.Prelude.{◌≡◌, ◌≤◌, ◌&&◌, ◌==◌, ℕ, Bool, List, Option, Some, None, length, map}
 use Rattle.std.specs.List.{IsDistinct}
-use Rattle.std.specs.Map.{keys_of, values_of}
+use Rattle.std.specs.Map.{keys_of, lookup, set_value, values_of}
 use Rattle.lru.specs.LruCache.{LruCache}
-use Rattle.st_rules.specs.ClientPages.{with_newest}
+use Rattle.st_rules.specs.ClientPages.{failed_by, with_newest}
 use Rattle.st_rules.specs.declared.client.CleanPage.{CleanPage}
 use Rattle.st_rules.specs.declared.client.KnownExtent.{KnownExtent}
 use Rattle.st_rules.specs.declared.pages.DirtyPage.{DirtyPage}
@@ -50,3 +50,7 @@ pub record IsTable (es : List (PageKey × DirtyPage)) : Type 0 where
 pub record IsKnown (es : List (PageKey × KnownExtent)) : Type 0 where
   pub keyed : IsKeyed known_key es
   pub distinct : IsDistinct same_key (keys_of es)
+
+-- the page of this key is marked as failed by a command, where it is there
+abbrev pub Marks : PageKey → ℕ → List (PageKey × DirtyPage) → List (PageKey × DirtyPage) → Type 0
+Marks at command old new = (d : DirtyPage) → lookup (same_key at) old ≡ Some d → new ≡ set_value (same_key at) old (failed_by command d)

@@ -17,12 +17,17 @@ use Rattle.st_rules.specs.declared.input.ServerInput.{ServerInput}
 use Rattle.st_rules.specs.declared.node.StepRefusal.{StepRefusal}
 use Rattle.st_rules.specs.declared.node.StepRefusal.TheVariants as refusals
 use Rattle.st_rules.specs.Locks as locks
+use Rattle.st_rules.specs.Names.{Names}
 use Rattle.st_rules.specs.Sessions as sessions
 use Rattle.st_rules.specs.Server.{Turn, Replied, ServerNode, NodeTurn, with_sessions, with_locks, note, reply, tell, sender, suspect_client, thefts, take_input, suspecting_on, granting, demanding, crash, crash_node}
 
 -- what a rule leaves, and its reply
 abbrev pub answered : Turn → Option Body → Replied
 answered t reply = record { turn = t; reply = reply }
+
+-- a server's names, so far in a step
+abbrev pub names_of : Turn → Names
+names_of t = t.state.stable.names
 
 -- the locks of a client are stolen, whose session has this life
 abbrev pub stolen : Turn → ClientId → Life → Turn

@@ -3,7 +3,7 @@ ghost use Rattle.std.specs.Prelude.{◌≡◌, ◌≢◌, ◌-◌, ◌^◌, ◌<
 ghost use Rattle.st_base.specs.declared.names.NameRefusal.TheVariants as refusals;
 ghost use Rattle.st_rules.specs.Names as names;
 ghost use Rattle.st_rules.specs.Server as server;
-ghost use Rattle.st_server.specs.Steps.{Keeps, answered};
+ghost use Rattle.st_server.specs.Steps.{Keeps, answered, names_of};
 ghost use Rattle.st_server.specs.Told as told;
 
 use crate::locking::not_holder;
@@ -42,7 +42,7 @@ fn refused(refusal: NameRefusal) -> Result<Body, AllocError>
 impl Machine {
     #[tactic(auto, unfolding(st_rules::specs::Server::name_found, st_rules::specs::Server::name_refused))]
     fn lookup(&self, dir: u32, name: &Name) -> Result<Body, AllocError>
-        ensures { IfOk result (λ body. answered self.now (Some body) ≡ server.name_found self.now (names.lookup self.now.state.stable.names dir name.now)) }
+        ensures { IfOk result (λ body. answered self.now (Some body) ≡ server.name_found self.now (names.lookup (names_of self.now) dir name.now)) }
     {
         match self.stable.names.lookup(dir, name.as_slice()) {
             Ok(ino) => Ok(Body::Named(NameReply::Ino(ino))),
@@ -53,7 +53,7 @@ impl Machine {
     #[tactic(auto, unfolding(st_rules::specs::Server::name_changed, st_rules::specs::Server::name_refused, st_rules::specs::Server::crash))]
     fn create(&mut self, dir: u32, name: &Name) -> Result<Body, AllocError>
         requires { self.old.state.stable.names.next < 2 ^ 32 - 1 }
-        ensures ok { IfOk result (λ body. answered self.new (Some body) ≡ server.name_changed self.old (names.create self.old.state.stable.names dir name.now)) }
+        ensures ok { IfOk result (λ body. answered self.new (Some body) ≡ server.name_changed self.old (names.create (names_of self.old) dir name.now)) }
         ensures kept { OnErr result (Keeps self.old self.new) }
     {
         match self.stable.names.create(dir, name.as_slice()) {
@@ -65,7 +65,7 @@ impl Machine {
     #[tactic(auto, unfolding(st_rules::specs::Server::name_changed, st_rules::specs::Server::name_refused, st_rules::specs::Server::crash))]
     fn mkdir(&mut self, dir: u32, name: &Name) -> Result<Body, AllocError>
         requires { self.old.state.stable.names.next < 2 ^ 32 - 1 }
-        ensures ok { IfOk result (λ body. answered self.new (Some body) ≡ server.name_changed self.old (names.mkdir self.old.state.stable.names dir name.now)) }
+        ensures ok { IfOk result (λ body. answered self.new (Some body) ≡ server.name_changed self.old (names.mkdir (names_of self.old) dir name.now)) }
         ensures kept { OnErr result (Keeps self.old self.new) }
     {
         match self.stable.names.mkdir(dir, name.as_slice()) {
@@ -76,7 +76,7 @@ impl Machine {
 
     #[tactic(auto, unfolding(st_rules::specs::Server::name_changed, st_rules::specs::Server::name_refused, st_rules::specs::Server::crash))]
     fn rename(&mut self, dir: u32, name: &Name, dir2: u32, name2: &Name) -> Result<Body, AllocError>
-        ensures ok { IfOk result (λ body. answered self.new (Some body) ≡ server.name_changed self.old (names.rename self.old.state.stable.names dir name.now dir2 name2.now)) }
+        ensures ok { IfOk result (λ body. answered self.new (Some body) ≡ server.name_changed self.old (names.rename (names_of self.old) dir name.now dir2 name2.now)) }
         ensures kept { OnErr result (Keeps self.old self.new) }
     {
         match self
@@ -91,7 +91,7 @@ impl Machine {
 
     #[tactic(auto, unfolding(st_rules::specs::Server::names_listed, st_rules::specs::Server::name_refused))]
     fn list(&self, dir: u32, after: &Name) -> Result<Body, AllocError>
-        ensures { IfOk result (λ body. answered self.now (Some body) ≡ server.names_listed self.now (names.list self.now.state.stable.names dir after.now)) }
+        ensures { IfOk result (λ body. answered self.now (Some body) ≡ server.names_listed self.now (names.list (names_of self.now) dir after.now)) }
     {
         match self.stable.names.list(dir, after.as_slice()) {
             Ok(rows) => Ok(Body::Named(NameReply::Listed(NameRows::from_vec(rows)))),
@@ -102,7 +102,7 @@ impl Machine {
     /// Removes a directory, which must be empty.
     #[tactic(auto, unfolding(st_rules::specs::Server::name_changed, st_rules::specs::Server::name_refused, st_rules::specs::Server::crash))]
     fn remove_empty(&mut self, dir: u32, name: &Name) -> Result<Body, AllocError>
-        ensures ok { IfOk result (λ body. answered self.new (Some body) ≡ server.name_changed self.old (names.remove self.old.state.stable.names dir name.now)) }
+        ensures ok { IfOk result (λ body. answered self.new (Some body) ≡ server.name_changed self.old (names.remove (names_of self.old) dir name.now)) }
         ensures kept { OnErr result (Keeps self.old self.new) }
     {
         match self.stable.names.remove(dir, name.as_slice()) {
@@ -126,7 +126,7 @@ impl Machine {
     /// A file is removed, with its pages and waits, and that is noted. Only the first step may run out of memory.
     #[tactic(auto, unfolding(st_rules::specs::Server::remove_by, st_rules::specs::Server::cut_whole, st_rules::specs::Server::cut_pages, st_rules::specs::Server::name_refused, st_rules::specs::Server::crash))]
     fn remove_whole(&mut self, dir: u32, name: &Name) -> Result<Body, AllocError>
-        ensures ok { IfOk result (λ body. answered self.new (Some body) ≡ server.remove_by self.old (names.remove self.old.state.stable.names dir name.now)) }
+        ensures ok { IfOk result (λ body. answered self.new (Some body) ≡ server.remove_by self.old (names.remove (names_of self.old) dir name.now)) }
         ensures kept { OnErr result (Keeps self.old self.new) }
     {
         self.out.reserve(1)?;

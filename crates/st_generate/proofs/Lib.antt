@@ -1,0 +1,5 @@
+mod Sizes
+mod Drawn
+mod Choices
+mod Runs
+mod Full

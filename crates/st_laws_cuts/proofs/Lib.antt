@@ -1,0 +1,5 @@
+pub mod Client
+pub mod Step
+pub mod Server
+pub mod World
+pub mod Law

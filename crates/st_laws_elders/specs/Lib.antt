@@ -1,0 +1,4 @@
+pub mod Paths
+pub mod Frozen
+pub mod Elders
+pub mod Runs

@@ -1,0 +1,11 @@
+pub mod Below
+pub mod Changes
+pub mod Clients
+pub mod Crashes
+pub mod Fold
+pub mod Runs
+pub mod Servers
+pub mod Advances
+pub mod Everywhere
+pub mod Tops
+pub mod Grants
