@@ -1,0 +1,3 @@
+pub mod Clocked
+pub mod Firsts
+pub mod Kept
