@@ -1,0 +1,57 @@
+// Where the messages lie in the buffer.
+ghost use Rattle.std.specs.Prelude.{◌≡◌, ◌<◌, ◌≤◌, ◌+◌, ◌-◌, length, option_map, set};
+ghost use Rattle.st_rules.specs.World.{numbered};
+ghost use Rattle.st_network.specs.Pieces.{head_at, with_lost};
+
+/// Where the spelling of a message lies in the buffer, the message's nodes, and whether it is lost.
+#[derive(Clone, Copy, Debug, PartialEq, Eq)]
+pub struct Place {
+    pub start: usize,
+    pub len: usize,
+    pub from: u16,
+    pub to: u16,
+    pub lost: bool,
+}
+
+/// The nodes of a message, as its header has them, and whether the message is lost.
+#[derive(Clone, Copy, Debug, PartialEq, Eq)]
+pub struct Head {
+    pub from: u16,
+    pub to: u16,
+    pub lost: bool,
+}
+
+/// The place of a message, by its number from 1.
+pub fn place_of(places: &[Place], k: u64) -> Option<Place>
+    ensures { result ≡ numbered places.now k }
+{
+    if k == 0 {
+        return None;
+    }
+    places.get((k - 1) as usize).copied()
+}
+
+/// The nodes of the message at a place.
+pub fn head_of(place: Option<Place>) -> Option<Head>
+    ensures { result ≡ option_map head_at place }
+{
+    match place {
+        None => None,
+        Some(place) => Some(Head {
+            from: place.from,
+            to: place.to,
+            lost: place.lost,
+        }),
+    }
+}
+
+/// The message of this number is lost.
+pub fn lose(places: &mut Vec<Place>, k: u64)
+    ensures { places.new.items ≡ with_lost k places.old.items }
+{
+    if k == 0 || k > places.len() as u64 {
+        return;
+    }
+    let place = &mut places[(k - 1) as usize];
+    place.lost = true;
+}
