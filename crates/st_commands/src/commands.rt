@@ -1,5 +1,5 @@
 // The commands, and the calls on them.
-ghost use Rattle.std.specs.Prelude.{◌≡◌, length, IfOk, OnOk, OnErr};
+ghost use Rattle.std.specs.Prelude.{◌≡◌, ◌<◌, ◌^◌, length, IfOk, OnOk, OnErr};
 ghost use Rattle.std.specs.Option.{option_map};
 ghost use Rattle.st_commands.specs.Issued as issued;
 ghost use Rattle.st_commands.specs.Open.{open_from};
@@ -82,7 +82,8 @@ impl Commands {
 
     /// Returns the number of commands.
     pub fn count(&self) -> u64
-        ensures { result ≡ length self.now.commands }
+        ensures count { result ≡ length self.now.commands }
+        ensures small { result < 2 ^ 63 }
     {
         self.issued.len() as u64
     }

@@ -1,5 +1,5 @@
 // The network, and the calls on it.
-ghost use Rattle.std.specs.Prelude.{◌≡◌, ◌≤◌, ◌+◌, ◌++◌, ◌∷◌, [], true, not, filter, length, option_map, IfOk, IfSome, OnOk, OnErr};
+ghost use Rattle.std.specs.Prelude.{◌≡◌, ◌≤◌, ◌<◌, ◌^◌, ◌+◌, ◌++◌, ◌∷◌, [], true, not, filter, length, option_map, IfOk, IfSome, OnOk, OnErr};
 ghost use Rattle.std.specs.List.{list_any};
 ghost use Rattle.st_messages.specs.Fits as fits;
 ghost use Rattle.st_network.specs.Pieces as pieces;
@@ -69,7 +69,8 @@ impl Network {
 
     /// Returns the number of messages.
     pub fn count(&self) -> u64
-        ensures { result ≡ length self.now.messages }
+        ensures count { result ≡ length self.now.messages }
+        ensures small { result < 2 ^ 63 }
     {
         self.places.len() as u64
     }
