@@ -87,6 +87,20 @@ impl Lives {
         push_reached(&self.clocks, steps, &self.ahead, found)
     }
 
+    /// Adds those of these lives whose lease ends an advance reaches, in order.
+    pub fn reached_among(
+        &self,
+        steps: &[u64],
+        lives: &[LeaseLife],
+        found: &mut Vec<LeaseLife>,
+    ) -> Result<(), AllocError>
+        requires clocks { list_all (is_at_most (2 ^ 62)) self.now.clocks ≡ true }
+        requires steps { list_all is_step steps.now ≡ true }
+        ensures { OnOk result (found.new.items ≡ found.old.items ++ filter (is_reached self.now.clocks steps.now) lives.now) }
+    {
+        push_reached(&self.clocks, steps, lives, found)
+    }
+
     /// All clocks advance. It does not allocate.
     pub fn advance(&mut self, steps: &[u64])
         requires each { length steps.now ≡ length self.old.clocks }

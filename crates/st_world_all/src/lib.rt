@@ -3,6 +3,8 @@
 #![tactic(auto)]
 
 mod answers;
+mod changes;
+mod ending;
 mod issuing;
 mod machine;
 mod noting;
