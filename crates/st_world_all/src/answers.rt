@@ -1,6 +1,7 @@
 // Answers to applications.
-ghost use Rattle.std.specs.Prelude.{◌≡◌, ◌<◌, ◌^◌, OnOk};
+ghost use Rattle.std.specs.Prelude.{◌≡◌, ◌<◌, ◌≤◌, ◌^◌, ◌-◌, OnOk};
 ghost use Rattle.st_rules.specs.Events as events;
+ghost use Rattle.st_world_all.specs.Keeping.{Keeps};
 
 use crate::machine::Machine;
 use st_base::ClientId;
@@ -9,7 +10,8 @@ use st_rules::Observation;
 use std::alloc::AllocError;
 
 fn reads_in(answer: &AppAnswer) -> u64
-    ensures { result ≡ events.reads_in answer.now }
+    ensures reads { result ≡ events.reads_in answer.now }
+    ensures most { result ≤ 1 }
 {
     match answer {
         AppAnswer::Read(_) => 1,
@@ -26,8 +28,9 @@ impl Machine {
         op: u32,
         answer: AppAnswer,
     ) -> Result<(), AllocError>
-        requires { self.old.world.tally.reads < 2 ^ 62 }
-        ensures { OnOk result (self.new ≡ events.answers_with self.old client op answer) }
+        requires { self.old.world.tally.reads < 2 ^ 64 - 1 }
+        ensures exact { OnOk result (self.new ≡ events.answers_with self.old client op answer) }
+        ensures kept { Keeps self.old self.new }
     {
         self.reads += reads_in(&answer);
         self.see(Observation::Answered { client, op, answer })

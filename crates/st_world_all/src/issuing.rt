@@ -6,6 +6,7 @@ ghost use Rattle.st_rules.specs.Events as events;
 ghost use Rattle.st_rules.specs.World as world;
 ghost use Rattle.st_rules.specs.declared.observation.Observation.TheVariants as seen;
 ghost use Rattle.st_world_all.specs.Shapes.{issued_at};
+ghost use Rattle.st_world_all.specs.Keeping.{Keeps};
 
 use crate::machine::{Machine, site_at};
 use crate::site::Site;
@@ -19,7 +20,8 @@ impl Machine {
     #[tactic(auto, unfolding(st_rules::specs::Events::sends))]
     pub(crate) fn send(&mut self, message: Message) -> Result<(), AllocError>
         requires { fits message ≡ true }
-        ensures { OnOk result (self.new ≡ events.sends self.old message) }
+        ensures exact { OnOk result (self.new ≡ events.sends self.old message) }
+        ensures kept { Keeps self.old self.new }
     {
         let k = self.net.count() + 1;
         self.net.send(&message)?;
@@ -92,7 +94,8 @@ impl Machine {
         command: IssuedCommand,
         what: Command,
     ) -> Result<(), AllocError>
-        ensures { OnOk result (self.new ≡ events.see (events.with_command command what self.old.world) self.old (seen.Submitted (length self.old.world.commands + 1) client number what)) }
+        ensures exact { OnOk result (self.new ≡ events.see (events.with_command command what self.old.world) self.old (seen.Submitted (length self.old.world.commands + 1) client number what)) }
+        ensures kept { Keeps self.old self.new }
     {
         let k = self.commands.count() + 1;
         self.commands.submit(command, what.copy()?)?;
@@ -115,7 +118,8 @@ impl Machine {
     ) -> Result<(), AllocError>
         requires some { 1 ≤ length self.old.world.servers }
         requires few { length self.old.world.servers ≤ 4 }
-        ensures { OnOk result (self.new ≡ events.submits self.old client (world.site_of self.old.world client) number at what) }
+        ensures exact { OnOk result (self.new ≡ events.submits self.old client (world.site_of self.old.world client) number at what) }
+        ensures kept { Keeps self.old self.new }
     {
         match self.issued(client, number, at, &what) {
             None => Ok(()),

@@ -2,13 +2,18 @@
 //! has the rules.
 #![tactic(auto)]
 
+mod advancing;
 mod answers;
 mod changes;
+mod crashing;
 mod ending;
+mod flushes;
+mod index;
 mod issuing;
 mod machine;
 mod noting;
 mod site;
+mod taking;
 
 pub use machine::Machine;
 pub use site::Site;

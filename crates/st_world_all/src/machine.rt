@@ -3,6 +3,7 @@ ghost use Rattle.std.specs.Prelude.{◌≡◌, ◌≤◌, ◌<◌, ◌+◌, OnOk
 ghost use Rattle.std.specs.Option.{option_copied};
 ghost use Rattle.st_rules.specs.Events as events;
 ghost use Rattle.st_rules.specs.World as world;
+ghost use Rattle.st_world_all.specs.Keeping.{Stays};
 
 use crate::site::Site;
 use st_base::{BlockAt, ClientId, Config, Life, NodeId, ServerId, Stamp};
@@ -93,7 +94,8 @@ fn life_at(site: Option<&Site>, server: ServerId) -> Life
 impl Machine {
     /// One more observation.
     pub(crate) fn see(&mut self, observation: Observation) -> Result<(), AllocError>
-        ensures { OnOk result (self.new ≡ events.see self.old.world self.old observation) }
+        ensures exact { OnOk result (self.new ≡ events.see self.old.world self.old observation) }
+        ensures kept { Stays self.old self.new }
     {
         self.seen.push(observation)?;
         Ok(())

@@ -1,0 +1,19 @@
+-- What crashes leave.
+use Rattle.std.specs.Prelude.{ℕ, List, ◌++◌, map, set}
+use Rattle.st_lives.specs.Clocked.{Lived}
+use Rattle.st_base.specs.declared.ids.ClientId.{ClientId}
+use Rattle.st_rules.specs.declared.world.LeaseLife.{LeaseLife}
+use Rattle.st_rules.specs.Events.{Scene, log_crashed, marks, stopped_site, with_crashed_lives}
+use Rattle.st_rules.specs.World.{ClientSite, World}
+
+-- with more lives that ended
+abbrev pub with_all_ended : List LeaseLife → Lived → Lived
+with_all_ended es l = record l { ended = l.ended ++ es }
+
+-- a world with this client at a place
+abbrev pub with_site_at : ℕ → ClientSite → World → World
+with_site_at i site w = record w { clients = set w.clients i site }
+
+-- a world in which a client crashed, which stood at this place
+abbrev pub crashed_at : ClientId → ℕ → ClientSite → World → Scene
+crashed_at c i site w = marks (with_site_at i (stopped_site site) (with_crashed_lives site w)) (log_crashed w c)
