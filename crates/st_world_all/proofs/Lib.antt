@@ -6,3 +6,4 @@ pub mod Overs
 pub mod Puts
 pub mod Reached
 pub mod Submits
+pub mod Takings

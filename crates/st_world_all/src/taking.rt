@@ -1,9 +1,10 @@
 // Steps of nodes.
-ghost use Rattle.std.specs.Prelude.{◌≡◌, ◌<◌, ◌≤◌, ◌^◌, [], true, map, set, slice_get, Some, IfOk, OnOk, length};
+ghost use Rattle.std.specs.Prelude.{◌≡◌, ◌<◌, ◌≤◌, ◌+◌, ◌^◌, [], true, map, set, slice_get, Some, IfOk, OnOk, length};
 ghost use Rattle.std.specs.List.{list_all};
 ghost use Rattle.st_base.specs.declared.ids.NodeId.TheVariants as nodes;
 ghost use Rattle.st_client.specs.Inputs.{comes_fit, is_sent};
 ghost use Rattle.st_rules.specs.Client as client_rules;
+ghost use Rattle.st_rules.specs.ClientState.{ClientState};
 ghost use Rattle.st_rules.specs.Events as events;
 ghost use Rattle.st_rules.specs.Server as server_rules;
 ghost use Rattle.st_rules.specs.Server.{ServerNode};
@@ -64,6 +65,7 @@ fn step_site(
     requires fits { comes_fit input ≡ true }
     ensures exact { (site : ClientSite) → slice_get clients.old.items i ≡ Some site → SitesStep i site clients.old.items clients.new.items result (client_rules.node_step site.node now input) }
     ensures sent { IfOk result (λ out. list_all is_sent out ≡ true) }
+    ensures len { length clients.new.items ≡ length clients.old.items }
 {
     let site = &mut clients[i];
     site.step(now, input)
@@ -101,5 +103,79 @@ impl Machine {
         let site = &self.clients[i];
         flush_all(&mut self.flushed, client, &site.node, now, servers)?;
         Ok(())
+    }
+
+    /// What a client at this place said, and its flush steps.
+    fn client_said(
+        &mut self,
+        client: ClientId,
+        i: usize,
+        ends: &LeaseEnds,
+        outputs: Outputs,
+    ) -> Result<(), AllocError>
+        requires there { i < length self.old.world.clients }
+        requires some { 1 ≤ length self.old.world.servers }
+        requires few { length self.old.world.servers ≤ 4 }
+        requires clients { length self.old.world.clients ≤ 16 }
+        requires reads { self.old.world.tally.reads < 2 ^ 63 }
+        requires sent { list_all is_sent outputs ≡ true }
+        ensures { (before : ClientState) (site : ClientSite) → HasEnds before ends.now → slice_get self.old.world.clients i ≡ Some site → OnOk result (self.new ≡ events.with_flushes client site.node.state (events.client_says_all client before outputs self.old)) }
+    {
+        self.client_say_all(client, ends, outputs)?;
+        self.flush(client, i)
+    }
+
+    /// The server at this place takes an input.
+    #[tactic(auto, unfolding(st_rules::specs::Events::server_takes, st_rules::specs::Events::server_took))]
+    fn server_take_at(
+        &mut self,
+        server: ServerId,
+        i: usize,
+        input: ServerInput,
+    ) -> Result<(), AllocError>
+        requires begins { self.old.seen ≡ [] }
+        requires number { server.0 ≡ i + 1 }
+        requires there { i < length self.old.world.servers }
+        requires clients { length self.old.world.clients ≤ 16 }
+        requires time { (world.clock_of self.old.world (nodes.Server server)).0 ≤ 2 ^ 62 }
+        requires fits { ready.comes_fit input ≡ true }
+        requires room { (node : ServerNode) → slice_get self.old.world.servers i ≡ Some node → HasRoom node.state }
+        requires stolen { self.old.world.tally.stolen < 2 ^ 63 }
+        ensures { (node : ServerNode) → slice_get self.old.world.servers i ≡ Some node → OnOk result (self.new ≡ events.server_takes self.old.world server input node) }
+    {
+        let now = self.clock_of(NodeId::Server(server));
+        match step_node(&mut self.servers, i, now, input) {
+            Err(StepFault::Crashed) => Ok(()),
+            Err(StepFault::Memory) => Err(AllocError),
+            Ok(outputs) => self.server_say_all(server, outputs),
+        }
+    }
+
+    /// The client at this place takes an input.
+    #[tactic(auto, unfolding(st_rules::specs::Events::client_takes, st_rules::specs::Events::client_took))]
+    fn client_take_at(
+        &mut self,
+        client: ClientId,
+        i: usize,
+        input: ClientInput,
+    ) -> Result<(), AllocError>
+        requires begins { self.old.seen ≡ [] }
+        requires number { client.0 ≡ i + 1 }
+        requires there { i < length self.old.world.clients }
+        requires some { 1 ≤ length self.old.world.servers }
+        requires few { length self.old.world.servers ≤ 4 }
+        requires clients { length self.old.world.clients ≤ 16 }
+        requires time { (world.clock_of self.old.world (nodes.Client client)).0 ≤ 2 ^ 62 }
+        requires fits { comes_fit input ≡ true }
+        requires reads { self.old.world.tally.reads < 2 ^ 63 }
+        ensures { (site : ClientSite) → slice_get self.old.world.clients i ≡ Some site → OnOk result (self.new ≡ events.client_takes self.old.world client input site) }
+    {
+        let now = self.clock_of(NodeId::Client(client));
+        let ends = ends_at(&self.clients, i);
+        match step_site(&mut self.clients, i, now, input) {
+            Err(StepFault::Crashed) => Ok(()),
+            Err(StepFault::Memory) => Err(AllocError),
+            Ok(outputs) => self.client_said(client, i, &ends, outputs),
+        }
     }
 }
