@@ -1,9 +1,11 @@
 pub mod Crashed
+pub mod Delivered
 pub mod Flushed
 pub mod Logged
 pub mod Numbers
 pub mod Overs
 pub mod Puts
 pub mod Reached
+pub mod Refused
 pub mod Submits
 pub mod Takings

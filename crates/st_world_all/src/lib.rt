@@ -5,8 +5,10 @@
 mod advancing;
 mod answers;
 mod changes;
+mod checks;
 mod crashing;
 mod ending;
+mod events;
 mod flushes;
 mod index;
 mod issuing;

@@ -127,7 +127,7 @@ impl Machine {
 
     /// The server at this place takes an input.
     #[tactic(auto, unfolding(st_rules::specs::Events::server_takes, st_rules::specs::Events::server_took))]
-    fn server_take_at(
+    pub(crate) fn server_take_at(
         &mut self,
         server: ServerId,
         i: usize,
@@ -153,7 +153,7 @@ impl Machine {
 
     /// The client at this place takes an input.
     #[tactic(auto, unfolding(st_rules::specs::Events::client_takes, st_rules::specs::Events::client_took))]
-    fn client_take_at(
+    pub(crate) fn client_take_at(
         &mut self,
         client: ClientId,
         i: usize,

@@ -1,0 +1,145 @@
+// The checks of events.
+ghost use Rattle.std.specs.Prelude.{◌≡◌};
+ghost use Rattle.std.specs.Option.{option_copied, option_or};
+ghost use Rattle.st_rules.specs.Admissible as admissible;
+ghost use Rattle.st_rules.specs.Admissible.{stands};
+ghost use Rattle.st_rules.specs.declared.observation.WorldRefusal.TheVariants as refusals;
+ghost use Rattle.st_rules.specs.World as world;
+ghost use Rattle.st_world_all.specs.Delivering.{delivery_refused};
+
+use crate::events::node_of_number;
+use crate::machine::{Machine, node_at, site_at};
+use crate::site::Site;
+use st_base::NodeId;
+use st_network::Head;
+use st_rules::WorldRefusal;
+use st_server::ServerNode;
+
+/// The refusal, where the test stands.
+#[tactic(auto, unfolding(st_rules::specs::Admissible::stands))]
+fn stands(test: bool, refusal: WorldRefusal) -> Option<WorldRefusal>
+    ensures { result ≡ stands test refusal }
+{
+    if test { Some(refusal) } else { None }
+}
+
+fn site_runs(site: Option<&Site>) -> bool
+    ensures { result ≡ world.site_runs (option_copied site.entry) }
+{
+    match site {
+        None => false,
+        Some(site) => site.running(),
+    }
+}
+
+fn node_runs(node: Option<&ServerNode>) -> bool
+    ensures { result ≡ world.node_runs (option_copied node.entry) }
+{
+    match node {
+        None => false,
+        Some(node) => node.running(),
+    }
+}
+
+impl Machine {
+    fn is_running(&self, node: NodeId) -> bool
+        ensures { result ≡ world.is_running self.now.world node }
+    {
+        match node {
+            NodeId::Client(client) => site_runs(site_at(&self.clients, client)),
+            NodeId::Server(server) => node_runs(node_at(&self.servers, server)),
+        }
+    }
+
+    fn is_known(&self, node: NodeId) -> bool
+        ensures { result ≡ world.is_known self.now.world node }
+    {
+        match node {
+            NodeId::Client(client) => { 1 <= client.0 && client.0 as usize <= self.clients.len() }
+            NodeId::Server(server) => { 1 <= server.0 && server.0 as usize <= self.servers.len() }
+        }
+    }
+
+    pub(crate) fn no_node(&self, node: NodeId) -> Option<WorldRefusal>
+        ensures { result ≡ admissible.no_node self.now.world node }
+    {
+        stands(!self.is_known(node), WorldRefusal::NoNode(node))
+    }
+
+    pub(crate) fn not_running(&self, node: NodeId) -> Option<WorldRefusal>
+        ensures { result ≡ admissible.not_running self.now.world node }
+    {
+        stands(!self.is_running(node), WorldRefusal::NotRunning(node))
+    }
+
+    pub(crate) fn still_running(&self, node: NodeId) -> Option<WorldRefusal>
+        ensures { result ≡ admissible.still_running self.now.world node }
+    {
+        stands(self.is_running(node), WorldRefusal::Running(node))
+    }
+
+    pub(crate) fn net_full(&self) -> Option<WorldRefusal>
+        ensures { result ≡ admissible.net_full self.now.world }
+    {
+        let bytes = self.net.bytes();
+        stands(536_870_912 <= bytes, WorldRefusal::NetFull(bytes))
+    }
+
+    /// A node that is to take a step.
+    pub(crate) fn cannot_step(&self, node: NodeId) -> Option<WorldRefusal>
+        ensures { result ≡ admissible.cannot_step self.now.world node }
+    {
+        match self.not_running(node) {
+            Some(refusal) => Some(refusal),
+            None => self.net_full(),
+        }
+    }
+
+    fn link_cut(&self, head: Head) -> Option<WorldRefusal>
+        ensures { result ≡ admissible.stands (admissible.is_cut self.now.world (world.node_at head.from) (world.node_at head.to)) (refusals.LinkCut (world.node_at head.from) (world.node_at head.to)) }
+    {
+        let from = node_of_number(head.from);
+        let to = node_of_number(head.to);
+        stands(self.net.is_cut(from, to), WorldRefusal::LinkCut(from, to))
+    }
+
+    fn undelivered(&self, k: u64, head: Head) -> Option<WorldRefusal>
+        ensures { result ≡ delivery_refused self.now.world k head }
+    {
+        match stands(head.lost, WorldRefusal::LostMessage(k)) {
+            Some(refusal) => Some(refusal),
+            None => self.unsent(head),
+        }
+    }
+
+    fn unsent(&self, head: Head) -> Option<WorldRefusal>
+        ensures { result ≡ option_or (admissible.stands (admissible.is_cut self.now.world (world.node_at head.from) (world.node_at head.to)) (refusals.LinkCut (world.node_at head.from) (world.node_at head.to))) (admissible.cannot_step self.now.world (world.node_at head.to)) }
+    {
+        match self.link_cut(head) {
+            Some(refusal) => Some(refusal),
+            None => self.cannot_step(node_of_number(head.to)),
+        }
+    }
+
+    /// Delivering the message of a number.
+    #[tactic(auto, using(crate::proofs::Refused::delivery_none, crate::proofs::Refused::delivery_some))]
+    pub(crate) fn refused_delivery(&self, k: u64) -> Option<WorldRefusal>
+        ensures { result ≡ admissible.refused_delivery self.now.world k (world.message_of self.now.world k) }
+    {
+        match self.net.head(k) {
+            None => Some(WorldRefusal::NoMessage(k)),
+            Some(head) => self.undelivered(k, head),
+        }
+    }
+
+    /// Losing the message of a number.
+    #[tactic(auto, using(crate::proofs::Refused::loss_none, crate::proofs::Refused::loss_some))]
+    pub(crate) fn refused_loss(&self, k: u64) -> Option<WorldRefusal>
+        ensures { result ≡ admissible.refused_loss k (world.message_of self.now.world k) }
+    {
+        match self.net.head(k) {
+            None => Some(WorldRefusal::NoMessage(k)),
+            Some(head) => stands(head.lost, WorldRefusal::LostMessage(k)),
+        }
+    }
+}
