@@ -1,5 +1,6 @@
 pub mod Crashed
 pub mod Delivered
+pub mod Dispatch
 pub mod Flushed
 pub mod Logged
 pub mod Numbers

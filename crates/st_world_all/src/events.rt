@@ -1,5 +1,5 @@
 // Ticks, deliveries and reports.
-ghost use Rattle.std.specs.Prelude.{◌≡◌, ◌≤◌, ◌<◌, ◌^◌, [], true, OnOk, IfSome, length, slice_get, Some};
+ghost use Rattle.std.specs.Prelude.{◌≡◌, ◌≤◌, ◌<◌, ◌+◌, ◌^◌, [], true, OnOk, IfSome, length, slice_get, Some};
 ghost use Rattle.st_client.specs.Inputs.{comes_fit};
 ghost use Rattle.st_messages.specs.Fits.{fits};
 ghost use Rattle.st_rules.specs.Events as events;
@@ -116,6 +116,36 @@ impl Machine {
                 let node = node_of_number(message.header.to);
                 self.deliver_to(message, node)
             }
+        }
+    }
+
+    /// The client at this place is told how its command ended, where the instance that submitted the command still runs.
+    #[tactic(auto, unfolding(st_rules::specs::Events::tells_site))]
+    fn tell_at(
+        &mut self,
+        k: u64,
+        ok: bool,
+        command: IssuedCommand,
+        i: usize,
+    ) -> Result<(), AllocError>
+        requires begins { self.old.seen ≡ [] }
+        requires ready { IsReady self.old.world }
+        requires number { command.client.0 ≡ i + 1 }
+        requires there { i < length self.old.world.clients }
+        ensures { (site : ClientSite) → slice_get self.old.world.clients i ≡ Some site → OnOk result (self.new ≡ events.tells_site self.old.world k ok command site) }
+    {
+        if is_same_at(&self.clients, i, &command) {
+            let result = self.commands.result(k, ok)?;
+            self.client_take_at(
+                command.client,
+                i,
+                ClientInput::Done {
+                    command: command.number,
+                    result,
+                },
+            )
+        } else {
+            Ok(())
         }
     }
 }

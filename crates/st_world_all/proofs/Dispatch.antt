@@ -1,0 +1,41 @@
+-- Inputs of nodes, by their places.
+use Rattle.std.proofs.Common.{◌≡◌, ℕ, zero, suc, ◌+◌, ◌<◌, List, [], ◌∷◌, length, refl, sym, ap, subst, ◌∙◌, arith}
+use Rattle.std.specs.Prelude.{slice_get, Option, Some, None, Result, Ok, Err, OnOk}
+use Rattle.st_base.specs.declared.ids.ClientId.{ClientId}
+use Rattle.st_base.specs.declared.ids.ServerId.{ServerId}
+use Rattle.st_rules.specs.declared.client.ClientInput.{ClientInput}
+use Rattle.st_rules.specs.declared.input.ServerInput.{ServerInput}
+use Rattle.st_rules.specs.Server.{ServerNode}
+use Rattle.st_rules.specs.Events.{Scene, at_client, at_server, client_takes, quiet, server_takes}
+use Rattle.st_rules.specs.World.{ClientSite, World}
+
+within : {A : Type 0} (xs : List A) (i : ℕ) → i < length xs → slice_get xs i ≡ None → ⊥
+within [] i h e = absurd (omega arith)
+within (x ∷ xs) zero h e = absurd (cc)
+within (x ∷ xs) (suc i) h e = within xs i (omega (arith, h)) e
+
+-- nothing takes an input where there is no client
+pub client_none : (w : World) (c : ClientId) (input : ClientInput) (o : Option ClientSite) → o ≡ None → quiet w ≡ at_client w c input o
+unfolding at_client
+client_none w c input None h = refl
+client_none w c input (Some site) h = absurd (cc)
+
+-- nothing takes an input where there is no server
+pub server_none : (w : World) (s : ServerId) (input : ServerInput) (o : Option ServerNode) → o ≡ None → quiet w ≡ at_server w s input o
+unfolding at_server
+server_none w s input None h = refl
+server_none w s input (Some node) h = absurd (cc)
+
+-- the client at a place takes an input
+pub client_some : {E : Type 0} (w : World) (c : ClientId) (i : ℕ) (input : ClientInput) (o : Option ClientSite) (r : Result Unit E) (new : Scene) → i < length w.clients → slice_get w.clients i ≡ o →
+    ((site : ClientSite) → slice_get w.clients i ≡ Some site → OnOk r (new ≡ client_takes w c input site)) → OnOk r (new ≡ at_client w c input o)
+unfolding at_client
+client_some w c i input None r new low e h = absurd (within w.clients i low e)
+client_some w c i input (Some site) r new low e h = h site e
+
+-- the server at a place takes an input
+pub server_some : {E : Type 0} (w : World) (s : ServerId) (i : ℕ) (input : ServerInput) (o : Option ServerNode) (r : Result Unit E) (new : Scene) → i < length w.servers → slice_get w.servers i ≡ o →
+    ((node : ServerNode) → slice_get w.servers i ≡ Some node → OnOk r (new ≡ server_takes w s input node)) → OnOk r (new ≡ at_server w s input o)
+unfolding at_server
+server_some w s i input None r new low e h = absurd (within w.servers i low e)
+server_some w s i input (Some node) r new low e h = h node e
