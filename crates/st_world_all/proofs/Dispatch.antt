@@ -1,12 +1,13 @@
 -- Inputs of nodes, by their places.
-use Rattle.std.proofs.Common.{◌≡◌, ℕ, zero, suc, ◌+◌, ◌<◌, List, [], ◌∷◌, length, refl, sym, ap, subst, ◌∙◌, arith}
+use Rattle.std.proofs.Common.{◌≡◌, ℕ, zero, suc, ◌+◌, ◌<◌, Bool, List, [], ◌∷◌, length, refl, sym, ap, subst, ◌∙◌, arith}
 use Rattle.std.specs.Prelude.{slice_get, Option, Some, None, Result, Ok, Err, OnOk}
 use Rattle.st_base.specs.declared.ids.ClientId.{ClientId}
 use Rattle.st_base.specs.declared.ids.ServerId.{ServerId}
 use Rattle.st_rules.specs.declared.client.ClientInput.{ClientInput}
 use Rattle.st_rules.specs.declared.input.ServerInput.{ServerInput}
+use Rattle.st_rules.specs.declared.world.IssuedCommand.{IssuedCommand}
 use Rattle.st_rules.specs.Server.{ServerNode}
-use Rattle.st_rules.specs.Events.{Scene, at_client, at_server, client_takes, quiet, server_takes}
+use Rattle.st_rules.specs.Events.{Scene, at_client, at_server, client_takes, quiet, server_takes, tells_client, tells_site}
 use Rattle.st_rules.specs.World.{ClientSite, World}
 
 within : {A : Type 0} (xs : List A) (i : ℕ) → i < length xs → slice_get xs i ≡ None → ⊥
@@ -39,3 +40,16 @@ pub server_some : {E : Type 0} (w : World) (s : ServerId) (i : ℕ) (input : Ser
 unfolding at_server
 server_some w s i input None r new low e h = absurd (within w.servers i low e)
 server_some w s i input (Some node) r new low e h = h node e
+
+-- no client is told
+pub tells_none : (w : World) (k : ℕ) (ok : Bool) (c : IssuedCommand) (o : Option ClientSite) → o ≡ None → quiet w ≡ tells_client w k ok c o
+unfolding tells_client
+tells_none w k ok c None h = refl
+tells_none w k ok c (Some site) h = absurd (cc)
+
+-- the client at a place is told
+pub tells_some : {E : Type 0} (w : World) (k : ℕ) (ok : Bool) (c : IssuedCommand) (i : ℕ) (o : Option ClientSite) (r : Result Unit E) (new : Scene) → i < length w.clients → slice_get w.clients i ≡ o →
+    ((site : ClientSite) → slice_get w.clients i ≡ Some site → OnOk r (new ≡ tells_site w k ok c site)) → OnOk r (new ≡ tells_client w k ok c o)
+unfolding tells_client
+tells_some w k ok c i None r new low e h = absurd (within w.clients i low e)
+tells_some w k ok c i (Some site) r new low e h = h site e

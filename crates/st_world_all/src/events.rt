@@ -148,4 +148,39 @@ impl Machine {
             Ok(())
         }
     }
+
+    /// The client of a command is told how it ended.
+    fn tell_client(&mut self, k: u64, ok: bool, command: IssuedCommand) -> Result<(), AllocError>
+        requires begins { self.old.seen ≡ [] }
+        requires ready { IsReady self.old.world }
+        ensures { OnOk result (self.new ≡ events.tells_client self.old.world k ok command (world.site_of self.old.world command.client)) }
+    {
+        match index_of(command.client.0, self.clients.len()) {
+            None => Ok(()),
+            Some(i) => self.tell_at(k, ok, command, i),
+        }
+    }
+
+    #[tactic(auto, unfolding(st_rules::specs::Events::tells))]
+    fn tell(&mut self, k: u64, ok: bool) -> Result<(), AllocError>
+        requires begins { self.old.seen ≡ [] }
+        requires ready { IsReady self.old.world }
+        ensures { OnOk result (self.new ≡ events.tells self.old.world k ok (world.issued_of self.old.world k)) }
+    {
+        match self.commands.issued(k) {
+            None => Ok(()),
+            Some(command) => self.tell_client(k, ok, command),
+        }
+    }
+
+    /// The command of a number is reported.
+    #[tactic(auto, unfolding(st_rules::specs::Events::reports_of))]
+    pub(crate) fn report(&mut self, k: u64, ok: bool) -> Result<(), AllocError>
+        requires begins { self.old.seen ≡ [] }
+        requires ready { IsReady self.old.world }
+        ensures { OnOk result (self.new ≡ events.reports_of self.old.world k ok) }
+    {
+        self.commands.done(k, ok);
+        self.tell(k, ok)
+    }
 }

@@ -1,8 +1,9 @@
 // A client in the world.
 ghost use Rattle.std.specs.Prelude.{◌≡◌};
+ghost use Rattle.st_rules.specs.Client as client_rules;
 ghost use Rattle.st_rules.specs.World as world;
 
-use st_base::{Life, ServerId};
+use st_base::{Life, ServerId, Stamp};
 use st_client::ClientNode;
 use std::marker::Model;
 
@@ -35,6 +36,13 @@ impl Site {
         ensures { result ≡ world.life_with self.now.node.state server }
     {
         self.node.life(server)
+    }
+
+    /// The end of the client's lease at a server.
+    pub(crate) fn lease_end(&self, server: ServerId) -> Option<Stamp>
+        ensures { result ≡ client_rules.lease_end_with self.now.node.state server }
+    {
+        self.node.lease_end(server)
     }
 
     /// How often the client was started again.
