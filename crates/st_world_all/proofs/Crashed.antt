@@ -7,7 +7,7 @@ use Rattle.st_model.specs.declared.marking.Spare.{Spare}
 use Rattle.st_model.specs.Walks.{without_crashed}
 use Rattle.st_rules.specs.declared.log.Cause.TheVariants as causes
 use Rattle.st_rules.specs.FlatLog.{always, drop_picked, is_of_client}
-use Rattle.st_rules.specs.Events.{Scene, fates_from, log_crashed, marks, scene, stopped_site, with_crashed_lives, with_log}
+use Rattle.st_rules.specs.Events.{fates_from, log_crashed, marks, scene, stopped_site, with_crashed_lives, with_log}
 use Rattle.st_rules.specs.World.{ClientSite, World}
 use Rattle.st_world_all.specs.Crashes.{crashed_at, with_site_at}
 

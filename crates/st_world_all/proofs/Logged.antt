@@ -1,5 +1,5 @@
 -- What leaves the log, and what does not.
-use Rattle.std.proofs.Common.{◌≡◌, ℕ, zero, suc, ◌+◌, ◌<◌, ◌≤◌, List, [], ◌∷◌, ◌++◌, length, refl, sym, ap, ◌∙◌, arith}
+use Rattle.std.proofs.Common.{◌≡◌, ℕ, zero, suc, ◌+◌, ◌<◌, List, [], ◌∷◌, ◌++◌, length, refl, ap, arith}
 use Rattle.std.specs.Prelude.{Option, Some, None}
 use Rattle.std.proofs.lemmas.Option.{slice_get_past}
 use Rattle.st_network.specs.Pieces.{lost}
@@ -9,7 +9,7 @@ use Rattle.st_rules.specs.declared.log.LogEntry.{LogEntry}
 use Rattle.st_rules.specs.declared.world.SentMessage.{SentMessage}
 use Rattle.st_rules.specs.FlatLog.{entry_at, harden, harden_at}
 use Rattle.st_rules.specs.World.{World, message_of, numbered}
-use Rattle.st_rules.specs.Events.{Scene, fate_seen, fates_from, loses_message, marks, quiet, scene}
+use Rattle.st_rules.specs.Events.{fate_seen, fates_from, loses_message, marks, quiet, scene}
 
 -- the network of a world in which a message is lost
 loses_by : (w : World) (k : ℕ) (o : Option SentMessage) → o ≡ numbered w.net.messages k → record w { net = lost k w.net } ≡ loses_message w k o

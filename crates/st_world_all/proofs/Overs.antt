@@ -1,6 +1,6 @@
 -- The lives that one advance ends are one marking.
 use Rattle.std.proofs.Common.{◌≡◌, ℕ, ◌+◌, List, [], ◌∷◌, refl, sym, ap, ◌∙◌}
-use Rattle.st_model.specs.Walks.{drops, mark_from, marked_fate, with_fate}
+use Rattle.st_model.specs.Walks.{mark_from, marked_fate, with_fate}
 use Rattle.st_model.proofs.Markings.{drop_picked_is, mark_twice}
 use Rattle.st_rules.specs.declared.log.Fate.{Fate}
 use Rattle.st_rules.specs.declared.log.Fate.TheVariants.{Pending, Hard, Gone}
@@ -8,7 +8,7 @@ use Rattle.st_rules.specs.declared.log.LogEntry.{LogEntry}
 use Rattle.st_rules.specs.declared.world.IssuedCommand.{IssuedCommand}
 use Rattle.st_rules.specs.declared.world.LeaseLife.{LeaseLife}
 use Rattle.st_rules.specs.Events.{cause_at_end, is_of_life_over, log_ended, log_ended_all}
-use Rattle.st_world_all.specs.Overs.{becomes_at, ended_by, ends}
+use Rattle.st_world_all.specs.Overs.{becomes_at, ended_by}
 
 stays : (f : Fate) → marked_fate f Pending ≡ f
 stays Pending = refl

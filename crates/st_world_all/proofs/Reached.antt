@@ -1,8 +1,7 @@
 -- The lives whose lease ends are reached: present ones, and those that ended.
-use Rattle.std.proofs.Common.{◌≡◌, ℕ, List, ◌++◌, refl, sym}
+use Rattle.std.proofs.Common.{◌≡◌, ℕ, List, ◌++◌, sym}
 use Rattle.std.specs.Prelude.{filter}
 use Rattle.std.proofs.lemmas.List.Elements.{filter-append}
-use Rattle.st_rules.specs.declared.world.LeaseLife.{LeaseLife}
 use Rattle.st_rules.specs.Events.{is_reached, lives_reached, present_lives}
 use Rattle.st_rules.specs.World.{World}
 use Rattle.st_lives.specs.Clocked as clocked

@@ -1,11 +1,10 @@
 -- Refusals of deliveries and losses, by what is kept of a message.
-use Rattle.std.proofs.Common.{◌≡◌, ℕ, Bool, refl, ap, sym}
+use Rattle.std.proofs.Common.{◌≡◌, ℕ, Bool, refl, ap}
 use Rattle.std.specs.Prelude.{Option, Some, None, option_map}
 use Rattle.st_disk.specs.declared.commands.Standing.{Standing}
 use Rattle.st_disk.specs.Standings.{standing_of}
 use Rattle.st_network.specs.declared.places.Head.{Head}
 use Rattle.st_network.specs.Pieces.{head_of}
-use Rattle.st_rules.specs.declared.observation.WorldRefusal.{WorldRefusal}
 use Rattle.st_rules.specs.declared.observation.WorldRefusal.TheVariants as refusals
 use Rattle.st_rules.specs.declared.disks.DiskCommand.{DiskCommand}
 use Rattle.st_rules.specs.declared.world.SentMessage.{SentMessage}

@@ -1,6 +1,6 @@
 -- Steps of the node at a place.
-use Rattle.std.proofs.Common.{◌≡◌, ℕ, zero, suc, ◌+◌, ◌<◌, List, [], ◌∷◌, length, set, refl, sym, ap, subst, ◌∙◌, arith}
-use Rattle.std.specs.Prelude.{slice_get, Option, Some, None, Result, Ok, Err}
+use Rattle.std.proofs.Common.{◌≡◌, ℕ, zero, suc, ◌<◌, List, [], ◌∷◌, length, set, refl, sym, ap, subst, ◌∙◌, arith}
+use Rattle.std.specs.Prelude.{slice_get, Some, Result, Ok, Err}
 use Rattle.st_base.specs.declared.ids.Stamp.{Stamp}
 use Rattle.st_messages.specs.declared.output.Output.{Output}
 use Rattle.st_messages.specs.declared.output.StepFault.{StepFault}
@@ -11,7 +11,6 @@ use Rattle.st_rules.specs.declared.node.StepRefusal.{StepRefusal}
 use Rattle.st_rules.specs.Client as client
 use Rattle.st_rules.specs.Server as server
 use Rattle.st_rules.specs.Server.{ServerNode}
-use Rattle.st_rules.specs.Events.{at_node}
 use Rattle.st_rules.specs.World.{ClientSite}
 use Rattle.st_server.specs.Steps.{Steps}
 use Rattle.st_world_all.specs.Takes.{SiteSteps, SitesStep, ServersStep}

@@ -1,5 +1,5 @@
 -- What crashes leave.
-use Rattle.std.specs.Prelude.{ℕ, List, ◌++◌, map, set}
+use Rattle.std.specs.Prelude.{ℕ, List, ◌++◌, set}
 use Rattle.st_lives.specs.Clocked.{Lived}
 use Rattle.st_base.specs.declared.ids.ClientId.{ClientId}
 use Rattle.st_rules.specs.declared.world.LeaseLife.{LeaseLife}

@@ -2,7 +2,7 @@
 use Rattle.std.specs.Prelude.{ℕ, if◌then◌else◌, List, [], ◌∷◌}
 use Rattle.st_model.specs.Walks.{marked_fate}
 use Rattle.st_rules.specs.declared.log.Fate.{Fate}
-use Rattle.st_rules.specs.declared.log.Fate.TheVariants.{Pending, Hard, Gone}
+use Rattle.st_rules.specs.declared.log.Fate.TheVariants.{Pending, Gone}
 use Rattle.st_rules.specs.declared.log.LogOwner.{LogOwner}
 use Rattle.st_rules.specs.declared.world.IssuedCommand.{IssuedCommand}
 use Rattle.st_rules.specs.declared.world.LeaseLife.{LeaseLife}

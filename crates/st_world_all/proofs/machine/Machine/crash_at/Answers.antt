@@ -1,6 +1,5 @@
-use Rattle.std.proofs.Common.{◌≡◌, ap, sym, ◌∙◌, ◌++◌, ℕ, List, subst}
+use Rattle.std.proofs.Common.{◌≡◌, ap, sym, ◌∙◌, ◌++◌, List, subst}
 use Rattle.std.specs.Prelude.{map}
-use Rattle.std.specs.List.{list_any, zip}
 use Rattle.st_commands.specs.Issued.{Spares}
 use Rattle.st_lives.specs.Clocked.{Lived}
 use Rattle.st_model.specs.Walks.{without_crashed}

@@ -2,8 +2,6 @@ use Rattle.std.proofs.Common.{◌≡◌, ap, sym, ◌∙◌, length, arith}
 use Rattle.std.specs.Prelude.{map}
 use Rattle.std.proofs.lemmas.Option.{get_or_from_slice_get}
 use Rattle.st_base.specs.declared.ids.NodeId.TheVariants as nodes
-use Rattle.st_base.specs.declared.ids.Stamp.{Stamp}
-use Rattle.st_rules.specs.Client.{ClientNode}
 use Rattle.st_rules.specs.Events.{scene}
 use Rattle.st_rules.specs.Extents.{numbers}
 use Rattle.st_rules.specs.World.{World, all_servers, clock_of, server}

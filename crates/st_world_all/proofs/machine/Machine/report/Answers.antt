@@ -1,4 +1,4 @@
-use Rattle.std.proofs.Common.{◌≡◌, ◌≤◌, ◌<◌, ◌^◌, subst, sym, length, true}
+use Rattle.std.proofs.Common.{subst, sym}
 use Rattle.st_rules.specs.Events.{Scene}
 use Rattle.st_world_all.specs.Readiness.{IsReady}
 use Rattle.st_world_all.proofs.machine.Machine.report.Goals as goal

@@ -1,4 +1,4 @@
-use Rattle.std.proofs.Common.{◌≡◌, ◌+◌, ◌<◌, ◌≤◌, ◌^◌, ◌-◌, length, true, vec_len}
+use Rattle.std.proofs.Common.{◌≡◌, ◌+◌, ◌<◌, ◌^◌, ◌-◌, length, true, vec_len}
 use Rattle.std.specs.List.{list_all}
 use Rattle.st_rules.specs.Events.{server_says_all}
 use Rattle.st_server.specs.Sound.{is_sent}
