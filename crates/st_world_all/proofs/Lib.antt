@@ -1,3 +1,4 @@
+pub mod Asked
 pub mod Crashed
 pub mod Delivered
 pub mod Dispatch

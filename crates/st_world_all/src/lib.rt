@@ -4,6 +4,7 @@
 
 mod advancing;
 mod answers;
+mod asking;
 mod changes;
 mod checks;
 mod crashing;
