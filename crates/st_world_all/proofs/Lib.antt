@@ -2,8 +2,10 @@ pub mod Asked
 pub mod Crashed
 pub mod Delivered
 pub mod Dispatch
+pub mod Excesses
 pub mod Flushed
 pub mod Logged
+pub mod Misses
 pub mod Numbers
 pub mod Overs
 pub mod Puts

@@ -20,7 +20,7 @@ use st_server::ServerNode;
 
 /// The refusal, where the test stands.
 #[tactic(auto, unfolding(st_rules::specs::Admissible::stands))]
-fn stands(test: bool, refusal: WorldRefusal) -> Option<WorldRefusal>
+pub(crate) fn stands(test: bool, refusal: WorldRefusal) -> Option<WorldRefusal>
     ensures { result ≡ stands test refusal }
 {
     if test { Some(refusal) } else { None }
