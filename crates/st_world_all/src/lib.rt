@@ -14,6 +14,7 @@ mod events;
 mod flushes;
 mod index;
 mod issuing;
+mod judging;
 mod machine;
 mod missing;
 mod noting;
