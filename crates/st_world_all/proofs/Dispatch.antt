@@ -1,14 +1,16 @@
 -- Inputs of nodes, by their places.
-use Rattle.std.proofs.Common.{◌≡◌, ℕ, zero, suc, ◌<◌, Bool, List, [], ◌∷◌, length, refl, arith}
+use Rattle.std.proofs.Common.{◌≡◌, ℕ, zero, suc, ◌+◌, ◌<◌, Bool, true, List, [], ◌∷◌, length, refl, arith}
 use Rattle.std.specs.Prelude.{slice_get, Option, Some, None, Result, OnOk}
 use Rattle.st_base.specs.declared.ids.ClientId.{ClientId}
 use Rattle.st_base.specs.declared.ids.ServerId.{ServerId}
+use Rattle.st_messages.specs.declared.ask.Ask.{Ask}
 use Rattle.st_rules.specs.declared.client.ClientInput.{ClientInput}
+use Rattle.st_rules.specs.declared.client.ClientInput.TheVariants as inputs
 use Rattle.st_rules.specs.declared.input.ServerInput.{ServerInput}
 use Rattle.st_rules.specs.declared.world.IssuedCommand.{IssuedCommand}
 use Rattle.st_rules.specs.Server.{ServerNode}
-use Rattle.st_rules.specs.Events.{Scene, at_client, at_server, client_takes, quiet, server_takes, tells_client, tells_site}
-use Rattle.st_rules.specs.World.{ClientSite, World}
+use Rattle.st_rules.specs.Events.{Scene, asked_once_more, asks_at, at_client, at_server, client_takes, quiet, server_takes, tells_client, tells_site}
+use Rattle.st_rules.specs.World.{ClientSite, World, site_runs}
 
 within : {A : Type 0} (xs : List A) (i : ℕ) → i < length xs → slice_get xs i ≡ None → ⊥
 within [] i h e = absurd (omega arith)
@@ -53,3 +55,16 @@ pub tells_some : {E : Type 0} (w : World) (k : ℕ) (ok : Bool) (c : IssuedComma
 unfolding tells_client
 tells_some w k ok c i None r new low e h = absurd (within w.clients i low e)
 tells_some w k ok c i (Some site) r new low e h = h site e
+
+-- no client is asked
+pub asks_none : (w : World) (c : ClientId) (ask : Ask) (o : Option ClientSite) → o ≡ None → quiet w ≡ asks_at w c ask o
+unfolding asks_at
+asks_none w c ask None h = refl
+asks_none w c ask (Some site) h = absurd (cc)
+
+-- the client at a place, which runs, is asked
+pub asks_some : {E : Type 0} (w : World) (c : ClientId) (ask : Ask) (i : ℕ) (o : Option ClientSite) (r : Result Unit E) (new : Scene) → i < length w.clients → slice_get w.clients i ≡ o → site_runs o ≡ true →
+    ((site : ClientSite) → slice_get w.clients i ≡ Some site → site.node.running ≡ true → OnOk r (new ≡ client_takes w c (inputs.App (site.asks + 1) ask) (asked_once_more site))) → OnOk r (new ≡ asks_at w c ask o)
+unfolding asks_at
+asks_some w c ask i None r new low e runs h = absurd (within w.clients i low e)
+asks_some w c ask i (Some site) r new low e runs h = h site e runs

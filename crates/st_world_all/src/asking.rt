@@ -1,11 +1,14 @@
 // Asks of applications.
 ghost use Rattle.std.specs.Prelude.{◌≡◌, ◌<◌, ◌≤◌, ◌+◌, ◌-◌, ◌^◌, [], true, set, slice_get, Some, OnOk, length};
+ghost use Rattle.st_base.specs.declared.ids.NodeId.TheVariants as nodes;
 ghost use Rattle.st_messages.specs.Fits.{is_ask};
 ghost use Rattle.st_rules.specs.Events as events;
+ghost use Rattle.st_rules.specs.World as world;
 ghost use Rattle.st_rules.specs.World.{ClientSite};
 ghost use Rattle.st_rules.specs.declared.client.ClientInput.TheVariants as inputs;
-ghost use Rattle.st_world_all.specs.Readiness.{IsReady};
+ghost use Rattle.st_world_all.specs.Readiness.{IsCounted, IsReady};
 
+use crate::index::index_of;
 use crate::machine::Machine;
 use crate::site::Site;
 use st_base::ClientId;
@@ -50,5 +53,20 @@ impl Machine {
     {
         let op = raise_asks(&mut self.clients, i);
         self.client_take_at(client, i, ClientInput::App { op, ask })
+    }
+    /// A client, which runs, is asked.
+    #[tactic(auto, unfolding(st_rules::specs::Events::asks_at))]
+    pub(crate) fn ask(&mut self, client: ClientId, ask: Ask) -> Result<(), AllocError>
+        requires begins { self.old.seen ≡ [] }
+        requires ready { IsReady self.old.world }
+        requires counted { IsCounted self.old.world }
+        requires fits { is_ask ask ≡ true }
+        requires running { world.is_running self.old.world (nodes.Client client) ≡ true }
+        ensures { OnOk result (self.new ≡ events.asks_at self.old.world client ask (world.site_of self.old.world client)) }
+    {
+        match index_of(client.0, self.clients.len()) {
+            None => Ok(()),
+            Some(i) => self.ask_at(client, i, ask),
+        }
     }
 }
