@@ -1,5 +1,5 @@
 -- Inputs of nodes, by their places.
-use Rattle.std.proofs.Common.{◌≡◌, ℕ, zero, suc, ◌+◌, ◌<◌, Bool, true, List, [], ◌∷◌, length, refl, arith}
+use Rattle.std.proofs.Common.{◌≡◌, ℕ, zero, suc, ◌+◌, ◌<◌, Bool, true, false, List, [], ◌∷◌, length, refl, sym, ap, ◌∙◌, arith}
 use Rattle.std.specs.Prelude.{slice_get, Option, Some, None, Result, OnOk}
 use Rattle.st_base.specs.declared.ids.ClientId.{ClientId}
 use Rattle.st_base.specs.declared.ids.ServerId.{ServerId}
@@ -10,7 +10,7 @@ use Rattle.st_rules.specs.declared.input.ServerInput.{ServerInput}
 use Rattle.st_rules.specs.declared.world.IssuedCommand.{IssuedCommand}
 use Rattle.st_rules.specs.Server.{ServerNode}
 use Rattle.st_rules.specs.Events.{Scene, asked_once_more, asks_at, at_client, at_server, client_takes, quiet, server_takes, tells_client, tells_site}
-use Rattle.st_rules.specs.World.{ClientSite, World, site_runs}
+use Rattle.st_rules.specs.World.{ClientSite, World, node_runs, site_runs}
 
 within : {A : Type 0} (xs : List A) (i : ℕ) → i < length xs → slice_get xs i ≡ None → ⊥
 within [] i h e = absurd (omega arith)
@@ -68,3 +68,13 @@ pub asks_some : {E : Type 0} (w : World) (c : ClientId) (ask : Ask) (i : ℕ) (o
 unfolding asks_at
 asks_some w c ask i None r new low e runs h = absurd (within w.clients i low e)
 asks_some w c ask i (Some site) r new low e runs h = h site e runs
+
+-- a client that does not run, where it is
+pub site_stopped : (o : Option ClientSite) (site : ClientSite) → site_runs o ≡ false → o ≡ Some site → site.node.running ≡ false
+site_stopped None site h e = absurd (cc)
+site_stopped (Some x) site h e = sym (ap site_runs e) ∙ h
+
+-- a server that does not run, where it is
+pub node_stopped : (o : Option ServerNode) (node : ServerNode) → node_runs o ≡ false → o ≡ Some node → node.running ≡ false
+node_stopped None node h e = absurd (cc)
+node_stopped (Some x) node h e = sym (ap node_runs e) ∙ h

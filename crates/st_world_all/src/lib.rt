@@ -12,6 +12,7 @@ mod crashing;
 mod ending;
 mod events;
 mod flushes;
+mod happening;
 mod index;
 mod issuing;
 mod judging;
