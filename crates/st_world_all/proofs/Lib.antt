@@ -5,6 +5,7 @@ pub mod Dispatch
 pub mod Excesses
 pub mod Flushed
 pub mod Logged
+pub mod Admitted
 pub mod Misses
 pub mod Numbers
 pub mod Overs

@@ -1,5 +1,5 @@
 -- What the test of an advance needs, and what it finds.
-use Rattle.std.specs.Prelude.{◌≡◌, ◌≤◌, ◌<◌, ◌^◌, ℕ, List, true, Option, Some, None, Result, Ok, Err, length}
+use Rattle.std.specs.Prelude.{◌≡◌, ◌≤◌, ◌<◌, ◌^◌, ◌+◌, ℕ, List, true, Option, Some, None, Result, Ok, Err, length}
 use Rattle.std.specs.List.{list_all}
 use Rattle.st_lives.specs.Clocked.{is_at_most, is_step}
 use Rattle.st_rules.specs.declared.lease.Excess.{Excess}
@@ -24,3 +24,14 @@ excess_in (Err x) = Some x
 pub record IsPair (nodes : ℕ) (x : Excess) : Type 0 where
   pub ahead : x.m < nodes
   pub behind : x.n < nodes
+
+-- A world's nodes and their clocks: 1 to 4 servers, at most 16 clients, a clock and a row of drift for each node; the settings are in their ranges.
+pub record IsLaid (w : World) : Type 0 where
+  pub some : 1 ≤ length w.servers
+  pub few : length w.servers ≤ 4
+  pub clients : length w.clients ≤ 16
+  pub nodes : length w.clocks ≡ length w.clients + length w.servers
+  pub drift : length w.drift ≡ length w.clocks
+  pub clocks : list_all (is_at_most (2 ^ 62)) w.clocks ≡ true
+  pub rate : w.config.den ≤ 1048576
+  pub grain : w.config.grain ≤ 2 ^ 40

@@ -91,7 +91,7 @@ impl Machine {
     }
 
     /// One more event.
-    fn count_event(&mut self)
+    pub(crate) fn count_event(&mut self)
         requires { self.old.world.tally.events < 2 ^ 64 - 1 }
         ensures { self.new ≡ events.scene (events.counted self.old.world) self.old.seen }
     {

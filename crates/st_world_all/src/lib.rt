@@ -11,6 +11,7 @@ mod clocks;
 mod crashing;
 mod ending;
 mod events;
+mod fault;
 mod flushes;
 mod happening;
 mod index;
@@ -20,7 +21,9 @@ mod machine;
 mod missing;
 mod noting;
 mod site;
+mod stepping;
 mod taking;
 
+pub use fault::WorldFault;
 pub use machine::Machine;
 pub use site::Site;
