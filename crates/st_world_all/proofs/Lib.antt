@@ -1,4 +1,5 @@
 pub mod Asked
+pub mod Counted
 pub mod Crashed
 pub mod Delivered
 pub mod Dispatch

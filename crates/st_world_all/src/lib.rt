@@ -13,6 +13,7 @@ mod ending;
 mod events;
 mod fault;
 mod flushes;
+mod fresh;
 mod happening;
 mod index;
 mod issuing;
@@ -23,7 +24,9 @@ mod noting;
 mod site;
 mod stepping;
 mod taking;
+mod world;
 
 pub use fault::WorldFault;
 pub use machine::Machine;
 pub use site::Site;
+pub use world::World;

@@ -1,0 +1,128 @@
+// The world.
+ghost use Rattle.std.specs.Prelude.{◌≡◌, ◌<◌, ◌≤◌, ◌^◌, [], true, IsOk, IfOk, OnOk, length, option_map};
+ghost use Rattle.st_base.specs.Config as settings;
+ghost use Rattle.st_rules.specs.Events as events;
+ghost use Rattle.st_rules.specs.Safety.{IsHead, is_event};
+ghost use Rattle.st_rules.specs.World as rules;
+ghost use Rattle.st_rules.specs.World.{fresh_world};
+ghost use Rattle.st_network.specs.Pieces as pieces;
+ghost use Rattle.st_world_all.specs.Heads.{HasCounts};
+ghost use Rattle.st_world_all.specs.Readiness.{IsCounted, IsReady};
+ghost use Rattle.st_world_all.specs.Steps.{StepsAs};
+ghost use Rattle.st_world_all.specs.Timed.{IsLaid};
+
+use crate::fault::WorldFault;
+use crate::fresh::{push_client_clocks, push_nodes, push_server_clocks, push_sites};
+use crate::machine::Machine;
+use st_base::{Config, NodeId, Stamp};
+use st_clock::Drift;
+use st_commands::Commands;
+use st_lives::Lives;
+use st_messages::{Counts, Event};
+use st_model::FlatLog;
+use st_network::Network;
+use st_rules::Observation;
+use std::alloc::{AllocError, Global};
+use std::marker::Model;
+
+/// A world. Contracts see it as the definitions' record.
+#[derive(Drop)]
+pub struct World {
+    machine: Machine,
+}
+
+impl Model for World {
+    ghost use Rattle.std.specs.Prelude.{◌≡◌, []};
+    ghost use Rattle.st_rules.specs.World as shared;
+
+    ghost Value = { shared.World };
+
+    ghost view = { λ w. w.machine.world };
+
+    ghost invariant = { λ w. w.machine.seen ≡ [] };
+}
+
+fn fresh_lives(alloc: Global, counts: &Counts) -> Result<Lives, AllocError>
+    ensures { IfOk result (λ l. l ≡ record { clocks = rules.fresh_clocks counts.now.clients counts.now.servers; ended = [] }) }
+{
+    let mut clocks = Vec::new(alloc);
+    push_client_clocks(&mut clocks, counts.clients)?;
+    push_server_clocks(&mut clocks, counts.servers)?;
+    Ok(Lives::new(alloc, clocks))
+}
+
+/// The parts of a world at the start.
+#[tactic(auto, unfolding(st_rules::specs::World::fresh_world))]
+fn fresh(alloc: Global, config: Config, counts: &Counts, form: u8) -> Result<Machine, AllocError>
+    requires checked { IsOk (settings.check config) }
+    requires counts { HasCounts counts.now }
+    ensures { IfOk result (λ m. m ≡ events.quiet (fresh_world config counts.now.clients counts.now.servers counts.now.disks counts.now.blocks form)) }
+{
+    let mut clients = Vec::new(alloc);
+    push_sites(alloc, &mut clients, &config, counts)?;
+    let mut servers = Vec::new(alloc);
+    push_nodes(alloc, &mut servers, &config, counts)?;
+    let lives = fresh_lives(alloc, counts)?;
+    let drift = Drift::new(alloc, counts.clients as usize + counts.servers as usize)?;
+    Ok(Machine {
+        alloc,
+        config,
+        form,
+        lives,
+        drift,
+        clients,
+        servers,
+        net: Network::new(alloc),
+        commands: Commands::new(alloc, counts.disks, counts.blocks),
+        log: FlatLog::new(alloc),
+        flushed: Vec::new(alloc),
+        events: 0,
+        reads: 0,
+        stolen: 0,
+        seen: Vec::new(alloc),
+    })
+}
+
+impl World {
+    /// The world of a head.
+    pub fn new(
+        alloc: Global,
+        config: Config,
+        counts: Counts,
+        form: u8,
+    ) -> Result<World, AllocError>
+        requires head { IsHead config counts.clients counts.servers counts.disks counts.blocks form }
+        ensures { IfOk result (λ w. w ≡ fresh_world config counts.clients counts.servers counts.disks counts.blocks form) }
+    {
+        let machine = fresh(alloc, config, &counts, form)?;
+        Ok(World { machine })
+    }
+
+    /// Runs one event, and returns what is observed of it, in order. A refusal changes nothing. Where memory runs out nothing is
+    /// known of the world: discard it.
+    pub fn step(&mut self, event: Event) -> Result<Vec<Observation>, WorldFault>
+        requires event { is_event (length self.old.clocks) event ≡ true }
+        requires room { self.old.tally.events < 2 ^ 29 }
+        requires laid { IsLaid self.old }
+        requires ready { IsReady self.old }
+        requires counted { IsCounted self.old }
+        ensures machine { StepsAs (λ seen. seen.items) self.old self.new result (events.world_step self.old event) }
+    {
+        self.machine.step(event)
+    }
+
+    /// A node's clock.
+    pub fn clock(&self, node: NodeId) -> Stamp
+        requires { length self.now.clients ≤ 16 }
+        ensures { result ≡ rules.clock_of self.now node }
+    {
+        self.machine.clock_of(node)
+    }
+
+    /// The spelling of the message of a number, from 1.
+    pub fn sent(&self, k: u64) -> Option<&[u8]>
+        ensures { option_map (λ b. b.now) result ≡ option_map pieces.spelling_sent (rules.message_of self.now k) }
+    {
+        self.machine.net.spelled(k)
+    }
+}
