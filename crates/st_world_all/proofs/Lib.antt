@@ -13,5 +13,6 @@ pub mod Overs
 pub mod Puts
 pub mod Reached
 pub mod Refused
+pub mod Stables
 pub mod Submits
 pub mod Takings

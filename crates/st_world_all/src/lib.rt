@@ -14,6 +14,7 @@ mod events;
 mod fault;
 mod flushes;
 mod fresh;
+mod growth;
 mod happening;
 mod index;
 mod issuing;
@@ -27,6 +28,7 @@ mod taking;
 mod world;
 
 pub use fault::WorldFault;
+pub use growth::server_steps_grow_little;
 pub use machine::Machine;
 pub use site::Site;
 pub use world::World;
