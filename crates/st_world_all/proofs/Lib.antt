@@ -15,4 +15,5 @@ pub mod Reached
 pub mod Refused
 pub mod Stables
 pub mod Submits
+pub mod Sums
 pub mod Takings

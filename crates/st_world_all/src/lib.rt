@@ -24,6 +24,7 @@ mod missing;
 mod noting;
 mod site;
 mod stepping;
+mod summing;
 mod taking;
 mod world;
 

@@ -1,5 +1,6 @@
 // The world.
 ghost use Rattle.std.specs.Prelude.{◌≡◌, ◌<◌, ◌≤◌, ◌^◌, [], true, IsOk, IfOk, OnOk, length, option_map};
+ghost use Rattle.std.specs.Option.{option_copied};
 ghost use Rattle.st_base.specs.Config as settings;
 ghost use Rattle.st_rules.specs.Events as events;
 ghost use Rattle.st_rules.specs.Safety.{IsHead, is_event};
@@ -13,15 +14,17 @@ ghost use Rattle.st_world_all.specs.Timed.{IsLaid};
 
 use crate::fault::WorldFault;
 use crate::fresh::{push_client_clocks, push_nodes, push_server_clocks, push_sites};
-use crate::machine::Machine;
-use st_base::{Config, NodeId, Stamp};
+use crate::machine::{Machine, node_at, site_at};
+use crate::site::Site;
+use st_base::{ClientId, Config, NodeId, ServerId, Stamp};
 use st_clock::Drift;
 use st_commands::Commands;
 use st_lives::Lives;
 use st_messages::{Counts, Event};
 use st_model::FlatLog;
 use st_network::Network;
-use st_rules::Observation;
+use st_rules::{Observation, Summary};
+use st_server::ServerNode;
 use std::alloc::{AllocError, Global};
 use std::marker::Model;
 
@@ -124,5 +127,32 @@ impl World {
         ensures { option_map (λ b. b.now) result ≡ option_map pieces.spelling_sent (rules.message_of self.now k) }
     {
         self.machine.net.spelled(k)
+    }
+    /// Returns the counts of the run so far.
+    pub fn summary(&self) -> Summary
+        ensures { result ≡ events.summary self.now }
+    {
+        self.machine.summary()
+    }
+
+    /// Returns the client of a number, from 1.
+    pub fn client(&self, client: ClientId) -> Option<&Site>
+        ensures { option_copied result ≡ rules.site_of self.now client }
+    {
+        site_at(&self.machine.clients, client)
+    }
+
+    /// Returns the server of a number, from 1.
+    pub fn server(&self, server: ServerId) -> Option<&ServerNode>
+        ensures { option_copied result ≡ rules.node_of self.now server }
+    {
+        node_at(&self.machine.servers, server)
+    }
+
+    /// Returns the log.
+    pub fn log(&self) -> &FlatLog
+        ensures { result.now ≡ self.now.log }
+    {
+        &self.machine.log
     }
 }
