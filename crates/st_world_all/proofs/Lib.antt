@@ -13,6 +13,7 @@ pub mod Overs
 pub mod Puts
 pub mod Reached
 pub mod Refused
+pub mod Shapes
 pub mod Stables
 pub mod Submits
 pub mod Sums

@@ -1,5 +1,11 @@
 // How far a server's counters grow in a step.
+ghost use Rattle.std.specs.Prelude.{◌≡◌, ℕ, List, length};
 ghost use Rattle.st_base.specs.declared.ids.Stamp.{Stamp};
+ghost use Rattle.st_messages.specs.declared.event.Event.{Event};
+ghost use Rattle.st_messages.specs.declared.event.Event.TheVariants as events;
+ghost use Rattle.st_rules.specs.Events.{happens};
+ghost use Rattle.st_rules.specs.World.{World};
+ghost use Rattle.st_world_all.specs.Shaping.{SameShape};
 ghost use Rattle.st_rules.specs.declared.input.ServerInput.{ServerInput};
 ghost use Rattle.st_rules.specs.Server.{ServerState, server_step};
 ghost use Rattle.st_world_all.specs.Growing.{Grows, pages_in};
@@ -8,5 +14,12 @@ ghost use Rattle.st_world_all.specs.Growing.{Grows, pages_in};
 #[tactic(auto, using(crate::proofs::Stables::step_grows))]
 pub fn server_steps_grow_little()
     ensures { (s : ServerState) (now : Stamp) (i : ServerInput) → Grows (pages_in i) s.stable (server_step s now i).state.stable }
+{
+}
+
+/// An event changes neither the count of events nor how many nodes and clocks there are.
+#[tactic(auto, using(crate::proofs::Shapes::happens_shape))]
+pub fn events_keep_the_shape()
+    ensures { (w : World) (e : Event) → ((steps : List ℕ) → e ≡ events.Advance steps → (length steps ≡ length w.clocks) × (length steps ≡ length w.drift)) → SameShape w (happens w e).world }
 {
 }

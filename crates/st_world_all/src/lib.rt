@@ -29,7 +29,7 @@ mod taking;
 mod world;
 
 pub use fault::WorldFault;
-pub use growth::server_steps_grow_little;
+pub use growth::{events_keep_the_shape, server_steps_grow_little};
 pub use machine::Machine;
 pub use site::Site;
 pub use world::World;
