@@ -15,6 +15,7 @@ pub mod Reached
 pub mod Refused
 pub mod Shapes
 pub mod Stables
+pub mod Stepped
 pub mod Submits
 pub mod Sums
 pub mod Takings

@@ -52,7 +52,7 @@ counted_next s log i n h f total a b before =
     let x = next_of log i h f (slice_get log i) refl a2 b2 in
     let is : picks_by s h f ≡ picks s x.entry = sym (ap (λ y. picks_by s y f) x.head) ∙ sym (ap (picks_by s (head_of x.entry)) x.fate) ∙ picks_is s x.entry in
     let split : length (filter (picks s) (drop i log)) ≡ one_if (picks s x.entry) + length (filter (picks s) (drop (suc i) log)) =
-      ap (λ l. length (filter (picks s) l)) (dropped log i x.entry x.there) ∙ first_counts (picks s) x.entry (drop (suc i) log) (picks s x.entry) refl in
+    ap (λ l. length (filter (picks s) l)) (dropped log i x.entry x.there) ∙ first_counts (picks s) x.entry (drop (suc i) log) (picks s x.entry) refl in
     let z : one_if (picks_by s h f) ≡ one_if (picks s x.entry) = ap one_if is in
     let w : length (filter (picks s) (drop (i + 1) log)) ≡ length (filter (picks s) (drop (suc i) log)) = ap (λ k. length (filter (picks s) (drop k log))) q in
     omega (arith, before, split, z, w)

@@ -14,12 +14,10 @@ ghost use Rattle.st_world_all.specs.Growing.{Grows, pages_in};
 #[tactic(auto, using(crate::proofs::Stables::step_grows))]
 pub fn server_steps_grow_little()
     ensures { (s : ServerState) (now : Stamp) (i : ServerInput) → Grows (pages_in i) s.stable (server_step s now i).state.stable }
-{
-}
+{}
 
 /// An event changes neither the count of events nor how many nodes and clocks there are.
 #[tactic(auto, using(crate::proofs::Shapes::happens_shape))]
 pub fn events_keep_the_shape()
     ensures { (w : World) (e : Event) → ((steps : List ℕ) → e ≡ events.Advance steps → (length steps ≡ length w.clocks) × (length steps ≡ length w.drift)) → SameShape w (happens w e).world }
-{
-}
+{}

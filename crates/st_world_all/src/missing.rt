@@ -25,12 +25,7 @@ fn reaches(clock: Stamp, step: u64, end: Option<Stamp>) -> bool
     }
 }
 
-fn is_flush_under(
-    client: ClientId,
-    server: ServerId,
-    end: Option<Stamp>,
-    step: &FlushStep,
-) -> bool
+fn is_flush_under(client: ClientId, server: ServerId, end: Option<Stamp>, step: &FlushStep) -> bool
     ensures { result ≡ admissible.is_flush_under client server end step.now }
 {
     match end {

@@ -1,7 +1,8 @@
 // The world.
-ghost use Rattle.std.specs.Prelude.{◌≡◌, ◌<◌, ◌≤◌, ◌^◌, [], true, IsOk, IfOk, OnOk, length, option_map};
+ghost use Rattle.std.specs.Prelude.{◌≡◌, ◌<◌, ◌≤◌, ◌+◌, ◌^◌, [], true, IsOk, IfOk, OnOk, length, option_map};
 ghost use Rattle.std.specs.Option.{option_copied};
 ghost use Rattle.st_base.specs.Config as settings;
+ghost use Rattle.st_rules.specs.Admissible.{refusal};
 ghost use Rattle.st_rules.specs.Events as events;
 ghost use Rattle.st_rules.specs.Safety.{IsHead, is_event};
 ghost use Rattle.st_rules.specs.World as rules;
@@ -23,7 +24,7 @@ use st_lives::Lives;
 use st_messages::{Counts, Event};
 use st_model::FlatLog;
 use st_network::Network;
-use st_rules::{Observation, Summary};
+use st_rules::{Observation, Summary, WorldRefusal};
 use st_server::ServerNode;
 use std::alloc::{AllocError, Global};
 use std::marker::Model;
@@ -88,12 +89,7 @@ fn fresh(alloc: Global, config: Config, counts: &Counts, form: u8) -> Result<Mac
 
 impl World {
     /// The world of a head.
-    pub fn new(
-        alloc: Global,
-        config: Config,
-        counts: Counts,
-        form: u8,
-    ) -> Result<World, AllocError>
+    pub fn new(alloc: Global, config: Config, counts: Counts, form: u8) -> Result<World, AllocError>
         requires head { IsHead config counts.clients counts.servers counts.disks counts.blocks form }
         ensures { IfOk result (λ w. w ≡ fresh_world config counts.clients counts.servers counts.disks counts.blocks form) }
     {
@@ -110,8 +106,20 @@ impl World {
         requires ready { IsReady self.old }
         requires counted { IsCounted self.old }
         ensures machine { StepsAs (λ seen. seen.items) self.old self.new result (events.world_step self.old event) }
+        ensures events { OnOk result (self.new.tally.events ≡ self.old.tally.events + 1) }
+        ensures clocks { OnOk result (length self.new.clocks ≡ length self.old.clocks) }
     {
         self.machine.step(event)
+    }
+
+    /// Returns the first refusal of an event that stands. It changes nothing and takes no memory.
+    #[tactic(auto, using(crate::proofs::Admitted::timed_any))]
+    pub fn refusal(&self, event: &Event) -> Option<WorldRefusal>
+        requires laid { IsLaid self.now }
+        requires event { is_event (length self.now.clocks) event.now ≡ true }
+        ensures { result ≡ refusal self.now event.now }
+    {
+        self.machine.refusal(event)
     }
 
     /// A node's clock.
