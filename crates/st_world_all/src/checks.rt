@@ -7,7 +7,7 @@ ghost use Rattle.st_rules.specs.declared.observation.WorldRefusal.TheVariants as
 ghost use Rattle.st_rules.specs.Disks as disks;
 ghost use Rattle.st_rules.specs.World as world;
 ghost use Rattle.st_rules.specs.World.{World};
-ghost use Rattle.st_world_all.specs.Delivering.{delivery_refused, effect_refused, report_refused};
+ghost use Rattle.st_world_all.specs.Delivering.{delivery_refused, effect_refused, head_cut, head_refused, report_refused};
 
 use crate::events::node_of_number;
 use crate::machine::{Machine, node_at, site_at};
@@ -139,7 +139,7 @@ impl Machine {
     }
 
     fn link_cut(&self, head: Head) -> Option<WorldRefusal>
-        ensures { result ≡ admissible.stands (admissible.is_cut self.now.world (world.node_at head.from) (world.node_at head.to)) (refusals.LinkCut (world.node_at head.from) (world.node_at head.to)) }
+        ensures { result ≡ head_cut self.now.world head }
     {
         let from = node_of_number(head.from);
         let to = node_of_number(head.to);
@@ -156,7 +156,7 @@ impl Machine {
     }
 
     fn unsent(&self, head: Head) -> Option<WorldRefusal>
-        ensures { result ≡ option_or (admissible.stands (admissible.is_cut self.now.world (world.node_at head.from) (world.node_at head.to)) (refusals.LinkCut (world.node_at head.from) (world.node_at head.to))) (admissible.cannot_step self.now.world (world.node_at head.to)) }
+        ensures { result ≡ head_refused self.now.world head }
     {
         match self.link_cut(head) {
             Some(refusal) => Some(refusal),

@@ -1,13 +1,12 @@
 // Crashes and starts.
 ghost use Rattle.std.specs.Prelude.{◌≡◌, ◌<◌, ◌≤◌, ◌^◌, ◌-◌, ◌++◌, [], false, map, set, slice_get, Some, OnOk, length};
 ghost use Rattle.st_base.specs.declared.ids.NodeId.TheVariants as nodes;
-ghost use Rattle.st_model.specs.Walks as walks;
 ghost use Rattle.st_rules.specs.Events as events;
 ghost use Rattle.st_rules.specs.Server as server_rules;
 ghost use Rattle.st_rules.specs.Server.{ServerNode};
 ghost use Rattle.st_rules.specs.World as world;
 ghost use Rattle.st_rules.specs.World.{ClientSite};
-ghost use Rattle.st_world_all.specs.Crashes.{crashed_at, with_all_ended};
+ghost use Rattle.st_world_all.specs.Crashes.{crash_marked, crashed_at, with_all_ended};
 
 use crate::index::index_of;
 use crate::machine::Machine;
@@ -160,7 +159,7 @@ impl Machine {
     /// The entries of a client that crashed are gone, but for those that are spared.
     fn crash_entries(&mut self, client: ClientId, spared: &[Spare]) -> Result<(), AllocError>
         requires { self.old.seen ≡ [] }
-        ensures { OnOk result (self.new ≡ events.scene (events.with_log (walks.without_crashed client spared.now self.old.world.log) self.old.world) (events.fates_from 1 self.old.world.log (walks.without_crashed client spared.now self.old.world.log))) }
+        ensures { OnOk result (self.new ≡ crash_marked client spared.now self.old.world) }
     {
         self.log.observe_crash(client, spared, &mut self.seen)?;
         self.log.crash(client, spared);

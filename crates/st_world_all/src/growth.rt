@@ -1,11 +1,9 @@
 // How far a server's counters grow in a step.
-ghost use Rattle.std.specs.Prelude.{◌≡◌, ℕ, List, length};
 ghost use Rattle.st_base.specs.declared.ids.Stamp.{Stamp};
 ghost use Rattle.st_messages.specs.declared.event.Event.{Event};
-ghost use Rattle.st_messages.specs.declared.event.Event.TheVariants as events;
 ghost use Rattle.st_rules.specs.Events.{happens};
 ghost use Rattle.st_rules.specs.World.{World};
-ghost use Rattle.st_world_all.specs.Shaping.{SameShape};
+ghost use Rattle.st_world_all.specs.Shaping.{HasSteps, SameShape};
 ghost use Rattle.st_rules.specs.declared.input.ServerInput.{ServerInput};
 ghost use Rattle.st_rules.specs.Server.{ServerState, server_step};
 ghost use Rattle.st_world_all.specs.Growing.{Grows, pages_in};
@@ -19,5 +17,5 @@ pub fn server_steps_grow_little()
 /// An event changes neither the count of events nor how many nodes and clocks there are.
 #[tactic(auto, using(crate::proofs::Shapes::happens_shape))]
 pub fn events_keep_the_shape()
-    ensures { (w : World) (e : Event) → ((steps : List ℕ) → e ≡ events.Advance steps → (length steps ≡ length w.clocks) × (length steps ≡ length w.drift)) → SameShape w (happens w e).world }
+    ensures { (w : World) (e : Event) → HasSteps w e → SameShape w (happens w e).world }
 {}

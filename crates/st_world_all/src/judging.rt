@@ -3,7 +3,7 @@ ghost use Rattle.std.specs.Prelude.{◌≡◌, ◌≤◌, List, ℕ, length};
 ghost use Rattle.std.specs.Option.{option_or};
 ghost use Rattle.st_messages.specs.declared.event.Event.TheVariants as events;
 ghost use Rattle.st_rules.specs.Admissible as admissible;
-ghost use Rattle.st_rules.specs.World as world;
+ghost use Rattle.st_world_all.specs.Delivering.{advance_refused};
 ghost use Rattle.st_world_all.specs.Timed.{IsTimed};
 
 use crate::machine::Machine;
@@ -54,7 +54,7 @@ impl Machine {
         requires clients { length self.now.world.clients ≤ 16 }
         requires servers { length self.now.world.servers ≤ 4 }
         requires timed { IsTimed self.now.world steps.now }
-        ensures { result ≡ option_or (admissible.clocks_refused self.now.world steps.now) (admissible.flush_missed self.now.world steps.now (world.all_clients self.now.world)) }
+        ensures { result ≡ advance_refused self.now.world steps.now }
     {
         match self.clocks_refused(steps) {
             Some(refusal) => Some(refusal),
