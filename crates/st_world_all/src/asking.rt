@@ -5,8 +5,8 @@ ghost use Rattle.st_messages.specs.Fits.{is_ask};
 ghost use Rattle.st_rules.specs.Events as events;
 ghost use Rattle.st_rules.specs.World as world;
 ghost use Rattle.st_rules.specs.World.{ClientSite};
-ghost use Rattle.st_rules.specs.declared.client.ClientInput.TheVariants as inputs;
 ghost use Rattle.st_world_all.specs.Readiness.{IsCounted, IsReady};
+ghost use Rattle.st_world_all.specs.Shapes.{takes_ask};
 
 use crate::index::index_of;
 use crate::machine::Machine;
@@ -49,7 +49,7 @@ impl Machine {
         requires there { i < length self.old.world.clients }
         requires fits { is_ask ask ≡ true }
         requires asks { (site : ClientSite) → slice_get self.old.world.clients i ≡ Some site → site.asks < 2 ^ 32 - 1 }
-        ensures { (site : ClientSite) → slice_get self.old.world.clients i ≡ Some site → site.node.running ≡ true → OnOk result (self.new ≡ events.client_takes self.old.world client (inputs.App (site.asks + 1) ask) (events.asked_once_more site)) }
+        ensures { (site : ClientSite) → slice_get self.old.world.clients i ≡ Some site → site.node.running ≡ true → OnOk result (self.new ≡ takes_ask self.old.world client ask site) }
     {
         let op = raise_asks(&mut self.clients, i);
         self.client_take_at(client, i, ClientInput::App { op, ask })

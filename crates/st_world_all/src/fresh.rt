@@ -3,7 +3,7 @@ ghost use Rattle.std.specs.Prelude.{◌≡◌, ◌≤◌, ◌++◌, map, IsOk, I
 ghost use Rattle.st_base.specs.Config as settings;
 ghost use Rattle.st_rules.specs.Extents.{numbers};
 ghost use Rattle.st_rules.specs.World as world;
-ghost use Rattle.st_world_all.specs.Heads.{HasCounts};
+ghost use Rattle.st_world_all.specs.Heads.{HasCounts, nodes_at_start};
 
 use crate::site::Site;
 use st_base::{ClientId, Config, ServerId, Stamp};
@@ -77,7 +77,7 @@ pub(crate) fn push_nodes(
 ) -> Result<(), AllocError>
     requires checked { IsOk (settings.check config.now) }
     requires counts { HasCounts counts.now }
-    ensures { OnOk result (nodes.new.items ≡ nodes.old.items ++ map (world.node_at_start config.now counts.now.servers counts.now.disks counts.now.blocks) (numbers 1 counts.now.servers)) }
+    ensures { OnOk result (nodes.new.items ≡ nodes.old.items ++ nodes_at_start config.now counts.now) }
 {
     for i in 0..counts.servers {
         nodes.push(ServerNode::fresh(

@@ -5,7 +5,7 @@ ghost use Rattle.st_messages.specs.Fits.{fits};
 ghost use Rattle.st_rules.specs.Events as events;
 ghost use Rattle.st_rules.specs.World as world;
 ghost use Rattle.st_rules.specs.declared.observation.Observation.TheVariants as seen;
-ghost use Rattle.st_world_all.specs.Shapes.{issued_at};
+ghost use Rattle.st_world_all.specs.Shapes.{issued_at, issues};
 ghost use Rattle.st_world_all.specs.Keeping.{Keeps};
 
 use crate::machine::{Machine, site_at};
@@ -94,7 +94,7 @@ impl Machine {
         command: IssuedCommand,
         what: Command,
     ) -> Result<(), AllocError>
-        ensures exact { OnOk result (self.new ≡ events.see (events.with_command command what self.old.world) self.old (seen.Submitted (length self.old.world.commands + 1) client number what)) }
+        ensures exact { OnOk result (self.new ≡ issues self.old client number command what) }
         ensures kept { Keeps self.old self.new }
     {
         let k = self.commands.count() + 1;

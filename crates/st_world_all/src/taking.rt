@@ -14,6 +14,7 @@ ghost use Rattle.st_server.specs.Ready as ready;
 ghost use Rattle.st_server.specs.Room.{HasRoom};
 ghost use Rattle.st_server.specs.Sound as sound;
 ghost use Rattle.st_world_all.specs.Ends.{HasEnds};
+ghost use Rattle.st_world_all.specs.Shapes.{says_and_flushes};
 ghost use Rattle.st_world_all.specs.Takes.{ServersStep, SiteSteps, SitesStep};
 
 use crate::flushes::flush_all;
@@ -119,7 +120,7 @@ impl Machine {
         requires clients { length self.old.world.clients ≤ 16 }
         requires reads { self.old.world.tally.reads < 2 ^ 63 }
         requires sent { list_all is_sent outputs ≡ true }
-        ensures { (before : ClientState) (site : ClientSite) → HasEnds before ends.now → slice_get self.old.world.clients i ≡ Some site → OnOk result (self.new ≡ events.with_flushes client site.node.state (events.client_says_all client before outputs self.old)) }
+        ensures { (before : ClientState) (site : ClientSite) → HasEnds before ends.now → slice_get self.old.world.clients i ≡ Some site → OnOk result (self.new ≡ says_and_flushes client before site.node.state outputs self.old) }
     {
         self.client_say_all(client, ends, outputs)?;
         self.flush(client, i)
