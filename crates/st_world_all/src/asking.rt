@@ -5,6 +5,7 @@ ghost use Rattle.st_messages.specs.Fits.{is_ask};
 ghost use Rattle.st_rules.specs.Events as events;
 ghost use Rattle.st_rules.specs.World as world;
 ghost use Rattle.st_rules.specs.World.{ClientSite};
+ghost use Rattle.st_world_all.specs.Indexes.{AtPlace};
 ghost use Rattle.st_world_all.specs.Readiness.{IsCounted, IsReady};
 ghost use Rattle.st_world_all.specs.Shapes.{takes_ask};
 
@@ -33,7 +34,7 @@ fn raise_asks(clients: &mut Vec<Site>, i: usize) -> u32
     requires there { i < length clients.old.items }
     requires asks { (site : ClientSite) → slice_get clients.old.items i ≡ Some site → site.asks < 2 ^ 32 - 1 }
     ensures op { (site : ClientSite) → slice_get clients.old.items i ≡ Some site → result ≡ site.asks + 1 }
-    ensures asked { (site : ClientSite) → slice_get clients.old.items i ≡ Some site → clients.new.items ≡ set clients.old.items i (events.asked_once_more site) }
+    ensures asked { AtPlace clients.old.items i (λ site. clients.new.items ≡ set clients.old.items i (events.asked_once_more site)) }
     ensures len { length clients.new.items ≡ length clients.old.items }
 {
     let site = &mut clients[i];
@@ -49,7 +50,7 @@ impl Machine {
         requires there { i < length self.old.world.clients }
         requires fits { is_ask ask ≡ true }
         requires asks { (site : ClientSite) → slice_get self.old.world.clients i ≡ Some site → site.asks < 2 ^ 32 - 1 }
-        ensures { (site : ClientSite) → slice_get self.old.world.clients i ≡ Some site → site.node.running ≡ true → OnOk result (self.new ≡ takes_ask self.old.world client ask site) }
+        ensures { AtPlace self.old.world.clients i (λ site. site.node.running ≡ true → OnOk result (self.new ≡ takes_ask self.old.world client ask site)) }
     {
         let op = raise_asks(&mut self.clients, i);
         self.client_take_at(client, i, ClientInput::App { op, ask })

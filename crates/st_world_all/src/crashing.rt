@@ -6,6 +6,7 @@ ghost use Rattle.st_rules.specs.Server as server_rules;
 ghost use Rattle.st_rules.specs.Server.{ServerNode};
 ghost use Rattle.st_rules.specs.World as world;
 ghost use Rattle.st_rules.specs.World.{ClientSite};
+ghost use Rattle.st_world_all.specs.Indexes.{AtPlace};
 ghost use Rattle.st_world_all.specs.Crashes.{crash_marked, crashed_at, with_all_ended};
 
 use crate::index::index_of;
@@ -68,8 +69,8 @@ fn stop_site(
     found: &mut Vec<LeaseLife>,
 ) -> Result<(), AllocError>
     requires { i < length clients.old.items }
-    ensures clients { (site : ClientSite) → slice_get clients.old.items i ≡ Some site → OnOk result (clients.new.items ≡ set clients.old.items i (events.stopped_site site)) }
-    ensures lives { (site : ClientSite) → slice_get clients.old.items i ≡ Some site → OnOk result (found.new.items ≡ found.old.items ++ world.lives_of site.node.state) }
+    ensures clients { AtPlace clients.old.items i (λ site. OnOk result (clients.new.items ≡ set clients.old.items i (events.stopped_site site))) }
+    ensures lives { AtPlace clients.old.items i (λ site. OnOk result (found.new.items ≡ found.old.items ++ world.lives_of site.node.state)) }
 {
     let site = &mut clients[i];
     site.push_lives(found)?;
@@ -82,7 +83,7 @@ fn start_site(clients: &mut Vec<Site>, i: usize) -> Result<(), AllocError>
     requires there { i < length clients.old.items }
     requires crashed { (site : ClientSite) → slice_get clients.old.items i ≡ Some site → site.node.running ≡ false }
     requires starts { (site : ClientSite) → slice_get clients.old.items i ≡ Some site → site.starts < 2 ^ 62 }
-    ensures { (site : ClientSite) → slice_get clients.old.items i ≡ Some site → OnOk result (clients.new.items ≡ set clients.old.items i (events.started_site site)) }
+    ensures { AtPlace clients.old.items i (λ site. OnOk result (clients.new.items ≡ set clients.old.items i (events.started_site site))) }
 {
     let site = &mut clients[i];
     site.start()
@@ -103,7 +104,7 @@ fn start_node(servers: &mut Vec<ServerNode>, i: usize, now: Stamp) -> Result<(),
     requires time { now.0 ≤ 2 ^ 62 }
     requires crashed { (node : ServerNode) → slice_get servers.old.items i ≡ Some node → node.running ≡ false }
     requires epochs { (node : ServerNode) → slice_get servers.old.items i ≡ Some node → node.state.stable.epoch.0 < 2 ^ 32 - 1 }
-    ensures { (node : ServerNode) → slice_get servers.old.items i ≡ Some node → OnOk result (servers.new.items ≡ set servers.old.items i (server_rules.start_node node now)) }
+    ensures { AtPlace servers.old.items i (λ node. OnOk result (servers.new.items ≡ set servers.old.items i (server_rules.start_node node now))) }
 {
     let node = &mut servers[i];
     node.start(now)

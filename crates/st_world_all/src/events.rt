@@ -8,6 +8,7 @@ ghost use Rattle.st_rules.specs.World as world;
 ghost use Rattle.st_rules.specs.World.{ClientSite};
 ghost use Rattle.st_server.specs.Ready as ready;
 ghost use Rattle.st_server.specs.Room.{HasRoom};
+ghost use Rattle.st_world_all.specs.Indexes.{AtPlace};
 ghost use Rattle.st_world_all.specs.Readiness.{IsReady};
 
 use crate::index::index_of;
@@ -132,7 +133,7 @@ impl Machine {
         requires ready { IsReady self.old.world }
         requires number { command.client.0 ≡ i + 1 }
         requires there { i < length self.old.world.clients }
-        ensures { (site : ClientSite) → slice_get self.old.world.clients i ≡ Some site → OnOk result (self.new ≡ events.tells_site self.old.world k ok command site) }
+        ensures { AtPlace self.old.world.clients i (λ site. OnOk result (self.new ≡ events.tells_site self.old.world k ok command site)) }
     {
         if is_same_at(&self.clients, i, &command) {
             let result = self.commands.result(k, ok)?;

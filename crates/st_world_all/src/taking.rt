@@ -13,6 +13,7 @@ ghost use Rattle.st_rules.specs.World.{ClientSite};
 ghost use Rattle.st_server.specs.Ready as ready;
 ghost use Rattle.st_server.specs.Room.{HasRoom};
 ghost use Rattle.st_server.specs.Sound as sound;
+ghost use Rattle.st_world_all.specs.Indexes.{AtPlace};
 ghost use Rattle.st_world_all.specs.Ends.{HasEnds};
 ghost use Rattle.st_world_all.specs.Shapes.{says_and_flushes};
 ghost use Rattle.st_world_all.specs.Takes.{ServersStep, SiteSteps, SitesStep};
@@ -64,7 +65,7 @@ fn step_site(
     requires there { i < length clients.old.items }
     requires time { now.0 ≤ 2 ^ 62 }
     requires fits { comes_fit input ≡ true }
-    ensures exact { (site : ClientSite) → slice_get clients.old.items i ≡ Some site → SitesStep i site clients.old.items clients.new.items result (client_rules.node_step site.node now input) }
+    ensures exact { AtPlace clients.old.items i (λ site. SitesStep i site clients.old.items clients.new.items result (client_rules.node_step site.node now input)) }
     ensures sent { IfOk result (λ out. list_all is_sent out ≡ true) }
     ensures len { length clients.new.items ≡ length clients.old.items }
 {
@@ -83,7 +84,7 @@ fn step_node(
     requires time { now.0 ≤ 2 ^ 62 }
     requires fits { ready.comes_fit input ≡ true }
     requires room { (node : ServerNode) → slice_get servers.old.items i ≡ Some node → HasRoom node.state }
-    ensures exact { (node : ServerNode) → slice_get servers.old.items i ≡ Some node → ServersStep i servers.old.items servers.new.items result (server_rules.node_step node now input) }
+    ensures exact { AtPlace servers.old.items i (λ node. ServersStep i servers.old.items servers.new.items result (server_rules.node_step node now input)) }
     ensures sent { IfOk result (λ out. list_all sound.is_sent out ≡ true) }
 {
     let node = &mut servers[i];
@@ -97,7 +98,7 @@ impl Machine {
         requires there { i < length self.old.world.clients }
         requires few { length self.old.world.servers ≤ 4 }
         requires clients { length self.old.world.clients ≤ 16 }
-        ensures { (site : ClientSite) → slice_get self.old.world.clients i ≡ Some site → OnOk result (self.new ≡ events.with_flushes client site.node.state self.old) }
+        ensures { AtPlace self.old.world.clients i (λ site. OnOk result (self.new ≡ events.with_flushes client site.node.state self.old)) }
     {
         let now = self.clock_of(NodeId::Client(client));
         let servers = self.servers.len() as u16;
@@ -142,7 +143,7 @@ impl Machine {
         requires fits { ready.comes_fit input ≡ true }
         requires room { (node : ServerNode) → slice_get self.old.world.servers i ≡ Some node → HasRoom node.state }
         requires stolen { self.old.world.tally.stolen < 2 ^ 63 }
-        ensures { (node : ServerNode) → slice_get self.old.world.servers i ≡ Some node → OnOk result (self.new ≡ events.server_takes self.old.world server input node) }
+        ensures { AtPlace self.old.world.servers i (λ node. OnOk result (self.new ≡ events.server_takes self.old.world server input node)) }
     {
         let now = self.clock_of(NodeId::Server(server));
         match step_node(&mut self.servers, i, now, input) {
@@ -169,7 +170,7 @@ impl Machine {
         requires time { (world.clock_of self.old.world (nodes.Client client)).0 ≤ 2 ^ 62 }
         requires fits { comes_fit input ≡ true }
         requires reads { self.old.world.tally.reads < 2 ^ 63 }
-        ensures { (site : ClientSite) → slice_get self.old.world.clients i ≡ Some site → OnOk result (self.new ≡ events.client_takes self.old.world client input site) }
+        ensures { AtPlace self.old.world.clients i (λ site. OnOk result (self.new ≡ events.client_takes self.old.world client input site)) }
     {
         let now = self.clock_of(NodeId::Client(client));
         let ends = ends_at(&self.clients, i);
