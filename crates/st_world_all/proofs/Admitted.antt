@@ -1,12 +1,12 @@
 -- What an event that is not refused meets.
-use Rattle.std.proofs.Common.{◌≡◌, ℕ, ◌<◌, ◌≤◌, ◌^◌, ◌+◌, Bool, true, false, not, ◌&&◌, ◌==◌, List, [], ◌∷◌, length, arith, refl, sym, ap, ◌∙◌, if◌then◌else◌}
-use Rattle.std.specs.Prelude.{nat_le, nat_lt, nat_eq, Option, Some, None, ⊤}
+use Rattle.std.proofs.Common.{◌≡◌, ℕ, ◌≤◌, ◌^◌, Bool, true, false, not, ◌==◌, List, [], ◌∷◌, length, arith, refl, sym, ap, ◌∙◌, if◌then◌else◌}
+use Rattle.std.specs.Prelude.{Option, Some, None}
 use Rattle.std.specs.List.{list_all}
 use Rattle.std.specs.Option.{option_or}
 use Rattle.std.proofs.lemmas.Bool.{and_parts, eqb-true, leb-true, lt-ltb}
 use Rattle.st_base.specs.declared.ids.NodeId.{NodeId}
 use Rattle.st_base.specs.declared.ids.NodeId.TheVariants as nodes
-use Rattle.st_lives.specs.Clocked.{is_at_most, is_step}
+use Rattle.st_lives.specs.Clocked.{is_step}
 use Rattle.st_messages.specs.declared.event.Event.{Event}
 use Rattle.st_messages.specs.declared.event.Event.TheVariants as events
 use Rattle.st_rules.specs.declared.lease.Excess.{Excess}
@@ -14,7 +14,6 @@ use Rattle.st_rules.specs.declared.observation.WorldRefusal.{WorldRefusal}
 use Rattle.st_rules.specs.declared.observation.WorldRefusal.TheVariants as refusals
 use Rattle.st_rules.specs.Admissible.{cannot_step, clocks_refused, drift_refused, excess_with, flush_missed, net_full, no_node, not_running, rate_refused, refusal, stands, still_running}
 use Rattle.st_rules.specs.Events.{counted}
-use Rattle.st_rules.specs.Leases.{drift_after, first_excess}
 use Rattle.st_rules.specs.Safety.{is_event, is_increment}
 use Rattle.st_rules.specs.World.{World, all_clients, is_running}
 use Rattle.st_world_all.specs.Advances.{IsAccepted}

@@ -1,9 +1,8 @@
 -- The first refusal among nodes in order.
-use Rattle.std.proofs.Common.{◌≡◌, ℕ, suc, ◌+◌, ◌-◌, ◌<◌, ◌≤◌, List, [], ◌∷◌, refl, ap, sym, ◌∙◌, arith}
+use Rattle.std.proofs.Common.{◌≡◌, ℕ, ◌+◌, ◌-◌, ◌<◌, ◌≤◌, List, refl, ap, sym, ◌∙◌}
 use Rattle.std.specs.Prelude.{map, Option, Some, None}
 use Rattle.std.specs.Option.{option_or}
 use Rattle.st_base.specs.declared.ids.ClientId.{ClientId}
-use Rattle.st_base.specs.declared.ids.ServerId.{ServerId}
 use Rattle.st_rules.specs.declared.observation.WorldRefusal.{WorldRefusal}
 use Rattle.st_rules.specs.Admissible.{flush_missed, missed_at, missed_by}
 use Rattle.st_rules.specs.Extents.{numbers}

@@ -1,5 +1,5 @@
 -- No event changes how many events were counted, or how many nodes and clocks there are.
-use Rattle.std.proofs.Common.{◌≡◌, ℕ, zero, suc, ◌+◌, Bool, true, false, List, [], ◌∷◌, length, set, refl, sym, ap, ◌∙◌, arith, if◌then◌else◌, Result, Ok, Err}
+use Rattle.std.proofs.Common.{◌≡◌, ℕ, zero, suc, Bool, true, false, List, [], ◌∷◌, length, set, refl, sym, ap, ◌∙◌, arith, if◌then◌else◌, Result, Ok, Err}
 use Rattle.std.specs.Prelude.{◌==◌, Option, Some, None}
 use Rattle.st_base.specs.declared.disk.BlockAt.{BlockAt}
 use Rattle.st_base.specs.declared.disk.Command.{Command}
@@ -7,7 +7,6 @@ use Rattle.st_base.specs.declared.ids.ClientId.{ClientId}
 use Rattle.st_base.specs.declared.ids.NodeId.{NodeId}
 use Rattle.st_base.specs.declared.ids.NodeId.TheVariants as nodes
 use Rattle.st_base.specs.declared.ids.ServerId.{ServerId}
-use Rattle.st_base.specs.declared.ids.Stamp.{Stamp}
 use Rattle.st_lives.proofs.Later.{length-advanced}
 use Rattle.st_messages.specs.declared.ask.Ask.{Ask}
 use Rattle.st_messages.specs.declared.event.Event.{Event}
@@ -30,7 +29,7 @@ use Rattle.st_rules.specs.Events.{Scene}
 use Rattle.st_rules.specs.Leases.{drift_after, raise_rows}
 use Rattle.st_rules.specs.Server as server
 use Rattle.st_rules.specs.Server.{ServerNode}
-use Rattle.st_rules.specs.World.{ClientSite, World, all_servers, clock_of, issued_of, message_of, node_of, receiver_of, site_of}
+use Rattle.st_rules.specs.World.{ClientSite, World, all_servers, clock_of, message_of, node_of, receiver_of, site_of}
 use Rattle.st_world_all.specs.Flushing.{flush_each}
 use Rattle.st_world_all.specs.Shaping.{SameShape}
 use Rattle.st_world_all.proofs.Flushed.{flushes_is}

@@ -1,5 +1,5 @@
 -- The entries of a log that a summary counts.
-use Rattle.std.specs.Prelude.{ℕ, Bool, true, false, ◌&&◌, not, if◌then◌else◌}
+use Rattle.std.specs.Prelude.{ℕ, Bool, true, false, ◌&&◌, not}
 use Rattle.st_rules.specs.declared.log.EntryHead.{EntryHead}
 use Rattle.st_rules.specs.declared.log.EntryHead.TheVariants as heads
 use Rattle.st_rules.specs.declared.log.Fate.{Fate}

@@ -1,6 +1,5 @@
 -- What a step of the world returned, and the world that it left.
 use Rattle.std.specs.Prelude.{◌≡◌, List, Result, Ok, Err}
-use Rattle.st_messages.specs.declared.event.Event.{Event}
 use Rattle.st_rules.specs.declared.observation.Observation.{Observation}
 use Rattle.st_rules.specs.declared.observation.WorldRefusal.{WorldRefusal}
 use Rattle.st_rules.specs.World.{World}

@@ -1,6 +1,5 @@
-use Rattle.std.proofs.Common.{◌∙◌, ◌+◌, ap, length, refl, set}
-use Rattle.std.proofs.lemmas.Option.{get_or_from_slice_get, slice_get_read}
-use Rattle.st_rules.specs.Events.{asked_once_more}
+use Rattle.std.proofs.Common.{length, refl}
+use Rattle.std.proofs.lemmas.Option.{slice_get_read}
 use Rattle.st_world_all.proofs.asking.raise_asks.Goals as goal
 
 pub ask-requires : goal.ask-requires

@@ -1,4 +1,4 @@
-use Rattle.std.proofs.Common.{ap, ◌∙◌, ◌+◌, ◌-◌, ◌∷◌, ◌++◌, []}
+use Rattle.std.proofs.Common.{ap, ◌∙◌, ◌+◌, ◌-◌, ◌++◌}
 use Rattle.std.specs.Prelude.{map}
 use Rattle.st_rules.specs.Extents.{numbers}
 use Rattle.st_rules.specs.World.{server_clock}

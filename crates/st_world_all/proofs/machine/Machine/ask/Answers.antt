@@ -1,4 +1,4 @@
-use Rattle.std.proofs.Common.{◌≡◌, ap, sym, subst, ◌∙◌, length, refl, arith, true}
+use Rattle.std.proofs.Common.{◌≡◌, ap, sym, subst, ◌∙◌, length, refl, arith}
 use Rattle.std.specs.Prelude.{OnOk, slice_get, Some}
 use Rattle.st_rules.specs.Events.{asks_at, scene}
 use Rattle.st_rules.specs.World.{numbered, site_runs}

@@ -1,5 +1,5 @@
 use Rattle.std.proofs.Common.{◌≡◌, ◌<◌, ◌+◌, ◌^◌, ap, sym, ◌∙◌, length, arith}
-use Rattle.std.specs.Prelude.{set, slice_get, Some}
+use Rattle.std.specs.Prelude.{slice_get, Some}
 use Rattle.st_lives.proofs.Later.{clock_low}
 use Rattle.st_rules.specs.declared.client.ClientInput.TheVariants as inputs
 use Rattle.st_rules.specs.Events.{asked_once_more, client_takes}

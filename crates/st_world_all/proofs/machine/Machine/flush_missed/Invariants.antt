@@ -1,4 +1,4 @@
-use Rattle.std.proofs.Common.{◌≡◌, ◌+◌, ◌-◌, length}
+use Rattle.std.proofs.Common.{◌≡◌, ◌+◌, ◌-◌}
 use Rattle.std.specs.Prelude.{map}
 use Rattle.st_rules.specs.Admissible.{flush_missed}
 use Rattle.st_rules.specs.Extents.{numbers}

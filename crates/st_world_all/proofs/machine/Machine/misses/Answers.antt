@@ -1,4 +1,4 @@
-use Rattle.std.proofs.Common.{◌^◌, ◌≤◌, ap, subst, sym}
+use Rattle.std.proofs.Common.{◌^◌, ◌≤◌, subst, sym}
 use Rattle.st_base.specs.declared.ids.Stamp.{Stamp}
 use Rattle.st_lives.proofs.Later.{clock_low}
 use Rattle.st_world_all.proofs.machine.Machine.misses.Goals as goal

@@ -1,4 +1,3 @@
-use Rattle.std.proofs.Common.{◌≡◌}
 use Rattle.st_rules.specs.Events.{summary}
 use Rattle.st_world_all.proofs.machine.Machine.summary.Goals as goal
 
