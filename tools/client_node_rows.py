@@ -622,8 +622,10 @@ pub fn {name}(part: u32) -> &'static str {{
 def main():
     with Reached() as reached:
         run, many = script(random.Random(int(sys.argv[2]) if len(sys.argv) > 2 else 20)), full()
-    for n, line in reached.missed():
+    missed = reached.missed()
+    for n, line in missed:
         print(n, line, file=sys.stderr)
+    assert len(missed) == 3
     print(run.steps, len(run.lines), many.steps, len(many.lines), file=sys.stderr)
     print("//! Written by tools/client_node_rows.py. A line is a moment, what the client is given, and what it puts out. A message is its kind, its")
     print("//! sender, its receiver, its life, epoch, number and stamp, and the bytes of its body in runs, `HH` or `HH*COUNT`; one from or to the node's")
