@@ -1,5 +1,5 @@
 -- The commands that a client's step adds, and its outstanding writes behind it.
-use Rattle.std.proofs.Common.{◌≡◌, ◌≢◌, ℕ, zero, suc, ◌+◌, ◌%◌, ◌≤◌, ◌⊎◌, Bool, true, false, List, [], ◌∷◌, ◌++◌, Option, Some, None, refl, sym, ap, ◌∙◌, subst, inl, inr, arith, if◌then◌else◌}
+use Rattle.std.proofs.Common.{◌≡◌, ◌≢◌, ℕ, zero, suc, ◌+◌, ◌%◌, ◌≤◌, ◌⊎◌, Bool, true, false, List, [], ◌∷◌, ◌++◌, Option, Some, None, refl, sym, ap, ◌∙◌, subst, inl, inr, arith}
 use Rattle.std.specs.Prelude.{find, length, map, pred, slice_get}
 use Rattle.st_base.specs.declared.disk.BlockAt.{BlockAt}
 use Rattle.st_base.specs.declared.disk.Command.{Command}
@@ -20,13 +20,11 @@ use Rattle.st_rules.specs.declared.disks.Report.TheVariants as reports
 use Rattle.st_rules.specs.declared.lease.Phase.{Phase}
 use Rattle.st_rules.specs.declared.lease.Phase.TheVariants as phases
 use Rattle.st_rules.specs.declared.world.IssuedCommand.{IssuedCommand}
-use Rattle.st_rules.specs.declared.world.LeaseLife.{LeaseLife}
 use Rattle.st_rules.specs.Client as cl
 use Rattle.st_rules.specs.ClientState.{Association, ClientState, is_at}
 use Rattle.st_rules.specs.Disks as disks
 use Rattle.st_rules.specs.Events as ev
 use Rattle.st_rules.specs.Events.{Scene, client_notes, client_says, client_says_all}
-use Rattle.st_rules.specs.FlatLog as log
 use Rattle.st_rules.specs.World as world
 use Rattle.st_rules.specs.World.{World, ClientSite, clock_of, is_life_of, life_with, numbered, site_of, with_numbered}
 use Rattle.st_lemmas.specs.Lists.{Has}
@@ -40,10 +38,10 @@ use Rattle.st_laws_pages.proofs.Living.{row_is}
 use Rattle.st_laws_pages.proofs.Adding.{After, after_clients}
 use Rattle.st_laws_pages.proofs.Turning.{says_one}
 use Rattle.st_laws_pages.proofs.Lasting.{flush_parts}
-use Rattle.st_laws_causes.proofs.Placed.{Each_out, Placed, Placed_one}
-use Rattle.st_laws_writes.specs.Writes.{Is_listed, Listed_since, Open_hold, Open_listed}
+use Rattle.st_laws_causes.proofs.Placed.{Placed, Placed_one}
+use Rattle.st_laws_writes.specs.Writes.{Is_listed, Listed_since, Open_hold}
 use Rattle.st_laws_writes.proofs.Listing.{write_said}
-use Rattle.st_laws_writes.proofs.Walking.{After_step, Ended_by, Follows_on, Listed_at, Step_keeps, step_keeps}
+use Rattle.st_laws_writes.proofs.Walking.{After_step, Ended_by, Listed_at, Step_keeps, step_keeps}
 
 -- a command that these outputs submit
 pub record Is_new (c : ClientId) (site : ClientSite) (size : ℕ) (os : List Output) (x : IssuedCommand) (d : DiskCommand) : Type 0 where

@@ -1,21 +1,18 @@
 -- What the rules of a client leave of its outstanding writes, and what they submit.
-use Rattle.std.proofs.Common.{◌≡◌, ℕ, ◌⊎◌, Bool, true, false, not, ◌==◌, List, [], ◌∷◌, ◌++◌, Option, Some, None, refl, sym, ap, ◌∙◌, subst, inl, inr, if◌then◌else◌}
+use Rattle.std.proofs.Common.{◌≡◌, ℕ, ◌⊎◌, Bool, true, not, ◌==◌, List, [], ◌∷◌, ◌++◌, refl, sym, ap, ◌∙◌, subst, inl, inr}
 use Rattle.std.specs.Prelude.{map, ◌&&◌}
-use Rattle.std.proofs.lemmas.Bool.{eqb-true, ne_eqb}
+use Rattle.std.proofs.lemmas.Bool.{ne_eqb}
 use Rattle.st_base.specs.declared.disk.BlockAt.{BlockAt}
 use Rattle.st_base.specs.declared.disk.Command.TheVariants as commands
 use Rattle.st_base.specs.declared.disk.Tag.{Tag}
 use Rattle.st_base.specs.declared.ids.PageNo.{PageNo}
-use Rattle.st_base.specs.declared.ids.ServerId.{ServerId}
 use Rattle.st_base.specs.declared.ids.Stamp.{Stamp}
 use Rattle.st_messages.specs.declared.answer.AppAnswer.{AppAnswer}
 use Rattle.st_messages.specs.declared.output.Output.{Output}
 use Rattle.st_messages.specs.declared.output.Output.TheVariants as outputs
-use Rattle.st_rules.specs.declared.client.IoKind.{IoKind}
 use Rattle.st_rules.specs.declared.client.IoKind.TheVariants as io
 use Rattle.st_rules.specs.declared.client.Operation.{Operation}
 use Rattle.st_rules.specs.declared.client.PageCommand.{PageCommand}
-use Rattle.st_rules.specs.declared.pages.DirtyPage.{DirtyPage}
 use Rattle.st_rules.specs.ClientPages as pages
 use Rattle.st_rules.specs.ClientPages.{Store}
 use Rattle.st_rules.specs.ClientPasses as cp
@@ -23,10 +20,9 @@ use Rattle.st_rules.specs.Client as cl
 use Rattle.st_rules.specs.ClientState.{Association, Turn, answer_to, note}
 use Rattle.st_rules.specs.Keys.{same_page}
 use Rattle.st_lemmas.specs.Lists.{Has}
-use Rattle.st_lemmas.proofs.Lookups.{some_is}
 use Rattle.st_lemmas.proofs.Tables.{has_append, has_filter_in}
 use Rattle.st_laws_pages.specs.Client.{Change, Changes, Plain, Says, Operates, Answers, Greets, Tells_lost, Begins, Follows, Learns, Forgets, Caches, Writes, Reads, Submits, Still, Then}
-use Rattle.st_laws_pages.specs.Losses.{Ends, Unknown, Passes, Hardens, Fails, without}
+use Rattle.st_laws_pages.specs.Losses.{Ends, Unknown, Passes, Hardens, Fails}
 use Rattle.st_laws_pages.proofs.Losing.{Finished}
 use Rattle.st_laws_pages.proofs.Nexts.{empty_right}
 use Rattle.st_laws_writes.specs.Writes.{Is_listed}

@@ -1,5 +1,5 @@
 -- Outstanding writes through a whole step of a client, and what it submits.
-use Rattle.std.proofs.Common.{◌≡◌, ℕ, ◌⊎◌, Bool, true, false, ◌==◌, List, [], ◌∷◌, ◌++◌, Option, Some, None, refl, sym, ap, ◌∙◌, subst, inl, inr, if◌then◌else◌}
+use Rattle.std.proofs.Common.{◌≡◌, ℕ, ◌⊎◌, Bool, true, false, ◌==◌, List, [], ◌∷◌, ◌++◌, Option, Some, None, refl, sym, ◌∙◌, subst, inl, inr, if◌then◌else◌}
 use Rattle.st_base.specs.declared.config.Config.{Config}
 use Rattle.st_base.specs.declared.disk.BlockAt.{BlockAt}
 use Rattle.st_base.specs.declared.disk.Tag.{Tag}
@@ -25,11 +25,11 @@ use Rattle.st_lemmas.specs.Lists.{Has}
 use Rattle.st_lemmas.proofs.Tables.{has_append}
 use Rattle.st_laws_pages.specs.Losses.{Fit, is_ended}
 use Rattle.st_laws_pages.specs.Lives.{Pairwise}
-use Rattle.st_laws_pages.proofs.Nexts.{Next, changes_next}
+use Rattle.st_laws_pages.proofs.Nexts.{changes_next}
 use Rattle.st_laws_pages.proofs.Asking.{c_passes}
 use Rattle.st_laws_pages.proofs.Replying.{c_hear}
 use Rattle.st_laws_pages.proofs.Losing.{c_only, finish_is, is_done}
-use Rattle.st_laws_pages.proofs.Stepping.{Each_server, Left, each, no_rows, Left_all, input_left, Lost_or_not, Losses_left, losses_left, finish_next, pairs_then, pairs_has, pairs_same, Goes}
+use Rattle.st_laws_pages.proofs.Stepping.{each, input_left, Lost_or_not, Losses_left, losses_left, finish_next, pairs_then, pairs_has, pairs_same, Goes}
 use Rattle.st_laws_writes.specs.Writes.{Is_listed}
 use Rattle.st_laws_writes.proofs.Listing.{Keeps, None_ends, write_said, changes_keep, finished_keeps}
 
