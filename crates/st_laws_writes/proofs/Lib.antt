@@ -1,0 +1,4 @@
+pub mod Listing
+pub mod Walking
+pub mod Joining
+pub mod Law

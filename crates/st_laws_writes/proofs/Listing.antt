@@ -1,0 +1,200 @@
+-- What the rules of a client leave of its outstanding writes, and what they submit.
+use Rattle.std.proofs.Common.{◌≡◌, ℕ, ◌⊎◌, Bool, true, not, ◌==◌, List, [], ◌∷◌, ◌++◌, refl, sym, ap, ◌∙◌, subst, inl, inr}
+use Rattle.std.specs.Prelude.{map, ◌&&◌}
+use Rattle.std.proofs.lemmas.Bool.{ne_eqb}
+use Rattle.st_base.specs.declared.disk.BlockAt.{BlockAt}
+use Rattle.st_base.specs.declared.disk.Command.TheVariants as commands
+use Rattle.st_base.specs.declared.disk.Tag.{Tag}
+use Rattle.st_base.specs.declared.ids.PageNo.{PageNo}
+use Rattle.st_base.specs.declared.ids.Stamp.{Stamp}
+use Rattle.st_messages.specs.declared.answer.AppAnswer.{AppAnswer}
+use Rattle.st_messages.specs.declared.output.Output.{Output}
+use Rattle.st_messages.specs.declared.output.Output.TheVariants as outputs
+use Rattle.st_rules.specs.declared.client.IoKind.TheVariants as io
+use Rattle.st_rules.specs.declared.client.Operation.{Operation}
+use Rattle.st_rules.specs.declared.client.PageCommand.{PageCommand}
+use Rattle.st_rules.specs.ClientPages as pages
+use Rattle.st_rules.specs.ClientPages.{Store}
+use Rattle.st_rules.specs.ClientPasses as cp
+use Rattle.st_rules.specs.Client as cl
+use Rattle.st_rules.specs.ClientState.{Association, Turn, answer_to, note}
+use Rattle.st_rules.specs.Keys.{same_page}
+use Rattle.st_lemmas.specs.Lists.{Has}
+use Rattle.st_lemmas.proofs.Tables.{has_append, has_filter_in}
+use Rattle.st_laws_pages.specs.Client.{Change, Changes, Plain, Says, Operates, Answers, Greets, Tells_lost, Begins, Follows, Learns, Forgets, Caches, Writes, Reads, Submits, Still, Then}
+use Rattle.st_laws_pages.specs.Losses.{Ends, Unknown, Passes, Hardens, Fails}
+use Rattle.st_laws_pages.proofs.Losing.{Finished}
+use Rattle.st_laws_pages.proofs.Nexts.{empty_right}
+use Rattle.st_laws_writes.specs.Writes.{Is_listed}
+
+-- a write that is submitted
+abbrev pub write_said : ℕ → BlockAt → BlockAt → Tag → List ℕ → Output
+write_said n at to tag bytes = outputs.Submit n at (commands.Write to tag bytes)
+
+-- Outstanding writes stay, but for those of these numbers; and each write that is submitted is outstanding.
+pub record Keeps (Ends_now : ℕ → Type 0) (t u : Turn) : Type 0 where
+  pub stays : (n : ℕ) (tag : Tag) → (Ends_now n → ⊥) → Is_listed t.here n tag → Is_listed u.here n tag
+  pub said : (n : ℕ) (at to : BlockAt) (tag : Tag) (bytes : List ℕ) → Has (write_said n at to tag bytes) u.out → Has (write_said n at to tag bytes) t.out ⊎ Is_listed u.here n tag
+
+-- no command ends
+abbrev pub None_ends : ℕ → Type 0
+None_ends n = ⊥
+
+keeps_same : (E : ℕ → Type 0) (t : Turn) → Keeps E t t
+keeps_same E t = record { stays = λ n tag f h. h; said = λ n at to tag bytes i. inl i }
+
+-- what ends at first is not told again
+keeps_then : (E : ℕ → Type 0) (t u v : Turn) → Keeps E t u → Keeps None_ends u v → Keeps E t v
+keeps_then E t u v a b = record { stays = λ n tag f h. b.stays n tag (λ z. z) (a.stays n tag f h); said = λ n at to tag bytes i. go n at to tag bytes (b.said n at to tag bytes i) }
+  where
+    go : (n : ℕ) (at to : BlockAt) (tag : Tag) (bytes : List ℕ) → Has (write_said n at to tag bytes) u.out ⊎ Is_listed v.here n tag → Has (write_said n at to tag bytes) t.out ⊎ Is_listed v.here n tag
+    go n at to tag bytes (inr h) = inr h
+    go n at to tag bytes (inl i) = by (a.said n at to tag bytes i)
+      where
+        by : Has (write_said n at to tag bytes) t.out ⊎ Is_listed u.here n tag → Has (write_said n at to tag bytes) t.out ⊎ Is_listed v.here n tag
+        by (inl j) = inl j
+        by (inr h) = inr (b.stays n tag (λ z. z) h)
+
+-- with the same server, and with these commands at least
+listed_with : (a b : Association) → a.server ≡ b.server → (n : ℕ) (tag : Tag) (h : Is_listed a n tag) → Has h.command b.store.commands → Is_listed b n tag
+listed_with a b s n tag h i = record { server = h.server ∙ s; command = h.command; here = i; version = h.version; kind = h.kind; number_is = h.number_is; ino = h.ino; page = h.page }
+
+-- the association's server and commands are as they were
+same_listed : (a b : Association) → a.server ≡ b.server → a.store.commands ≡ b.store.commands → (n : ℕ) (tag : Tag) → Is_listed a n tag → Is_listed b n tag
+same_listed a b s e n tag h = listed_with a b s n tag h (subst (Has h.command) e h.here)
+
+-- A rule that says something else.
+abbrev Unsubmitted : List Output → Type 0
+Unsubmitted os = (n : ℕ) (at to : BlockAt) (tag : Tag) (bytes : List ℕ) → Has (write_said n at to tag bytes) os → ⊥
+
+more_said : (t u : Turn) (os : List Output) → u.out ≡ t.out ++ os → Unsubmitted os → (n : ℕ) (at to : BlockAt) (tag : Tag) (bytes : List ℕ) → Has (write_said n at to tag bytes) u.out → Has (write_said n at to tag bytes) t.out ⊎ Is_listed u.here n tag
+more_said t u os e f n at to tag bytes i = go (has_append t.out os (write_said n at to tag bytes) (subst (Has (write_said n at to tag bytes)) e i))
+  where
+    go : Has (write_said n at to tag bytes) t.out ⊎ Has (write_said n at to tag bytes) os → Has (write_said n at to tag bytes) t.out ⊎ Is_listed u.here n tag
+    go (inl j) = inl j
+    go (inr j) = absurd (f n at to tag bytes j)
+
+answers_submit_none : (a : AppAnswer) (ops : List Operation) → Unsubmitted (map (answer_to a) ops)
+answers_submit_none a [] n at to tag bytes i = absurd i
+answers_submit_none a (o ∷ ops) n at to tag bytes (inl e) = no e
+  where
+    no : write_said n at to tag bytes ≡ answer_to a o → ⊥
+    no z = cc
+answers_submit_none a (o ∷ ops) n at to tag bytes (inr i) = answers_submit_none a ops n at to tag bytes i
+
+plain_submits_none : (o : Output) → Plain o → Unsubmitted (o ∷ [])
+plain_submits_none o p n at to tag bytes (inr i) = absurd i
+plain_submits_none o p n at to tag bytes (inl e) = subst Plain (sym e) p
+
+note_submits_none : (m : Rattle.st_messages.specs.declared.output.Note.Note) → Unsubmitted (outputs.Note m ∷ [])
+note_submits_none m n at to tag bytes (inr i) = absurd i
+note_submits_none m n at to tag bytes (inl e) = no e
+  where
+    no : write_said n at to tag bytes ≡ outputs.Note m → ⊥
+    no z = cc
+
+read_submits_none : (k : ℕ) (b c : BlockAt) → Unsubmitted (outputs.Submit k b (commands.Read c) ∷ [])
+read_submits_none k b c n at to tag bytes (inr i) = absurd i
+read_submits_none k b c n at to tag bytes (inl e) = no e
+  where
+    no : write_said n at to tag bytes ≡ outputs.Submit k b (commands.Read c) → ⊥
+    no z = cc
+
+-- a write is no read of a page
+not_read : (ino : ℕ) (p : PageNo) (c : PageCommand) (v : ℕ) → c.kind ≡ io.Write v → not (pages.is_read_of ino p c) ≡ true
+not_read ino p c v e = ap (λ k. not (not (pages.is_write k) && ((c.ino == ino) && same_page c.page p))) e
+
+has_left : {A : Type 0} (xs ys : List A) (x : A) → Has x xs → Has x (xs ++ ys)
+has_left [] ys x i = absurd i
+has_left (z ∷ zs) ys x (inl e) = inl e
+has_left (z ∷ zs) ys x (inr i) = inr (has_left zs ys x i)
+
+has_last : {A : Type 0} (xs : List A) (x : A) → Has x (xs ++ x ∷ [])
+has_last [] x = inl refl
+has_last (z ∷ zs) x = inr (has_last zs x)
+
+-- the association's server and commands are as they were, and nothing is submitted
+quietly : (t u : Turn) (os : List Output) → t.here.server ≡ u.here.server → t.here.store.commands ≡ u.here.store.commands → u.out ≡ t.out ++ os → Unsubmitted os → Keeps None_ends t u
+quietly t u os s e o f = record { stays = λ n tag g h. same_listed t.here u.here s e n tag h; said = more_said t u os o f }
+
+silent : Unsubmitted []
+silent n at to tag bytes i = absurd i
+
+change_keeps : (now : Stamp) (t u : Turn) → Change now t u → Keeps None_ends t u
+unfolding cp.submit_read cp.submit_write cp.submit_command pages.begin_command pages.forget_read pages.forget_from
+change_keeps now t _ (Says _ o p) = quietly t _ (o ∷ []) refl refl refl (plain_submits_none o p)
+change_keeps now t _ (Operates _ os) = quietly t _ [] refl refl (empty_right t.out) silent
+change_keeps now t _ (Answers _ os ops a) = quietly t _ (map (answer_to a) ops) refl refl refl (answers_submit_none a ops)
+change_keeps now t _ (Greets _ g) = quietly t _ [] refl refl (empty_right t.out) silent
+change_keeps now t _ (Tells_lost _ lost) = quietly t _ [] refl refl (empty_right t.out) silent
+change_keeps now t _ (Begins _ s e b n) = quietly t _ [] refl refl (empty_right t.out) silent
+change_keeps now t _ (Follows _ s v e g) = quietly t _ [] refl refl (empty_right t.out) silent
+change_keeps now t _ (Learns _ e v n) = quietly t _ [] refl refl (empty_right t.out) silent
+change_keeps now t _ (Forgets _ ino p i) = quietly t _ [] refl refl (empty_right t.out) silent
+change_keeps now t _ (Caches _ clean) = quietly t _ [] refl refl (empty_right t.out) silent
+change_keeps now t _ (Writes _ s f p bytes n e sv own m x) =
+    record {
+      stays = λ k tag g h. listed_with t.here (cp.with_pages_changed (pages.written t.here.store.pages f.ino p bytes) f.ino p (note t n)).here refl k tag h
+          (has_filter_in (λ c. not (pages.is_read_of f.ino p c)) t.here.store.commands h.command h.here (not_read f.ino p h.command h.version h.kind));
+      said = more_said t (cp.with_pages_changed (pages.written t.here.store.pages f.ino p bytes) f.ino p (note t n)) (outputs.Note n ∷ []) refl (note_submits_none n);
+    }
+change_keeps now t _ (Reads _ ino p m i) =
+    record {
+      stays = λ k tag g h. listed_with t.here (cp.submit_read t ino p m).here refl k tag h (has_left t.here.store.commands (pages.page_command t.next_command ino p io.Read ∷ []) h.command h.here);
+      said = more_said t (cp.submit_read t ino p m) (outputs.Submit t.next_command m.at (commands.Read m.at) ∷ []) refl (read_submits_none t.next_command m.at m.at);
+    }
+change_keeps now t _ (Submits _ s ino p d m e i k w) =
+    record {
+      stays = λ j tag g h. listed_with t.here u.here refl j tag h (has_left t.here.store.commands (c ∷ []) h.command h.here);
+      said = λ n at to tag bytes j. go n at to tag bytes (has_append t.out (o ∷ []) (write_said n at to tag bytes) j);
+    }
+  where
+    u : Turn
+    u = cp.submit_write t d m
+
+    c : PageCommand
+    c = pages.page_command t.next_command d.ino d.page (io.Write d.version)
+
+    its : Tag
+    its = record { file = cp.file t d.ino; page = d.page; birth = m.birth }
+
+    o : Output
+    o = write_said t.next_command m.at m.at its d.bytes
+
+    new : Is_listed u.here t.next_command its
+    new = record { server = refl; command = c; here = has_last t.here.store.commands c; version = d.version; kind = refl; number_is = refl; ino = refl; page = refl }
+
+    number_of : (n : ℕ) (at to : BlockAt) (tag : Tag) (bytes : List ℕ) → write_said n at to tag bytes ≡ o → t.next_command ≡ n
+    number_of n at to tag bytes q = cc
+
+    tag_of : (n : ℕ) (at to : BlockAt) (tag : Tag) (bytes : List ℕ) → write_said n at to tag bytes ≡ o → its ≡ tag
+    tag_of n at to tag bytes q = cc
+
+    go : (n : ℕ) (at to : BlockAt) (tag : Tag) (bytes : List ℕ) → Has (write_said n at to tag bytes) t.out ⊎ Has (write_said n at to tag bytes) (o ∷ []) → Has (write_said n at to tag bytes) t.out ⊎ Is_listed u.here n tag
+    go n at to tag bytes (inl j) = inl j
+    go n at to tag bytes (inr (inr j)) = absurd j
+    go n at to tag bytes (inr (inl q)) = inr (subst (λ z. Is_listed u.here z tag) (number_of n at to tag bytes q) (subst (λ z. Is_listed u.here t.next_command z) (tag_of n at to tag bytes q) new))
+
+pub changes_keep : (now : Stamp) (t u : Turn) → Changes now t u → Keeps None_ends t u
+changes_keep now t _ (Still _) = keeps_same None_ends t
+changes_keep now t _ (Then _ u v c rest) = keeps_then None_ends t u v (change_keeps now t u c) (changes_keep now u v rest)
+
+-- without a command
+fewer : (number : ℕ) (t u : Turn) → t.here.server ≡ u.here.server → pages.without_command number t.here.store.commands ≡ u.here.store.commands → u.out ≡ t.out → Keeps (λ n. n ≡ number) t u
+fewer number t u s e o =
+    record {
+      stays = λ n tag f h. listed_with t.here u.here s n tag h
+          (subst (Has h.command) e (has_filter_in (λ c. not (pages.is_numbered number c)) t.here.store.commands h.command h.here (ap not (ne_eqb h.command.number number (λ q. f (sym h.number_is ∙ q))))));
+      said = λ n at to tag bytes i. inl (subst (Has (write_said n at to tag bytes)) o i);
+    }
+
+-- The end of a command.
+ends_keep : (number : ℕ) (ok : Bool) (t u : Turn) → Ends number ok t u → Keeps (λ n. n ≡ number) t u
+unfolding cl.hardened
+ends_keep number ok t _ Unknown = keeps_same (λ n. n ≡ number) t
+ends_keep number ok t _ (Passes pc e o) = fewer number t _ refl refl refl
+ends_keep number ok t _ (Hardens pc v e o k w) = fewer number t _ refl refl refl
+ends_keep number ok t _ (Fails pc v e o k) = fewer number t _ refl refl refl
+
+pub finished_keeps : (now : Stamp) (number : ℕ) (ok : Bool) (t u : Turn) → Finished now number ok t u → Keeps (λ n. n ≡ number) t u
+finished_keeps now number ok t u f = keeps_then (λ n. n ≡ number) t f.mid u (ends_keep number ok t f.mid f.ends) (changes_keep now f.mid u f.then_)

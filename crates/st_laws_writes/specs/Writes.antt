@@ -1,0 +1,49 @@
+-- Write commands that are not reported are outstanding at the clients that submitted them.
+use Rattle.std.specs.Prelude.{◌≡◌, ℕ, true, List, Some}
+use Rattle.st_base.specs.declared.disk.BlockAt.{BlockAt}
+use Rattle.st_base.specs.declared.disk.Command.TheVariants as commands
+use Rattle.st_base.specs.declared.disk.Tag.{Tag}
+use Rattle.st_base.specs.declared.ids.ClientId.{ClientId}
+use Rattle.st_rules.specs.declared.client.IoKind.TheVariants as io
+use Rattle.st_rules.specs.declared.client.PageCommand.{PageCommand}
+use Rattle.st_rules.specs.declared.disks.DiskCommand.{DiskCommand}
+use Rattle.st_rules.specs.declared.disks.Report.TheVariants as reports
+use Rattle.st_rules.specs.declared.world.IssuedCommand.{IssuedCommand}
+use Rattle.st_rules.specs.ClientState.{Association}
+use Rattle.st_rules.specs.Disks as disks
+use Rattle.st_rules.specs.Safety.{Promise}
+use Rattle.st_rules.specs.World.{World, ClientSite, numbered, site_of}
+use Rattle.st_lemmas.specs.Lists.{Has}
+
+-- a write of this number, for the page of a tag, is outstanding at an association
+pub record Is_listed (a : Association) (number : ℕ) (tag : Tag) : Type 0 where
+  pub server : tag.file.server ≡ a.server
+  pub command : PageCommand
+  pub here : Has command a.store.commands
+  pub version : ℕ
+  pub kind : command.kind ≡ io.Write version
+  pub number_is : command.number ≡ number
+  pub ino : command.ino ≡ tag.file.ino
+  pub page : command.page ≡ tag.page
+
+-- a command is of this instance of the client, and outstanding
+pub record Listed_since (starts : ℕ) (a : Association) (x : IssuedCommand) (tag : Tag) : Type 0 where
+  pub since : x.starts ≡ starts
+  pub listed : Is_listed a x.number tag
+
+-- all write commands of the life of an association that are not reported are
+abbrev pub Open_listed : List IssuedCommand → List DiskCommand → ClientId → ℕ → Association → Type 0
+Open_listed cs ds c starts a =
+    (k : ℕ) (x : IssuedCommand) (d : DiskCommand) (at : BlockAt) (tag : Tag) (bytes : List ℕ) → numbered cs k ≡ Some x →
+    disks.command_at ds k ≡ Some d → d.what ≡ commands.Write at tag bytes → d.report ≡ reports.Open → x.client ≡ c → x.server ≡ a.server →
+    x.life ≡ a.life → Listed_since starts a x tag
+
+-- of all clients that run
+abbrev pub Open_hold : World → Type 0
+Open_hold w =
+    (c : ClientId) (site : ClientSite) → site_of w c ≡ Some site → site.node.running ≡ true → (a : Association) →
+    Has a site.node.state.associations → Open_listed w.commands w.disks.commands c site.starts a
+
+-- behind a step
+abbrev pub Open_after : Promise
+Open_after past x = Open_hold x.after.world
