@@ -50,8 +50,8 @@ use Rattle.st_rules.specs.Server.{ServerState, Turn, Replied, turn, with_locks, 
 use Rattle.st_lemmas.specs.Lists.{Has}
 use Rattle.st_lemmas.proofs.Lookups.{or_false, some_is}
 use Rattle.st_lemmas.proofs.Puts.{find_put_by, find_put_other}
-use Rattle.st_lemmas.proofs.Tables.{and_both, find_map, found_at, has_append, same_or_not}
-use Rattle.st_laws_askers.specs.Reached.{Ends, Is_behind, Reached}
+use Rattle.st_lemmas.proofs.Tables.{and_both, and_true, find_map, found_at, has_append, same_or_not}
+use Rattle.st_laws_askers.specs.Reached.{Ends, Finds_new, Input_new, Is_behind, Reached}
 
 if_either : {A : Type 0} (P : A → Type 0) (b : Bool) (x y : A) → P x → P y → P (if b then x else y)
 if_either P true x y p q = p
@@ -305,17 +305,6 @@ unfolding sessions.reasserted
 reasserted_reached t c life n l =
     subst (λ o. Is_behind o life.0 n) (sym (find_put_by (sessions.is_session_of c) (sessions.is_session_of c) (sessions.reasserted_session c life) t.rows (eq-eqb c.0 c.0 refl) (λ z f. f))) (inr (refl, l))
 
--- What a reassertion finds in grace: no session of its life that was ended.
-abbrev pub Finds_new : Turn → Stamp → Header → Body → Type 0
-Finds_new t now h (bd.Reassert rows) =
-    (h.number ≤ 1) × (grace.is_on t.state.grace now ≡ true → (y : Session) → sessions.session_of t.state.sessions (sender h) ≡ Some y → y.life.0 ≡ h.life → sessions.is_live y ≡ true)
-Finds_new t now h b = Unit {0}
-
--- the same, of the input of a step, right behind the thefts
-abbrev pub Input_new : Turn → Stamp → ServerInput → Type 0
-Input_new t now Tick = Unit {0}
-Input_new t now (Control m) = Finds_new t now m.header m.body
-
 -- A step of a server with an input.
 module _ (s : ServerId) (e : Epoch) (i : ServerInput) (before : sessions.Sessions) where
   -- a reply to a reassertion that was refused
@@ -323,6 +312,7 @@ module _ (s : ServerId) (e : Epoch) (i : ServerInput) (before : sessions.Session
     pub by : Message
     pub is : i ≡ Control by
     pub from : by.header.from ≡ to
+    pub there : by.header.to ≡ server_node s
     pub of_life : by.header.life ≡ life
     pub of_epoch : by.header.epoch ≡ e.0
     pub under : by.header.number ≡ number
@@ -528,7 +518,7 @@ module _ (s : ServerId) (e : Epoch) (i : ServerInput) (before : sessions.Session
   r_rule t now h (bd.Name op) o = r_name t h op o
   r_rule t now h m o = (o, refl)
 
-  module _ (m : Message) (is : i ≡ Control m) where
+  module _ (m : Message) (is : i ≡ Control m) (there : m.header.to ≡ server_node s) where
     -- a life that the sessions do not know is above what its client has
     unknown : (t : Turn) (now : Stamp) → Finds_new t now m.header m.body → (rows : List (ℕ × GrantNo × Mode)) → m.body ≡ bd.Reassert rows → grace.is_on t.state.grace now ≡ true →
         sessions.knows t.state.sessions (sender m.header) (life_in m.header) ≡ false → (y : Session) → sessions.session_of t.state.sessions (sender m.header) ≡ Some y → y.life.0 < m.header.life
@@ -549,7 +539,7 @@ module _ (s : ServerId) (e : Epoch) (i : ServerInput) (before : sessions.Session
         o_reply _ m.header _ (λ q n. inl (subst (λ u. Is_behind (sessions.session_of u (sender m.header)) m.header.life m.header.number) (sym z.0) (reasserted_reached t.state.sessions (sender m.header) (life_in m.header) m.header.number first)))
         (o_sessions (with_locks a.locks t) _ (subst (Goes_on t.state.sessions) (sym z.0) (on_reasserted t.state.sessions (sender m.header) (life_in m.header) (unknown t now f rows body z.1 k))) (o_state t _ refl refl refl o))
     o_reassert_by t now (Err r) rows body ep f k z o =
-        o_reply t m.header _ (λ q n. inr (record { by = m; is = is; from = refl; of_life = refl; of_epoch = ep; under = refl; rows = rows; asks = body })) o
+        o_reply t m.header _ (λ q n. inr (record { by = m; is = is; from = refl; there = there; of_life = refl; of_epoch = ep; under = refl; rows = rows; asks = body })) o
 
     o_reassert : (t : Turn) (now : Stamp) (rows : List (ℕ × GrantNo × Mode)) → m.body ≡ bd.Reassert rows → m.header.epoch ≡ e.0 → Finds_new t now m.header m.body → O t → O (reassert t now m.header rows)
     unfolding reassert reassert_new
@@ -565,16 +555,16 @@ module _ (s : ServerId) (e : Epoch) (i : ServerInput) (before : sessions.Session
         z : Found t.state.sessions (sender m.header) (life_in m.header) (Fresh_state m.header.number)
         z = found_for t.state.sessions (sender m.header) (life_in m.header) (sv.epoch_in m.header) m.header.number takes.Fresh (Fresh_state m.header.number) q (λ r. cc r) (λ r. cc r) (λ r. cc r) (λ x r. fresh_state m.header.number x r)
 
-        there : sessions.session_of a.turn.state.sessions (sender m.header) ≡ Some z.session
-        there = ap (λ (u : sessions.Sessions). sessions.session_of u (sender m.header)) r.1 ∙ z.is
+        found : sessions.session_of a.turn.state.sessions (sender m.header) ≡ Some z.session
+        found = ap (λ (u : sessions.Sessions). sessions.session_of u (sender m.header)) r.1 ∙ z.is
 
         go : (b : Option Body) → O (keep m.header a.turn b)
         go None = r.0
         go (Some b) =
             o_reply _ m.header b
             (λ k n. inl (subst (λ l. Is_behind (sessions.session_of (sessions.store a.turn.state.sessions (sender m.header) m.header.number b) (sender m.header)) l m.header.number) z.of_life
-            (stored_reached a.turn.state.sessions (sender m.header) m.header.number b z.session there z.state)))
-            (o_sessions a.turn _ (on_stored a.turn.state.sessions (sender m.header) m.header.number b (λ x j. subst (λ (y : Session). Fresh_state m.header.number y.state) (some_is (sym there ∙ j)) z.state)) r.0)
+            (stored_reached a.turn.state.sessions (sender m.header) m.header.number b z.session found z.state)))
+            (o_sessions a.turn _ (on_stored a.turn.state.sessions (sender m.header) m.header.number b (λ x j. subst (λ (y : Session). Fresh_state m.header.number y.state) (some_is (sym found ∙ j)) z.state)) r.0)
 
     o_request_by : (t : Turn) (now : Stamp) (x : Taken Body) → sv.take t m.header ≡ x → O t → O (request_by t now m.header m.body x)
     unfolding request_by refuse_epoch
@@ -614,7 +604,8 @@ module _ (s : ServerId) (e : Epoch) (i : ServerInput) (before : sessions.Session
   o_input : (t : Turn) (now : Stamp) (j : ServerInput) → i ≡ j → Input_new t now j → O t → O (take_input t now j)
   unfolding take_input receive receive_from
   o_input t now Tick q w o = o
-  o_input t now (Control m) q w o = if_either O (sv.is_for t.state m.header) _ _ (o_by_suspicion m q t now _ w o) o
+  o_input t now (Control m) q w o =
+      if_cases O (sv.is_for t.state m.header) _ _ (λ f. o_by_suspicion m q (eqb-true _ _ (and_true (m.header.to == server_node t.state.id) _ f).0 ∙ ap server_node o.id) t now _ w o) (λ f. o)
 
   -- The passes.
   o_suspects : (now : Stamp) (cs : List ClientId) (t : Turn) → O t → O (suspect_each now cs t)
