@@ -62,7 +62,7 @@ says_more ms ns f s n m k = record { up_to = k.up_to; behind = λ run e b l. go 
     go : Is_behind (sessions.session_of n.state.sessions (client m.header.to)) m.header.life m.header.number ⊎ Refusal ms s m →
         Is_behind (sessions.session_of n.state.sessions (client m.header.to)) m.header.life m.header.number ⊎ Refusal ns s m
     go (inl h) = inl h
-    go (inr r) = inr (record { by = r.by; among = f r.by r.among; from = r.from; there = r.there; of_life = r.of_life; of_epoch = r.of_epoch; under = r.under; rows = r.rows; asks = r.asks })
+    go (inr r) = inr (record { by = r.by; among = f r.by r.among; from = r.from; there = r.there; of_life = r.of_life; of_epoch = r.of_epoch; under = r.under; rows = r.rows; asks = r.asks; beyond = r.beyond })
 
 -- a lost message is the same message
 map_set : {A B : Type 0} (f : A → B) (xs : List A) (n : ℕ) (y z : A) → f z ≡ f y → slice_get xs n ≡ Some y → map f (set xs n z) ≡ map f xs
@@ -237,10 +237,10 @@ module _ (past : List Step) (t : Traced) (d : Replies_hold past t) where
       newer m h = let z = k.sent m h in record { up_to = let y = z.1 in omega (arith, y, same); behind = λ run e b l. on z.1 (z.2 b l) }
         where
           on : m.header.epoch ≡ node.state.stable.epoch.0 →
-              Is_behind (sessions.session_of u.state.sessions (client m.header.to)) m.header.life m.header.number ⊎ Refused s node.state.stable.epoch i node.state.sessions m.header.to m.header.life m.header.number →
+              Is_behind (sessions.session_of u.state.sessions (client m.header.to)) m.header.life m.header.number ⊎ Refused s node.state.stable.epoch i node.state.sessions m.header.to m.header.life m.header.number m.body →
               Is_behind (sessions.session_of u.state.sessions (client m.header.to)) m.header.life m.header.number ⊎ Refusal (messages sc.world) s m
           on e (inl h) = inl h
-          on e (inr r) = inr (record { by = r.by; among = said.old r.by (subst Brings r.is brings); from = r.from; there = r.there; of_life = r.of_life; of_epoch = r.of_epoch ∙ sym e; under = r.under; rows = r.rows; asks = r.asks })
+          on e (inr r) = inr (record { by = r.by; among = said.old r.by (subst Brings r.is brings); from = r.from; there = r.there; of_life = r.of_life; of_epoch = r.of_epoch ∙ sym e; under = r.under; rows = r.rows; asks = r.asks; beyond = r.beyond })
 
       taken : Replies_say sc.world
       taken y n q m h r = it (set_cases t.world.servers s.0 y.0 node next n at (ap (λ z. numbered z y.0) (sym said.servers) ∙ q)) (from m h)

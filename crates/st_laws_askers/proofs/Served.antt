@@ -2,7 +2,7 @@
 -- request's number.
 use Rattle.std.proofs.Common.{◌≡◌, ℕ, ◌+◌, ◌≤◌, ◌<◌, ◌≢◌, ◌⊎◌, Bool, true, false, ◌&&◌, List, [], ◌∷◌, ◌==◌, refl, sym, ap, ◌∙◌, subst, inl, inr, arith, if◌then◌else◌}
 use Rattle.std.specs.Prelude.{Option, Some, None, Result as Res, Ok, Err, find, length, nat_le, nat_lt, option_map}
-use Rattle.std.proofs.lemmas.Bool.{eqb-true, eq-eqb, le-leb, ltb-false, ltb-true}
+use Rattle.std.proofs.lemmas.Bool.{eq-eqb, eqb-true, le-leb, leb-true, ltb-false, ltb-true}
 use Rattle.st_base.specs.declared.ids.ClientId.{ClientId}
 use Rattle.st_base.specs.declared.ids.Epoch.{Epoch}
 use Rattle.st_base.specs.declared.ids.ServerId.{ServerId}
@@ -26,6 +26,7 @@ use Rattle.st_messages.specs.declared.output.Output.TheVariants as outputs
 use Rattle.st_rules.specs.declared.input.ServerInput.{ServerInput}
 use Rattle.st_rules.specs.declared.input.ServerInput.TheVariants.{Tick, Control}
 use Rattle.st_rules.specs.declared.authority.AcceptRefusal.{AcceptRefusal}
+use Rattle.st_rules.specs.declared.authority.AcceptRefusal.TheVariants as refusals
 use Rattle.st_rules.specs.declared.extents.AllocateRefusal.TheVariants as wants
 use Rattle.st_rules.specs.declared.locks.AcquireRefusal.{AcquireRefusal}
 use Rattle.st_rules.specs.declared.locks.InstallRefusal.{InstallRefusal}
@@ -37,6 +38,7 @@ use Rattle.st_rules.specs.declared.sessions.SessionState.{SessionState}
 use Rattle.st_rules.specs.declared.sessions.SessionState.TheVariants as states
 use Rattle.st_rules.specs.declared.sessions.Taken.{Taken}
 use Rattle.st_rules.specs.declared.sessions.Taken.TheVariants as takes
+use Rattle.st_rules.specs.ClientState.{is_refusal}
 use Rattle.st_rules.specs.Extents as extents
 use Rattle.st_rules.specs.Names as names
 use Rattle.st_rules.specs.Locks as locks
@@ -308,7 +310,7 @@ reasserted_reached t c life n l =
 -- A step of a server with an input.
 module _ (s : ServerId) (e : Epoch) (i : ServerInput) (before : sessions.Sessions) where
   -- a reply to a reassertion that was refused
-  pub record Refused (to life number : ℕ) : Type 0 where
+  pub record Refused (to life number : ℕ) (b : Body) : Type 0 where
     pub by : Message
     pub is : i ≡ Control by
     pub from : by.header.from ≡ to
@@ -318,10 +320,11 @@ module _ (s : ServerId) (e : Epoch) (i : ServerInput) (before : sessions.Session
     pub under : by.header.number ≡ number
     pub rows : List (ℕ × GrantNo × Mode)
     pub asks : by.body ≡ bd.Reassert rows
+    pub beyond : (2 ≤ number) ⊎ (is_refusal b ≡ true)
 
   -- what a reply says that ends a request
   abbrev pub Tells : sessions.Sessions → ℕ → ℕ → ℕ → Body → Type 0
-  Tells t to life number b = Ends b → 1 ≤ number → Is_behind (sessions.session_of t (client to)) life number ⊎ Refused to life number
+  Tells t to life number b = Ends b → 1 ≤ number → Is_behind (sessions.session_of t (client to)) life number ⊎ Refused to life number b
 
   -- what a message of the server is
   abbrev pub Said : sessions.Sessions → Message → Type 0
@@ -340,7 +343,7 @@ module _ (s : ServerId) (e : Epoch) (i : ServerInput) (before : sessions.Session
   said_on : (t u : sessions.Sessions) → Goes_on t u → (x : Message) → Said t x → Said u x
   said_on t u g x (f, q, k) = (f, q, λ y n. go (k y n))
     where
-      go : Is_behind (sessions.session_of t (client x.header.to)) x.header.life x.header.number ⊎ Refused x.header.to x.header.life x.header.number → Is_behind (sessions.session_of u (client x.header.to)) x.header.life x.header.number ⊎ Refused x.header.to x.header.life x.header.number
+      go : Is_behind (sessions.session_of t (client x.header.to)) x.header.life x.header.number ⊎ Refused x.header.to x.header.life x.header.number x.body → Is_behind (sessions.session_of u (client x.header.to)) x.header.life x.header.number ⊎ Refused x.header.to x.header.life x.header.number x.body
       go (inl h) = inl (g (client x.header.to) x.header.life x.header.number h)
       go (inr h) = inr h
 
@@ -524,22 +527,31 @@ module _ (s : ServerId) (e : Epoch) (i : ServerInput) (before : sessions.Session
         sessions.knows t.state.sessions (sender m.header) (life_in m.header) ≡ false → (y : Session) → sessions.session_of t.state.sessions (sender m.header) ≡ Some y → y.life.0 < m.header.life
     unknown t now f rows body on k y h = go (or_false (nat_lt m.header.life y.life.0) _ (subst (λ o. sessions.knows_at o (life_in m.header) ≡ false) h k)) (same_or_not y.life.0 m.header.life)
       where
-        new : (m.header.number ≤ 1) × (grace.is_on t.state.grace now ≡ true → (y : Session) → sessions.session_of t.state.sessions (sender m.header) ≡ Some y → y.life.0 ≡ m.header.life → sessions.is_live y ≡ true)
+        new : grace.is_on t.state.grace now ≡ true → (y : Session) → sessions.session_of t.state.sessions (sender m.header) ≡ Some y → y.life.0 ≡ m.header.life → sessions.is_live y ≡ true
         new = subst (Finds_new t now m.header) body f
 
         go : (nat_lt m.header.life y.life.0 ≡ false) × ((sessions.is_live y && (m.header.life == y.life.0)) ≡ false) → (y.life.0 ≡ m.header.life) ⊎ (y.life.0 ≢ m.header.life) → y.life.0 < m.header.life
-        go (p, q) (inl e) = absurd (clash (and_both _ _ (new.1 on y h e) (eq-eqb m.header.life y.life.0 (sym e))) q)
+        go (p, q) (inl e) = absurd (clash (and_both _ _ (new on y h e) (eq-eqb m.header.life y.life.0 (sym e))) q)
         go (p, q) (inr n) = let z = ltb-false m.header.life y.life.0 p in omega (arith, z, n)
 
     o_reassert_by : (t : Turn) (now : Stamp) (r : Res grace.Accepted AcceptRefusal) (rows : List (ℕ × GrantNo × Mode)) → m.body ≡ bd.Reassert rows → m.header.epoch ≡ e.0 → Finds_new t now m.header m.body →
         sessions.knows t.state.sessions (sender m.header) (life_in m.header) ≡ false → Accepted_is t.state.grace now (sender m.header) (life_in m.header) t.state.sessions r → O t → O (reassert_by t m.header r)
     unfolding reassert_by
     o_reassert_by t now (Ok a) rows body ep f k z o =
-        let first = (subst (Finds_new t now m.header) body f).0 in
-        o_reply _ m.header _ (λ q n. inl (subst (λ u. Is_behind (sessions.session_of u (sender m.header)) m.header.life m.header.number) (sym z.0) (reasserted_reached t.state.sessions (sender m.header) (life_in m.header) m.header.number first)))
+        o_reply _ m.header _ (λ q n. says (nat_le m.header.number 1) refl)
         (o_sessions (with_locks a.locks t) _ (subst (Goes_on t.state.sessions) (sym z.0) (on_reasserted t.state.sessions (sender m.header) (life_in m.header) (unknown t now f rows body z.1 k))) (o_state t _ refl refl refl o))
+      where
+        says : (b : Bool) → nat_le m.header.number 1 ≡ b → Is_behind (sessions.session_of a.sessions (sender m.header)) m.header.life m.header.number ⊎ Refused m.header.from m.header.life m.header.number bd.Reasserted
+        says true l = inl (subst (λ u. Is_behind (sessions.session_of u (sender m.header)) m.header.life m.header.number) (sym z.0) (reasserted_reached t.state.sessions (sender m.header) (life_in m.header) m.header.number (leb-true _ _ l)))
+        says false l = inr (record { by = m; is = is; from = refl; there = there; of_life = refl; of_epoch = ep; under = refl; rows = rows; asks = body; beyond = inl (let y = past_over m.header.number 1 l in omega (arith, y)) })
     o_reassert_by t now (Err r) rows body ep f k z o =
-        o_reply t m.header _ (λ q n. inr (record { by = m; is = is; from = refl; there = there; of_life = refl; of_epoch = ep; under = refl; rows = rows; asks = body })) o
+        o_reply t m.header _ (λ q n. inr (record { by = m; is = is; from = refl; there = there; of_life = refl; of_epoch = ep; under = refl; rows = rows; asks = body; beyond = inr (refuses r) }))
+        o
+      where
+        refuses : (r : AcceptRefusal) → is_refusal (sv.refused_reassertion r) ≡ true
+        refuses (refusals.GraceOver x y) = refl
+        refuses (refusals.Conflict x y) = refl
+        refuses (refusals.NotHolder x y) = refl
 
     o_reassert : (t : Turn) (now : Stamp) (rows : List (ℕ × GrantNo × Mode)) → m.body ≡ bd.Reassert rows → m.header.epoch ≡ e.0 → Finds_new t now m.header m.body → O t → O (reassert t now m.header rows)
     unfolding reassert reassert_new

@@ -22,6 +22,7 @@ use Rattle.st_rules.specs.declared.sessions.Session.{Session}
 use Rattle.st_rules.specs.declared.sessions.SessionState.{SessionState}
 use Rattle.st_rules.specs.declared.sessions.SessionState.TheVariants as states
 use Rattle.st_rules.specs.declared.world.SentMessage.{SentMessage}
+use Rattle.st_rules.specs.ClientState.{is_refusal}
 use Rattle.st_rules.specs.Events as ev
 use Rattle.st_rules.specs.Grace as grace
 use Rattle.st_rules.specs.History.{traced}
@@ -60,10 +61,10 @@ Ends (bodies.Nack w a b) = Kept_why w
 Ends bodies.Welcome = ⊥
 Ends body = Unit {0}
 
--- What is owed at a reassertion: it is its session's first request, and in grace no session of its life was ended.
+-- What is owed at a reassertion: in grace no session of its life was ended.
 abbrev pub Finds_new : Turn → Stamp → Header → Body → Type 0
 Finds_new t now h (bodies.Reassert rows) =
-    (h.number ≤ 1) × (grace.is_on t.state.grace now ≡ true → (y : Session) → sessions.session_of t.state.sessions (sender h) ≡ Some y → y.life.0 ≡ h.life → sessions.is_live y ≡ true)
+    grace.is_on t.state.grace now ≡ true → (y : Session) → sessions.session_of t.state.sessions (sender h) ≡ Some y → y.life.0 ≡ h.life → sessions.is_live y ≡ true
 Finds_new t now h body = Unit {0}
 
 -- of the input of a step, right behind the thefts
@@ -95,7 +96,7 @@ New_owed w e = Unit {0}
 abbrev pub Reassertions_new : Promise
 Reassertions_new past x = New_owed (ev.counted x.before.world) x.event
 
--- a message answers a reassertion that was refused
+-- a message answers a reassertion: with a refusal, or one that was not the first request
 pub record Refusal (ms : List Message) (s : ServerId) (m : Message) : Type 0 where
   pub by : Message
   pub among : Has by ms
@@ -106,6 +107,7 @@ pub record Refusal (ms : List Message) (s : ServerId) (m : Message) : Type 0 whe
   pub under : by.header.number ≡ m.header.number
   pub rows : List (ℕ × GrantNo × Mode)
   pub asks : by.body ≡ bodies.Reassert rows
+  pub beyond : (2 ≤ m.header.number) ⊎ (is_refusal m.body ≡ true)
 
 -- What a server's message says: it is of no later epoch than the server's, and in the present one, where it ends a request, the session
 -- of its life reached its number, or it refuses a reassertion.

@@ -9,9 +9,9 @@ pub fn requests_are_last()
     ensures { Requests_are_last }
 {}
 
-/// In every run in which each reassertion that comes is its session's first request and finds, in grace, no ended session of its life:
-/// each message of a server that ends a request is of an earlier epoch, or the server's session of its life reached its number, or it
-/// refuses a reassertion.
+/// In every run in which each reassertion that comes finds, in grace, no ended session of its life: each message of a server that ends a
+/// request is of an earlier epoch, or the server's session of its life reached its number, or it answers a reassertion, with a refusal or
+/// under a number beyond the first.
 pub fn replies_are_reached()
     ensures { Replies_are_reached }
 {}
