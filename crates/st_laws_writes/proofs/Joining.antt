@@ -39,7 +39,7 @@ use Rattle.st_laws_pages.proofs.Adding.{After, after_clients}
 use Rattle.st_laws_pages.proofs.Turning.{says_one}
 use Rattle.st_laws_pages.proofs.Lasting.{flush_parts}
 use Rattle.st_laws_causes.proofs.Placed.{Placed, Placed_one}
-use Rattle.st_laws_writes.specs.Writes.{Is_listed, Listed_since, Open_hold}
+use Rattle.st_laws_writes.specs.Writes.{Is_listed, Listed_since, Open_hold, Writes_once}
 use Rattle.st_laws_writes.proofs.Listing.{write_said}
 use Rattle.st_laws_writes.proofs.Walking.{After_step, Ended_by, Listed_at, Step_keeps, step_keeps}
 
@@ -207,7 +207,7 @@ Ends_reported w c old input =
 
 -- A client's step.
 module _ (w : World) (c : ClientId) (old site : ClientSite) (input : ClientInput) (there : site_of w c ≡ Some old) (same : old.node ≡ site.node) (starts : old.starts ≡ site.starts) (runs : site.node.running ≡ true) (h : LivesHold w) (counts : length w.commands ≡ length w.disks.commands)
-    (placed : Placed (length w.servers) (cl.client_step site.node.state (clock_of w (nodes.Client c)) input).out) (ends : Ends_reported w c old input) (open_ : Open_hold w) where
+    (placed : Placed (length w.servers) (cl.client_step site.node.state (clock_of w (nodes.Client c)) input).out) (once_old : (a : Association) → Has a old.node.state.associations → Writes_once a) (ends : Ends_reported w c old input) (open_ : Open_hold w) where
   abbrev now : Stamp
   now = clock_of w (nodes.Client c)
 
@@ -234,6 +234,7 @@ module _ (w : World) (c : ClientId) (old site : ClientSite) (input : ClientInput
 
   k_ : Step_keeps (Ended_by input) now site.node.state turn.node.state turn.out
   k_ = step_keeps c site.node.state now input (subst (λ (n : cl.ClientNode). (a : Association) → Has a n.state.associations → Fit a) same m.fit)
+      (subst (λ (n : cl.ClientNode). (a : Association) → Has a n.state.associations → Writes_once a) same once_old)
 
   clients : v.clients ≡ with_numbered c.0 after w.clients
   clients = (flush_parts c turn.node.state (world.all_servers u) u).clients ∙ after_clients c site.node.state turn.out sc

@@ -62,7 +62,7 @@ use Rattle.st_laws_causes.proofs.Events.{counted_both}
 use Rattle.st_laws_causes.proofs.FlushSteps.{Both_hold}
 use Rattle.st_laws_causes.proofs.Law.{Stand, fresh_places, fresh_stand, one_step}
 use Rattle.st_laws_causes.proofs.Placed.{Input_tells, Places_at, places_at, step_placed}
-use Rattle.st_laws_writes.specs.Writes.{Listed_since, Open_after, Open_hold}
+use Rattle.st_laws_writes.specs.Writes.{Listed_since, Open_after, Open_hold, Writes_once}
 use Rattle.st_laws_writes.proofs.Joining.{Ends_reported, client_open, life_low}
 use Rattle.st_laws_writes.proofs.Walking.{Ended_by}
 
@@ -110,9 +110,9 @@ effect_opens d (suc n) = at (disks.command d (suc n)) refl
 
 -- A client that takes an input.
 takes : (past : List Step) (w : World) (c : ClientId) (input : ClientInput) (old site : ClientSite) → site_of w c ≡ Some old → old.node ≡ site.node → old.starts ≡ site.starts → LivesHold w → Places_at (length w.servers) w → length w.commands ≡ length w.disks.commands →
-    Input_tells (length w.servers) input → (site.node.running ≡ true → Ends_reported w c old input) → Open_hold w → Open_hold (ev.client_takes w c input site).world
+    Input_tells (length w.servers) input → (site.node.running ≡ true → (a : Association) → Has a old.node.state.associations → Writes_once a) → (site.node.running ≡ true → Ends_reported w c old input) → Open_hold w → Open_hold (ev.client_takes w c input site).world
 unfolding cl.node_step ev.client_takes ev.client_took
-takes past w c input old site there same starts l pl n tells ends h = go site.node.running refl
+takes past w c input old site there same starts l pl n tells once ends h = go site.node.running refl
   where
     t : cl.NodeTurn
     t = cl.node_turn site.node (cl.client_step site.node.state (clock_of w (nodes.Client c)) input)
@@ -124,7 +124,7 @@ takes past w c input old site there same starts l pl n tells ends h = go site.no
     knows = subst (λ (m : cl.ClientNode). (b : Association) → Has b m.state.associations → Knows (length w.servers) b.server b.store.extents) same (pl.known c old there)
 
     go : (b : Bool) → site.node.running ≡ b → Open_hold (ev.client_took w c site (if b then Ok t else Err Crashed)).world
-    go true r = client_open w c old site input there same starts r l n (step_placed (length w.servers) c site.node.state (clock_of w (nodes.Client c)) input tells fit knows) (ends r) h
+    go true r = client_open w c old site input there same starts r l n (step_placed (length w.servers) c site.node.state (clock_of w (nodes.Client c)) input tells fit knows) (once r) (ends r) h
     go false r = h
 
 -- A server's step.
@@ -189,10 +189,13 @@ module _ (past : List Step) (w : World) (l : LivesHold w) (pl : Places_at (lengt
   none_ends : (c : ClientId) (old : ClientSite) (input : ClientInput) → ((n : ℕ) → Ended_by input n → ⊥) → Ends_reported w c old input
   none_ends c old input f k x d tag a is js op cx i ls e = f x.number e
 
+  once_at : (c : ClientId) (site : ClientSite) → site_of w c ≡ Some site → site.node.running ≡ true → (a : Association) → Has a site.node.state.associations → Writes_once a
+  once_at c site e r a i = ((b.flush.sites c site e r).cared a i).once
+
   at_client : (c : ClientId) (input : ClientInput) (o : Option ClientSite) → site_of w c ≡ o → Input_tells (length w.servers) input → ((n : ℕ) → Ended_by input n → ⊥) → Open_hold (ev.at_client w c input o).world
   unfolding ev.at_client
   at_client c input None e tells f = h
-  at_client c input (Some site) e tells f = takes past w c input site site e refl refl l pl b.writes.commands.counts tells (λ r. none_ends c site input f) h
+  at_client c input (Some site) e tells f = takes past w c input site site e refl refl l pl b.writes.commands.counts tells (once_at c site e) (λ r. none_ends c site input f) h
 
   -- the end of a command
   module _ (n : ℕ) (ok : Bool) (d : DiskCommand) (is : disks.command w.disks (suc n) ≡ Some d) where
@@ -229,7 +232,7 @@ module _ (past : List Step) (w : World) (l : LivesHold w) (pl : Places_at (lengt
         at : (site : ClientSite) → site_of w y.client ≡ Some site → (z : Bool) → ev.is_same_instance y site ≡ z → Open_hold (if z then ev.client_takes v y.client (ev.end_told v (suc n) ok y) site else ev.quiet v).world
         at site s true t =
             takes past v y.client (ev.end_told v (suc n) ok y) site site s refl refl (record { lives = l.lives; known = l.known }) (record { count = pl.count; told = pl.told; known = pl.known })
-            (b.writes.commands.counts ∙ sym (set_length w.disks.commands n (disks.reported ok d))) tt
+            (b.writes.commands.counts ∙ sym (set_length w.disks.commands n (disks.reported ok d))) tt (once_at y.client site s)
             (ends y site q s (sym (eqb-true site.starts y.starts (and_true site.node.running (site.starts == y.starts) t).1))) open_v
         at site s false t = open_v
 
@@ -263,7 +266,7 @@ module _ (past : List Step) (w : World) (l : LivesHold w) (pl : Places_at (lengt
     where
       go : (s : Option ClientSite) → site_of w c ≡ s → Open_hold (ev.asks_at w c ask s).world
       go None e = h
-      go (Some site) e = takes past w c (inputs.App (site.asks + 1) ask) site (ev.asked_once_more site) e refl refl l pl b.writes.commands.counts tt (λ z. none_ends c site (inputs.App (site.asks + 1) ask) none) h
+      go (Some site) e = takes past w c (inputs.App (site.asks + 1) ask) site (ev.asked_once_more site) e refl refl l pl b.writes.commands.counts tt (once_at c site e) (λ z. none_ends c site (inputs.App (site.asks + 1) ask) none) h
   happens_open (events.Deliver k) r = go (world.message_of w k) refl
     where
       to : (m : SentMessage) → Has m w.net.messages → (n : NodeId) → Open_hold (ev.delivers_to w m.message n).world

@@ -30,7 +30,7 @@ use Rattle.st_laws_pages.proofs.Asking.{c_passes}
 use Rattle.st_laws_pages.proofs.Replying.{c_hear}
 use Rattle.st_laws_pages.proofs.Losing.{c_only, finish_is, is_done}
 use Rattle.st_laws_pages.proofs.Stepping.{each, input_left, Lost_or_not, Losses_left, losses_left, finish_next, pairs_then, pairs_has, pairs_same, Goes}
-use Rattle.st_laws_writes.specs.Writes.{Is_listed}
+use Rattle.st_laws_writes.specs.Writes.{Is_listed, Writes_once}
 use Rattle.st_laws_writes.proofs.Listing.{Keeps, None_ends, write_said, changes_keep, finished_keeps}
 
 -- An association goes on: its life is the same, and its outstanding writes stay, but for those that end.
@@ -45,8 +45,13 @@ record Rule_keeps (E : ℕ → Type 0) (t u : Turn) : Type 0 where
   server : t.here.server ≡ u.here.server
   life : t.here.life ≡ u.here.life
 
-abbrev Rule_is : (ℕ → Type 0) → (Turn → Turn) → Type 0
-Rule_is E rule = (t : Turn) → Fit t.here → Rule_keeps E t (rule t)
+abbrev Rule_is : (Association → Type 0) → (ℕ → Type 0) → (Turn → Turn) → Type 0
+Rule_is P E rule = (t : Turn) → P t.here → Rule_keeps E t (rule t)
+
+-- what is known of an association whose command ends
+record Fit_once (a : Association) : Type 0 where
+  fit : Fit a
+  once : Writes_once a
 
 -- each write that is submitted since is outstanding at an association
 abbrev pub Listed_at : List Association → ℕ → Tag → Type 0
@@ -70,11 +75,11 @@ unfolding at_these
 these_hold rule [] t b i = i
 these_hold rule (a ∷ al) t b i = these_hold rule al (leave t (rule (enter t a))) b (has_left t.state.associations ((rule (enter t a)).here ∷ []) b i)
 
-these_said : (E : ℕ → Type 0) (rule : Turn → Turn) → Rule_is E rule → (al : List Association) (t : ClientTurn) → ((a : Association) → Has a al → Fit a) →
+these_said : (P : Association → Type 0) (E : ℕ → Type 0) (rule : Turn → Turn) → Rule_is P E rule → (al : List Association) (t : ClientTurn) → ((a : Association) → Has a al → P a) →
     (n : ℕ) (at to : BlockAt) (tag : Tag) (bytes : List ℕ) → Has (write_said n at to tag bytes) (at_these rule al t).out → Has (write_said n at to tag bytes) t.out ⊎ Listed_at (at_these rule al t).state.associations n tag
 unfolding at_these
-these_said E rule k [] t f n at to tag bytes i = inl i
-these_said E rule k (a ∷ al) t f n at to tag bytes i = go (these_said E rule k al (leave t u) (λ b j. f b (inr j)) n at to tag bytes i)
+these_said P E rule k [] t f n at to tag bytes i = inl i
+these_said P E rule k (a ∷ al) t f n at to tag bytes i = go (these_said P E rule k al (leave t u) (λ b j. f b (inr j)) n at to tag bytes i)
   where
     u : Turn
     u = rule (enter t a)
@@ -90,16 +95,16 @@ these_said E rule k (a ∷ al) t f n at to tag bytes i = go (these_said E rule k
     go (inr h) = inr h
     go (inl j) = one ((k (enter t a) (f a (inl refl))).keeps.said n at to tag bytes j)
 
-each_said : (E : ℕ → Type 0) (rule : Turn → Turn) → Rule_is E rule → (t : ClientTurn) → ((a : Association) → Has a t.state.associations → Fit a) →
+each_said : (P : Association → Type 0) (E : ℕ → Type 0) (rule : Turn → Turn) → Rule_is P E rule → (t : ClientTurn) → ((a : Association) → Has a t.state.associations → P a) →
     (n : ℕ) (at to : BlockAt) (tag : Tag) (bytes : List ℕ) → Has (write_said n at to tag bytes) (at_each rule t).out → Has (write_said n at to tag bytes) t.out ⊎ Listed_at (at_each rule t).state.associations n tag
 unfolding at_each
-each_said E rule k t f n at to tag bytes i = these_said E rule k t.state.associations (with_associations [] t) f n at to tag bytes i
+each_said P E rule k t f n at to tag bytes i = these_said P E rule k t.state.associations (with_associations [] t) f n at to tag bytes i
 
-each_keeps : (E : ℕ → Type 0) (rule : Turn → Turn) → Rule_is E rule → (t : ClientTurn) → ((a : Association) → Has a t.state.associations → Fit a) → All_keep E t (at_each rule t)
-each_keeps E rule k t f =
+each_keeps : (P : Association → Type 0) (E : ℕ → Type 0) (rule : Turn → Turn) → Rule_is P E rule → (t : ClientTurn) → ((a : Association) → Has a t.state.associations → P a) → All_keep E t (at_each rule t)
+each_keeps P E rule k t f =
     record {
-      pairs = (each Fit (Follows_on E) (λ a. []) (λ os. []) rule t (λ u e p. let z = k u p in record { one = record { server = z.server; life = z.life; stays = z.keeps.stays }; said = refl }) f).pairs;
-      said = each_said E rule k t f;
+      pairs = (each P (Follows_on E) (λ a. []) (λ os. []) rule t (λ u e p. let z = k u p in record { one = record { server = z.server; life = z.life; stays = z.keeps.stays }; said = refl }) f).pairs;
+      said = each_said P E rule k t f;
     }
 
 -- a rule that is a list of changes
@@ -117,10 +122,10 @@ Ended_by input n = ⊥
 same_on : (E : ℕ → Type 0) (a : Association) → Follows_on E a a
 same_on E a = record { server = refl; life = refl; stays = λ n tag f h. h }
 
-input_keeps : (now : Stamp) (input : ClientInput) (t : ClientTurn) → ((a : Association) → Has a t.state.associations → Fit a) → All_keep (Ended_by input) t (cl.take_input t now input)
+input_keeps : (now : Stamp) (input : ClientInput) (t : ClientTurn) → ((a : Association) → Has a t.state.associations → Fit a) → ((a : Association) → Has a t.state.associations → Writes_once a) → All_keep (Ended_by input) t (cl.take_input t now input)
 unfolding cl.take_input cl.app cl.app_known cl.done cr.receive cr.receive_here
-input_keeps now inputs.Tick t f = record { pairs = pairs_same (Follows_on None_ends) (same_on None_ends) t.state.associations; said = λ n at to tag bytes i. inl i }
-input_keeps now (inputs.App op ask) t f = full (cl.is_full t.state)
+input_keeps now inputs.Tick t f o = record { pairs = pairs_same (Follows_on None_ends) (same_on None_ends) t.state.associations; said = λ n at to tag bytes i. inl i }
+input_keeps now (inputs.App op ask) t f o = full (cl.is_full t.state)
   where
     at_once : (a : AppAnswer) → All_keep None_ends t (cl.answered_at_once t op a)
     at_once a = record { pairs = pairs_same (Follows_on None_ends) (same_on None_ends) t.state.associations; said = said }
@@ -137,20 +142,21 @@ input_keeps now (inputs.App op ask) t f = full (cl.is_full t.state)
             go (inr (inr j)) = absurd j
 
     known : (b : Bool) → All_keep None_ends t (if b then at_each (only_at (server_of ask) (cl.take_ask op ask)) t else cl.answered_at_once t op answers.NoFile)
-    known true = each_keeps None_ends (only_at (server_of ask) (cl.take_ask op ask)) (λ u p. changes_rule now u _ (c_only now (server_of ask) op ask u)) t f
+    known true = each_keeps Fit None_ends (only_at (server_of ask) (cl.take_ask op ask)) (λ u p. changes_rule now u _ (c_only now (server_of ask) op ask u)) t f
     known false = at_once answers.NoFile
 
     full : (b : Bool) → All_keep None_ends t (if b then cl.answered_at_once t op answers.OpsFull else cl.app_known t op ask)
     full true = at_once answers.OpsFull
     full false = known (cl.is_configured t.state (server_of ask))
-input_keeps now (inputs.Control m) t f = go (m.header.to == t.state.id.0)
+input_keeps now (inputs.Control m) t f o = go (m.header.to == t.state.id.0)
   where
     go : (b : Bool) → All_keep None_ends t (if b then at_each (cr.hear now m.header m.body) t else t)
-    go true = each_keeps None_ends (cr.hear now m.header m.body) (λ u p. changes_rule now u _ (c_hear now m.header m.body u p.fresh)) t f
+    go true = each_keeps Fit None_ends (cr.hear now m.header m.body) (λ u p. changes_rule now u _ (c_hear now m.header m.body u p.fresh)) t f
     go false = record { pairs = pairs_same (Follows_on None_ends) (same_on None_ends) t.state.associations; said = λ n at to tag bytes i. inl i }
-input_keeps now (inputs.Done number result) t f =
-    each_keeps (λ n. n ≡ number) (cl.finish number result)
-    (λ u p. let n = finish_next now number result u in record { keeps = finished_keeps now number (is_done result) u (cl.finish number result u) (finish_is now number result u); server = n.server; life = n.life }) t f
+input_keeps now (inputs.Done number result) t f o =
+    each_keeps Fit_once (λ n. n ≡ number) (cl.finish number result)
+    (λ u p. let n = finish_next now number result u in record { keeps = finished_keeps now number (is_done result) u (cl.finish number result u) p.once (finish_is now number result u); server = n.server; life = n.life }) t
+    (λ a i. record { fit = f a i; once = o a i })
 
 -- The losses submit nothing.
 abbrev Silent_one : Output → Type 0
@@ -240,10 +246,17 @@ on_then E a b c p q = record { server = p.server ∙ q.server; life = p.life ∙
 lost_then : (E : ℕ → Type 0) (k : Config) (now : Stamp) (a b c : Association) → Lost_or_not k now a b → Follows_on E b c → After_step E k now a c
 lost_then E k now a b c p q = record { server = p.server ∙ q.server; lasts = λ e. subst (λ z. Follows_on E z c) (sym (p.lasts e)) q; lost = λ e. p.lost e ∙ q.life }
 
-pub step_keeps : (c : ClientId) (s : ClientState) (now : Stamp) (input : ClientInput) → ((a : Association) → Has a s.associations → Fit a) →
+lost_once : (k : Config) (now : Stamp) (a b : Association) → Lost_or_not k now a b → Writes_once a → Writes_once b
+lost_once k now a b r h = go (is_ended k now a.session) refl
+  where
+    go : (z : Bool) → is_ended k now a.session ≡ z → Writes_once b
+    go false e = subst Writes_once (r.lasts e) h
+    go true e = λ c d i j. absurd (subst (λ (x : pages.Store). Has c x.commands) (r.emptied e) i)
+
+pub step_keeps : (c : ClientId) (s : ClientState) (now : Stamp) (input : ClientInput) → ((a : Association) → Has a s.associations → Fit a) → ((a : Association) → Has a s.associations → Writes_once a) →
     Step_keeps (Ended_by input) now s (cl.client_step s now input).state (cl.client_step s now input).out
 unfolding cl.client_step cl.work
-step_keeps c s now input f =
+step_keeps c s now input f o =
     record {
       pairs = pairs_then (Lost_or_not s.config now) (Follows_on (Ended_by input)) (After_step (Ended_by input) s.config now) (lost_then (Ended_by input) s.config now) s.associations t.state.associations v.state.associations lost.pairs
           (pairs_then (Follows_on (Ended_by input)) (Follows_on None_ends) (Follows_on (Ended_by input)) (on_then (Ended_by input)) t.state.associations u.state.associations v.state.associations heard.pairs worked.pairs);
@@ -265,14 +278,17 @@ step_keeps c s now input f =
     fit_t : (a : Association) → Has a t.state.associations → Fit a
     fit_t = pairs_has (Lost_or_not s.config now) Fit Fit (λ a b r. r.fit) s.associations t.state.associations lost.pairs f
 
+    once_t : (a : Association) → Has a t.state.associations → Writes_once a
+    once_t = pairs_has (Lost_or_not s.config now) Writes_once Writes_once (λ a b r h. lost_once s.config now a b r h) s.associations t.state.associations lost.pairs o
+
     fit_u : (a : Association) → Has a u.state.associations → Fit a
     fit_u = pairs_has (Goes t.state.config now) Fit Fit (λ a b r. r.fit) t.state.associations u.state.associations (input_left c s now input t fit_t).pairs fit_t
 
     heard : All_keep (Ended_by input) t u
-    heard = input_keeps now input t fit_t
+    heard = input_keeps now input t fit_t once_t
 
     worked : All_keep None_ends u v
-    worked = each_keeps None_ends (cp.passes now (cl.is_tick input)) (λ x p. changes_rule now x _ (c_passes now (cl.is_tick input) x)) u fit_u
+    worked = each_keeps Fit None_ends (cp.passes now (cl.is_tick input)) (λ x p. changes_rule now x _ (c_passes now (cl.is_tick input) x)) u fit_u
 
     early : (n : ℕ) (at to : BlockAt) (tag : Tag) (bytes : List ℕ) → Has (write_said n at to tag bytes) t.out ⊎ Listed_at u.state.associations n tag → Listed_at v.state.associations n tag
     early n at to tag bytes (inl i) = absurd (silent_none t.out (losses_silent now s) n at to tag bytes i)

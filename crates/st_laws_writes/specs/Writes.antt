@@ -8,14 +8,16 @@ use Rattle.st_rules.specs.declared.client.IoKind.TheVariants as io
 use Rattle.st_rules.specs.declared.client.PageCommand.{PageCommand}
 use Rattle.st_rules.specs.declared.disks.DiskCommand.{DiskCommand}
 use Rattle.st_rules.specs.declared.disks.Report.TheVariants as reports
+use Rattle.st_rules.specs.declared.pages.DirtyPage.{DirtyPage}
 use Rattle.st_rules.specs.declared.world.IssuedCommand.{IssuedCommand}
+use Rattle.st_rules.specs.ClientPages.{dirty_of}
 use Rattle.st_rules.specs.ClientState.{Association}
 use Rattle.st_rules.specs.Disks as disks
 use Rattle.st_rules.specs.Safety.{Promise}
 use Rattle.st_rules.specs.World.{World, ClientSite, numbered, site_of}
 use Rattle.st_lemmas.specs.Lists.{Has}
 
--- a write of this number, for the page of a tag, is outstanding at an association
+-- a write of this number, for the page of a tag, is outstanding at an association, and its page is dirty
 pub record Is_listed (a : Association) (number : ℕ) (tag : Tag) : Type 0 where
   pub server : tag.file.server ≡ a.server
   pub command : PageCommand
@@ -25,6 +27,14 @@ pub record Is_listed (a : Association) (number : ℕ) (tag : Tag) : Type 0 where
   pub number_is : command.number ≡ number
   pub ino : command.ino ≡ tag.file.ino
   pub page : command.page ≡ tag.page
+  pub dirty : DirtyPage
+  pub dirty_is : dirty_of a.store.pages command.ino command.page ≡ Some dirty
+
+-- an outstanding write is the only one of its page
+abbrev pub Writes_once : Association → Type 0
+Writes_once a =
+    (c d : PageCommand) → Has c a.store.commands → Has d a.store.commands → (v u : ℕ) → c.kind ≡ io.Write v → d.kind ≡ io.Write u → c.ino ≡ d.ino →
+    c.page ≡ d.page → c.number ≡ d.number
 
 -- a command is of this instance of the client, and outstanding
 pub record Listed_since (starts : ℕ) (a : Association) (x : IssuedCommand) (tag : Tag) : Type 0 where
