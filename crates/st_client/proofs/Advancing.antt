@@ -1,6 +1,6 @@
 -- The steps of a rule: nothing is done, an output is said, one after the other, one of two.
 use Rattle.std.proofs.Common.{◌≡◌, ℕ, ◌+◌, ◌≤◌, Bool, true, false, List, [], ◌∷◌, ◌++◌, length, refl, ◌∙◌, arith}
-use Rattle.std.specs.Prelude.{if◌then◌else◌, map, filter}
+use Rattle.std.specs.Prelude.{if◌then◌else◌, map, filter, Result, Ok, Err, OnOk}
 use Rattle.std.proofs.lemmas.List.{length-append}
 use Rattle.st_base.specs.declared.config.Config.{Config}
 use Rattle.st_client.specs.Machines.{Advances}
@@ -52,3 +52,8 @@ then_more t u v g h =
 pub either : (b : Bool) (x y t : Turn) → Advances t x → Advances t y → Advances t (if b then x else y)
 either true x y t p q = p
 either false x y t p q = q
+
+-- what advances, where it does not run out of memory
+pub advanced : {A B : Type 0} (f : Turn → Turn) (g : (t : Turn) → Advances t (f t)) (r : Result A B) (t u : Turn) → OnOk r (u ≡ f t) → OnOk r (Advances t u)
+advanced f g (Ok x) t u h = rw h (g t)
+advanced f g (Err e) t u h = h

@@ -201,7 +201,7 @@ effect_grows t s now file asked (bodies.AppDone op answer) = stays t
 effect_grows t s now file asked (bodies.Submit command at what) = stays t
 effect_grows t s now file asked (bodies.Done command result) = stays t
 
-end_grows : (t : Turn) (s : ClientSession) (stamp : Stamp) → Advances t (end_request t s stamp)
+pub end_grows : (t : Turn) (s : ClientSession) (stamp : Stamp) → Advances t (end_request t s stamp)
 unfolding end_request note_renewal
 end_grows t s stamp = either (is_renewal stamp s.lease) (note_lease (renewed stamp s.lease) t) t t (lease_grows _ t) (stays t)
 

@@ -3,3 +3,4 @@ pub mod Advancing
 pub mod HearGrows
 pub mod InputsGrow
 pub mod PassesGrow
+pub mod HearLasts

@@ -4,5 +4,6 @@
 
 mod machine;
 mod rule;
+mod rules;
 
 pub use machine::Machine;
