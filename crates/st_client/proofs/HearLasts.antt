@@ -194,6 +194,7 @@ unfolding refuse_holder
 holder_lasts t asked now h = either now (asks_cut_or_remove asked) _ t (told now _ answers.NotHolder t h) h
 
 as_lasts : (t : Turn) (a b : ℕ) (file : Option ℕ) (asked : Body) (now : Stamp) (w : Why) → Here now t → Here now (refuse_as t w a b file asked)
+unfolding refuse_as
 as_lasts t a b file asked now why.Suspect h = h
 as_lasts t a b file asked now why.NoSession h = h
 as_lasts t a b file asked now why.OtherEpoch h = h

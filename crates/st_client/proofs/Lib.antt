@@ -4,3 +4,4 @@ pub mod HearGrows
 pub mod InputsGrow
 pub mod PassesGrow
 pub mod HearLasts
+pub mod AllLast

@@ -12,6 +12,7 @@ use st_operations::server_of;
 use std::alloc::AllocError;
 
 /// The loss.
+#[derive(Clone, Copy)]
 pub struct Lose {
     pub now: Stamp,
 }
@@ -72,6 +73,7 @@ impl Rule for Hear {
 }
 
 /// The passes.
+#[derive(Clone, Copy)]
 pub struct Passes {
     pub now: Stamp,
     pub tick: bool,
