@@ -1,6 +1,6 @@
 -- The steps of a rule: nothing is done, an output is said, one after the other, one of two.
 use Rattle.std.proofs.Common.{◌≡◌, ℕ, ◌+◌, ◌≤◌, Bool, true, false, List, [], ◌∷◌, ◌++◌, length, refl, ◌∙◌, arith}
-use Rattle.std.specs.Prelude.{if◌then◌else◌, map, filter, Result, Ok, Err, OnOk}
+use Rattle.std.specs.Prelude.{if◌then◌else◌, map, filter, Result, Ok, Err, IfOk, OnOk}
 use Rattle.std.proofs.lemmas.List.{length-append}
 use Rattle.st_base.specs.declared.config.Config.{Config}
 use Rattle.st_client.specs.Machines.{Advances}
@@ -9,7 +9,7 @@ use Rattle.st_messages.specs.declared.output.Output.{Output}
 use Rattle.st_rules.specs.declared.client.Operation.{Operation}
 use Rattle.st_rules.specs.ClientState.{Turn, answer_each, answer_to, say}
 
-more_out : (out outs : List Output) → length out ≤ length (out ++ outs)
+pub more_out : (out outs : List Output) → length out ≤ length (out ++ outs)
 more_out out outs = omega (arith, length-append out outs)
 
 pub same_number : (n : ℕ) → n ≤ n
@@ -57,3 +57,8 @@ either false x y t p q = q
 pub advanced : {A B : Type 0} (f : Turn → Turn) (g : (t : Turn) → Advances t (f t)) (r : Result A B) (t u : Turn) → OnOk r (u ≡ f t) → OnOk r (Advances t u)
 advanced f g (Ok x) t u h = rw h (g t)
 advanced f g (Err e) t u h = h
+
+-- what stands of a result that is one
+pub ok_by : {A B : Type 0} (r : Result A B) (P Q : A → Type 0) → ((a : A) → P a → Q a) → IfOk r P → IfOk r Q
+ok_by (Ok x) P Q f h = f x h
+ok_by (Err e) P Q f h = h

@@ -1,5 +1,5 @@
 -- Through the losses and the rule for the input: no lease of the client is over.
-use Rattle.std.proofs.Common.{◌≡◌, ℕ, ◌≤◌, ◌^◌, Bool, true, false, List, [], ◌∷◌, ◌++◌, refl, sym, ap, ◌∙◌}
+use Rattle.std.proofs.Common.{◌≡◌, ℕ, ◌≤◌, ◌^◌, Bool, true, false, List, [], ◌∷◌, ◌++◌, refl, sym, ap, ◌∙◌, arith}
 use Rattle.std.specs.Prelude.{Option, Some, None, if◌then◌else◌, not, ◌&&◌, nat_le, ⊤}
 use Rattle.std.specs.List.{list_all}
 use Rattle.st_base.specs.declared.config.Config.{Config}
@@ -38,6 +38,9 @@ all_last_one p [] a h e = both_true (p a) true e refl
 all_last_one p (x ∷ xs) a h e =
     let s = and_true (p x) (list_all p xs) h in
     both_true (p x) (list_all p (xs ++ a ∷ [])) s.0 (all_last_one p xs a s.1 e)
+
+pub leb-is : (a b : ℕ) → a ≤ b → nat_le a b ≡ true
+leb-is a b h = grind arith
 
 -- the same stands of each
 pub all_same : (b : Bool) (xs : List Association) → b ≡ true → list_all (λ a. b) xs ≡ true

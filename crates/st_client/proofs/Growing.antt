@@ -10,7 +10,8 @@ use Rattle.st_base.specs.declared.config.Config.{Config}
 use Rattle.st_base.specs.declared.ids.ClientId.{ClientId}
 use Rattle.st_messages.specs.declared.output.Output.{Output}
 use Rattle.st_rules.specs.ClientState.{Association, ClientSession, ClientTurn, Turn, at_these, enter, leave}
-use Rattle.st_client.specs.Machines.{AreIn, Goes, IsIn, here_of}
+use Rattle.st_client.proofs.Advancing.{more_out, same_number}
+use Rattle.st_client.specs.Machines.{AreIn, Goes, IsIn, IsMachine, here_of}
 
 module _ (n m : ℕ) (out more : List Output) (l : n ≤ m) (g : length out ≤ length more) (c : m < most_of more) where
   asks_more : (o : Option ClientSession) → RequestsBelow (most_of out) o → RequestsBelow (most_of more) o
@@ -64,3 +65,11 @@ module _ (run : Turn → Turn) (ready : Config → Association → Bool) where
   ready_goes t u items xs a e g h =
       let k : list_all (ready t.state.config) (a.here ∷ map here_of xs) ≡ true = ap (λ ys. list_all (ready t.state.config) (map here_of ys)) (sym e) ∙ h in
       ap (λ c. list_all (ready c) (map here_of xs)) g.config ∙ (and_true (ready t.state.config a.here) (list_all (ready t.state.config) (map here_of xs)) k).1
+
+-- one more output
+pub machine_said : (id : ClientId) (config : Config) (n : ℕ) (out more : List Output) (o : Output) (xs : List ClientAssociation) → more ≡ out ++ o ∷ [] → IsMachine id config n out xs → IsMachine id config n more xs
+machine_said id config n out more o xs e i =
+    let g : length out ≤ length more = rw e (more_out out (o ∷ [])) in
+    let c = i.commands in
+    let k : n < most_of more = omega (arith, g, c) in
+    record { commands = k; each = in_more n n out more (same_number n) g k id config xs i.each }

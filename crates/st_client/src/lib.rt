@@ -5,5 +5,6 @@
 mod machine;
 mod rule;
 mod rules;
+mod step;
 
 pub use machine::Machine;
