@@ -2,6 +2,7 @@
 //! rules.
 #![tactic(auto)]
 
+mod fresh;
 mod machine;
 mod rule;
 mod rules;

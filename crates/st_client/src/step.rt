@@ -46,7 +46,12 @@ impl Machine {
 
     /// A message, where it is to this client.
     #[tactic(auto, unfolding(st_rules::specs::ClientReplies::receive))]
-    pub(crate) fn receive(self, now: Stamp, header: Header, body: Body) -> Result<Machine, AllocError>
+    pub(crate) fn receive(
+        self,
+        now: Stamp,
+        header: Header,
+        body: Body,
+    ) -> Result<Machine, AllocError>
         requires last { all_last self.state now ≡ true }
         requires time { now.0 ≤ 2 ^ 62 }
         ensures rule { IfOk result (λ t. t ≡ replies.receive self now header body) }
@@ -78,7 +83,12 @@ impl Machine {
     }
 
     /// An answer at once.
-    pub(crate) fn answer_at_once(self, now: Stamp, op: u32, answer: AppAnswer) -> Result<Machine, AllocError>
+    pub(crate) fn answer_at_once(
+        self,
+        now: Stamp,
+        op: u32,
+        answer: AppAnswer,
+    ) -> Result<Machine, AllocError>
         requires last { all_last self.state now ≡ true }
         ensures rule { IfOk result (λ t. t ≡ client.answered_at_once self op answer) }
         ensures last { IfOk result (λ t. all_last t.state now ≡ true) }

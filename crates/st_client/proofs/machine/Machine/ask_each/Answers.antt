@@ -1,4 +1,4 @@
-use Rattle.std.proofs.Common.{◌≡◌, true, refl, ap, ◌∙◌, arith}
+use Rattle.std.proofs.Common.{◌≡◌, true, ap, ◌∙◌}
 use Rattle.st_client.proofs.Advancing.{ok_by}
 use Rattle.st_rules.specs.ClientInvariants.{all_last}
 use Rattle.st_rules.specs.ClientState.{ClientTurn, at_each}

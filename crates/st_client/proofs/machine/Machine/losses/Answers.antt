@@ -1,4 +1,4 @@
-use Rattle.std.proofs.Common.{◌≡◌, true, refl, ap, ◌∙◌, arith}
+use Rattle.std.proofs.Common.{true, refl}
 use Rattle.st_client.proofs.AllLast.{all_same}
 use Rattle.st_client.proofs.machine.Machine.losses.Goals as goal
 
