@@ -19,24 +19,24 @@ next_number n = omega arith
 
 -- nothing is added
 pub stays : (t : Turn) → Advances t t
-stays t = ((same_number t.next_command, same_number (length t.out)), (refl, refl))
+stays t = ((same_number t.next_command, same_number (length t.out)), (refl, refl), refl)
 
 -- one output is added
 pub says : (t : Turn) (o : Output) → Advances t (say t o)
-says t o = ((same_number t.next_command, more_out t.out (o ∷ [])), (refl, refl))
+says t o = ((same_number t.next_command, more_out t.out (o ∷ [])), (refl, refl), refl)
 
 -- two outputs are added
 pub says_both : (t : Turn) (o p : Output) → Advances t (say (say t o) p)
-says_both t o p = ((same_number t.next_command, (let a = more_out t.out (o ∷ []) in let b = more_out (t.out ++ o ∷ []) (p ∷ []) in omega (arith, a, b))), (refl, refl))
+says_both t o p = ((same_number t.next_command, (let a = more_out t.out (o ∷ []) in let b = more_out (t.out ++ o ∷ []) (p ∷ []) in omega (arith, a, b))), (refl, refl), refl)
 
 -- a command is submitted
 pub submitted : (t : Turn) (o : Output) → Advances t (record (say t o) { next_command = t.next_command + 1 })
-submitted t o = ((next_number t.next_command, more_out t.out (o ∷ [])), (refl, refl))
+submitted t o = ((next_number t.next_command, more_out t.out (o ∷ [])), (refl, refl), refl)
 
 -- pending operations are answered
 pub told : (p : Operation → Bool) (a : AppAnswer) (t : Turn) → Advances t (answer_each p a t)
 unfolding answer_each
-told p a t = ((same_number t.next_command, more_out t.out (map (answer_to a) (filter p t.operations))), (refl, refl))
+told p a t = ((same_number t.next_command, more_out t.out (map (answer_to a) (filter p t.operations))), (refl, refl), refl)
 
 -- first these, and then those
 pub then_more : (t u v : Turn) → Advances t u → Advances u v → Advances t v
@@ -45,7 +45,7 @@ then_more t u v g h =
     let b = g.0.1 in
     let c = h.0.0 in
     let d = h.0.1 in
-    ((omega (arith, a, c), omega (arith, b, d)), (h.1.0 ∙ g.1.0, h.1.1 ∙ g.1.1))
+    ((omega (arith, a, c), omega (arith, b, d)), (h.1.0 ∙ g.1.0, h.1.1 ∙ g.1.1), h.2 ∙ g.2)
 
 -- one of two
 pub either : (b : Bool) (x y t : Turn) → Advances t x → Advances t y → Advances t (if b then x else y)
