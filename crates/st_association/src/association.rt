@@ -74,6 +74,13 @@ impl Association {
         })
     }
 
+    /// The server.
+    pub fn server(&self) -> ServerId
+        ensures { result ≡ self.now.here.server }
+    {
+        self.server
+    }
+
     /// A step at this association begins, with the pending operations, the next command's number and the outputs so far.
     pub fn enter(
         self,

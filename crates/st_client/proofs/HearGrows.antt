@@ -1,7 +1,6 @@
 -- A message lets numbers of commands and outputs only grow.
-use Rattle.std.proofs.Common.{◌≡◌, ℕ, ◌+◌, ◌≤◌, Bool, true, false, List, [], ◌∷◌, ◌++◌, length, refl, arith}
-use Rattle.std.specs.Prelude.{Option, Some, None, if◌then◌else◌, map, filter}
-use Rattle.std.proofs.lemmas.List.{length-append}
+use Rattle.std.proofs.Common.{ℕ}
+use Rattle.std.specs.Prelude.{Option, Some, None}
 use Rattle.st_client.proofs.Advancing.{either, says, stays, then_more, told}
 use Rattle.st_client.specs.Machines.{Advances}
 use Rattle.st_base.specs.declared.ids.Epoch.{Epoch}
@@ -18,15 +17,13 @@ use Rattle.st_messages.specs.declared.message.NameReply.{NameReply}
 use Rattle.st_messages.specs.declared.message.NameReply.TheVariants.{Ino, Listed, Refused}
 use Rattle.st_messages.specs.declared.message.Why.{Why}
 use Rattle.st_messages.specs.declared.message.Why.TheVariants as why
-use Rattle.st_messages.specs.declared.output.Output.{Output}
 use Rattle.st_rules.specs.declared.client.Asked.{Asked}
 use Rattle.st_rules.specs.declared.client.Asked.TheVariants.{Reduce, NotHeld, Stale}
 use Rattle.st_rules.specs.declared.client.HeldLock.{HeldLock}
-use Rattle.st_rules.specs.declared.client.Operation.{Operation}
 use Rattle.st_rules.specs.declared.client.Request.{Request}
 use Rattle.st_rules.specs.ClientLease.{ClientLease, is_renewal, new_lease, renewed}
 use Rattle.st_rules.specs.ClientReplies.{acknowledged, begin_here, begin_session, ended_by, in_epoch, name_answer, new_session, by_request, by_session, condemn, count_reply, counted, demand, demand_as, demand_by, drop_held, drop_lock, effect, end_request, extents, follow_epoch, grant_or_reply, granted, hear, is_counting, is_current, is_heard, is_newer, is_timely, learn, leave_stuck, nack, named, named_as, newer_epoch, note_lease, note_renewal, of_epoch, of_other_epoch, queued, reasserted, refuse_as, refuse_file, refuse_holder, refuse_page, refused, refused_in, refuses_reassertion, removed, reply_of, reply_to, see_demand, welcome, with_a_session, without_session}
-use Rattle.st_rules.specs.ClientState.{ClientSession, Turn, answer_each, answer_to, asks_cut_or_remove, file_asked, is_asked, say, send, with_session}
+use Rattle.st_rules.specs.ClientState.{ClientSession, Turn, answer_each, asks_cut_or_remove, file_asked, is_asked, send, with_session}
 use Rattle.st_rules.specs.ClientLocks as locks
 
 lease_grows : (l : ClientLease) (t : Turn) → Advances t (note_lease l t)
@@ -201,7 +198,7 @@ effect_grows t s now file asked (bodies.AppDone op answer) = stays t
 effect_grows t s now file asked (bodies.Submit command at what) = stays t
 effect_grows t s now file asked (bodies.Done command result) = stays t
 
-end_grows : (t : Turn) (s : ClientSession) (stamp : Stamp) → Advances t (end_request t s stamp)
+pub end_grows : (t : Turn) (s : ClientSession) (stamp : Stamp) → Advances t (end_request t s stamp)
 unfolding end_request note_renewal
 end_grows t s stamp = either (is_renewal stamp s.lease) (note_lease (renewed stamp s.lease) t) t t (lease_grows _ t) (stays t)
 

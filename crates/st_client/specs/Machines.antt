@@ -39,6 +39,6 @@ pub record Goes (t u : ClientTurn) : Type 0 where
 abbrev pub Stays : Turn → Turn → Type 0
 Stays t u = (u.id ≡ t.id) × (u.config ≡ t.config)
 
--- and numbers of commands and outputs only grow
+-- and at the same server, and numbers of commands and outputs only grow
 abbrev pub Advances : Turn → Turn → Type 0
-Advances t u = Grows t u × Stays t u
+Advances t u = Grows t u × Stays t u × (u.here.server ≡ t.here.server)

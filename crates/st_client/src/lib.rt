@@ -2,7 +2,12 @@
 //! rules.
 #![tactic(auto)]
 
+mod ends;
+mod fresh;
 mod machine;
 mod rule;
+mod rules;
+mod step;
 
+pub use ends::LeaseEnds;
 pub use machine::Machine;

@@ -15,13 +15,13 @@ use std::marker::Model;
 /// A client, with the outputs of the step so far. Contracts see it as a turn.
 #[derive(Drop)]
 pub struct Machine {
-    alloc: Global,
-    id: ClientId,
-    config: Config,
-    associations: VecDeque<Association>,
-    operations: Operations,
-    next_command: u64,
-    out: Vec<Output>,
+    pub(crate) alloc: Global,
+    pub(crate) id: ClientId,
+    pub(crate) config: Config,
+    pub(crate) associations: VecDeque<Association>,
+    pub(crate) operations: Operations,
+    pub(crate) next_command: u64,
+    pub(crate) out: Vec<Output>,
 }
 
 impl Model for Machine {

@@ -1,4 +1,4 @@
-use Rattle.std.proofs.Common.{◌≡◌, ◌≤◌, ap, sym, ◌∙◌, length, arith}
+use Rattle.std.proofs.Common.{◌≤◌, ap, sym, ◌∙◌, length, arith}
 use Rattle.st_client.proofs.Growing.{in_more, in_last}
 use Rattle.st_client.proofs.machine.Machine.at_one.Goals as goal
 
