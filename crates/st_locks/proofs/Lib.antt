@@ -7,3 +7,5 @@ pub mod Ways
 pub mod Files
 pub mod Overdue
 pub mod Sound
+pub mod Settled
+pub mod Demanded
