@@ -1,8 +1,8 @@
 -- What a demanding pass leaves: of each row in the way of a first waiter a mode is demanded that is low enough.
-use Rattle.std.proofs.Common.{◌≡◌, ℕ, ◌+◌, ◌≤◌, ◌⊎◌, Bool, true, false, cond, if◌then◌else◌, List, [], ◌∷◌, map, filter, refl, sym, ap, subst, ◌∙◌, ⊎_elim, inl, inr, true≢false, arith, eq-eqb}
-use Rattle.std.specs.Prelude.{find, not, Option, Some, None, option_map, nat_le, nat_lt, ◌==◌, ◌&&◌, ◌||◌}
+use Rattle.std.proofs.Common.{◌≡◌, ℕ, suc, ◌+◌, ◌⊎◌, Bool, true, false, cond, if◌then◌else◌, List, [], ◌∷◌, map, filter, refl, sym, ap, subst, ◌∙◌, ⊎_elim, inl, inr, true≢false, arith, eq-eqb}
+use Rattle.std.specs.Prelude.{find, not, Option, Some, None, option_map, nat_eq, nat_le, length, ◌==◌, ◌&&◌, ◌||◌}
 use Rattle.std.specs.List.{list_any}
-use Rattle.std.proofs.lemmas.Bool.{cases_Bool, and_parts, and_from, eqb-true, ltb-true, ltb-false, le-ltb, lt-ltb}
+use Rattle.std.proofs.lemmas.Bool.{cases_Bool, and_parts, and_from, eqb-true, ltb-true, ltb-false, le-ltb}
 use Rattle.st_base.specs.declared.ids.ClientId.{ClientId}
 use Rattle.st_base.specs.declared.ids.Stamp.{Stamp}
 use Rattle.st_base.specs.declared.config.Config.{Config}
@@ -15,10 +15,15 @@ use Rattle.st_rules.specs.Keys.{client, rising, same_client}
 use Rattle.st_rules.specs.Locks.{Locks, Demanding, client_of_row, demand_again, demand_clients, demand_files, demand_for, demand_lower, demand_now, demand_of, demand_row, demand_with, demanded, demands_due, first_demand, grantable, ino_of_wait, is_among, is_below, is_row_of, is_wait_on, next_waiter, nothing_demanded, row_of, sent_again, stands_against, to_demand, waited_files, wish, with_demand}
 use Rattle.st_tables.proofs.RisingKeys.{has, has_rising, any_map_filter}
 use Rattle.st_locks.specs.Settled.{AreDemanded, is_in_way, is_low}
+use Rattle.st_locks.proofs.Found.{filter_true}
 use Rattle.st_locks.proofs.Settled.{any_mapped, found_passes, none_found}
 
 eq_turn : (a b : ℕ) → (a == b) ≡ (b == a)
 eq_turn a b = grind arith
+
+not_true : (b : Bool) → not b ≡ true → b ≡ false
+not_true true e = absurd (true≢false (sym e))
+not_true false e = refl
 
 -- One demand.
 
@@ -31,10 +36,6 @@ low_below to other mode a b =
     let p = ltb-true (number_of other) (number_of mode) a in
     let q = ltb-false (number_of to) (number_of mode) (not_true (is_below to mode) b) in
     ap not (le-ltb (number_of to) (number_of other) (omega (arith, p, q)))
-  where
-    not_true : (b : Bool) → not b ≡ true → b ≡ false
-    not_true true e = absurd (true≢false (sym e))
-    not_true false e = refl
 
 module _ (k : Config) (now : Stamp) (tick : Bool) where
   again_to : (b : Bool) (d e : RowDemand) → cond b (Some (sent_again now d.to d)) None ≡ Some e → e.to ≡ d.to
@@ -214,3 +215,132 @@ module _ (k : Config) (now : Stamp) (tick : Bool) (to : Mode) where
       (lowers_clients ino cs q).low to c ino (subst (λ z. IsLowOf q.locks to z ino) (λ i. record { 0 = sym n i }) (low_row p a ino (row_of p.locks a ino) refl)))
       (λ f. low_clients ino cs q c (sym (ap (λ b. b || is_among cs c) f) ∙ e))
       (cases_Bool (same_client c a))
+
+-- The clients in the way.
+
+among_client : (ks : List ℕ) (c : ClientId) → is_among (map client ks) c ≡ has c.0 ks
+among_client [] c = refl
+among_client (k ∷ ks) c = λ i. eq_turn c.0 k i || among_client ks c i
+
+-- the clients with a row in the way of the wait
+abbrev pub in_way_of : Waiter → List LockRow → List ClientId
+in_way_of w rows = map client (rising (map client_of_row (filter (stands_against w.client w.ino w.mode) rows)))
+
+among_way : (w : Waiter) (rows : List LockRow) (c : ClientId) → is_among (in_way_of w rows) c ≡ list_any (is_in_way w c) rows
+among_way w rows c =
+    let ks = map client_of_row (filter (stands_against w.client w.ino w.mode) rows) in
+    among_client (rising ks) c ∙ has_rising c.0 ks ∙ any_map_filter client_of_row (stands_against w.client w.ino w.mode) c.0 rows
+
+among_step : (c x : ClientId) (xs : List ClientId) (b : Bool) (ys : List ClientId) → (is_among ys c ≡ true → is_among xs c ≡ true) → is_among (cond b (x ∷ ys) ys) c ≡ true → same_client c x || is_among xs c ≡ true
+among_step c x xs true ys h e = more (same_client c x) (is_among ys c) (is_among xs c) h e
+  where
+    more : (a b d : Bool) → (b ≡ true → d ≡ true) → a || b ≡ true → a || d ≡ true
+    more true b d h e = refl
+    more false b d h e = h e
+among_step c x xs false ys h e = last (same_client c x) (is_among xs c) (h e)
+  where
+    last : (a d : Bool) → d ≡ true → a || d ≡ true
+    last true d e = refl
+    last false d e = e
+
+among_filter : (q : ClientId → Bool) (xs : List ClientId) (c : ClientId) → is_among (filter q xs) c ≡ true → is_among xs c ≡ true
+among_filter q [] c e = e
+among_filter q (x ∷ xs) c e = among_step c x xs (q x) (filter q xs) (among_filter q xs c) e
+
+-- A table with more demands.
+
+pub lowers_demanded : (l m : Locks) (j : ℕ) → Lowers l m → AreDemanded l j → AreDemanded m j
+lowers_demanded l m j s d w f c t r e = s.low (wish w.mode) c w.ino (d w (ap (find (is_wait_on j)) (sym s.waits) ∙ f) c (sym (s.in_way w c) ∙ t)) r e
+
+pub lowers_next : (l m : Locks) (j : ℕ) → Lowers l m → next_waiter m j ≡ next_waiter l j
+lowers_next l m j s = ap (λ ws. grantable m (find (is_wait_on j) ws)) s.waits ∙ by (find (is_wait_on j) l.waiters)
+  where
+    by : (o : Option Waiter) → grantable m o ≡ grantable l o
+    by None = refl
+    by (Some w) = ap (λ b. if b then None else Some w) (s.against w.client w.ino w.mode)
+
+-- One file of a pass.
+
+module _ (k : Config) (now : Stamp) (tick : Bool) where
+  pub lowers_for : (suspects : List ClientId) (o : Option Waiter) (p : Demanding) → Lowers p.locks (demand_for k now tick suspects o p).locks
+  unfolding demand_for
+  lowers_for suspects None p = lowers_itself p.locks
+  lowers_for suspects (Some w) p = lowers_clients k now tick (wish w.mode) w.ino (to_demand p.locks suspects w) p
+
+  -- without suspects, what is in the way of the wait is demanded
+  for_wait : (w : Waiter) (p : Demanding) (c : ClientId) → list_any (is_in_way w c) (demand_for k now tick [] (Some w) p).locks.rows ≡ true → IsLowOf (demand_for k now tick [] (Some w) p).locks (wish w.mode) c w.ino
+  unfolding demand_for
+  for_wait w p c t =
+      low_clients k now tick (wish w.mode) w.ino (to_demand p.locks [] w) p c
+      (ap (λ cs. is_among cs c) (filter_true (in_way_of w p.locks.rows)) ∙ among_way w p.locks.rows c ∙ sym ((lowers_clients k now tick (wish w.mode) w.ino (to_demand p.locks [] w) p).in_way w c) ∙ t)
+
+  for_by : (ino : ℕ) (p : Demanding) (o : Option Waiter) → find (is_wait_on ino) p.locks.waiters ≡ o → AreDemanded (demand_for k now tick [] o p).locks ino
+  unfolding demand_for
+  for_by ino p None q w f c t r e = let u : None ≡ Some w = sym q ∙ f in cc
+  for_by ino p (Some v) q w f c t r e =
+      let m : Locks = (demand_for k now tick [] (Some v) p).locks in
+      let u : Some v ≡ Some w = sym q ∙ ap (find (is_wait_on ino)) (sym (lowers_for [] (Some v) p).waits) ∙ f in
+      let s : w ≡ v = cc in
+      (subst (λ x. (c : ClientId) → list_any (is_in_way x c) m.rows ≡ true → IsLowOf m (wish x.mode) c x.ino) (sym s) (for_wait v p)) c t r e
+
+  pub files_demanded : (xs : List ℕ) (p : Demanding) (j : ℕ) → AreDemanded p.locks j ⊎ (has j xs ≡ true) → AreDemanded (demand_files k now tick [] xs p).locks j
+  unfolding demand_files
+  files_demanded [] p j h = ⊎_elim (λ z. z) (λ z. absurd (true≢false (sym z))) h
+  files_demanded (x ∷ xs) p j h =
+      let q = demand_for k now tick [] (find (is_wait_on x) p.locks.waiters) p in
+      ⊎_elim
+      (λ e. files_demanded xs q j (inl (subst (AreDemanded q.locks) (eqb-true x j e) (for_by x p (find (is_wait_on x) p.locks.waiters) refl))))
+      (λ e.
+      files_demanded xs q j
+      (⊎_elim
+      (λ z. inl (lowers_demanded p.locks q.locks j (lowers_for [] (find (is_wait_on x) p.locks.waiters) p) z))
+      (λ z. inr (sym (ap (λ b. b || has j xs) e) ∙ z))
+      h))
+      (cases_Bool (x == j))
+
+  none_waits : (l : Locks) (j : ℕ) → find (is_wait_on j) l.waiters ≡ None → AreDemanded l j
+  none_waits l j q w f c t r e = let u : None ≡ Some w = sym q ∙ f in cc
+
+  -- after a pass without suspects, of all files what is in the way is demanded
+  pub all_demanded : (l : Locks) (j : ℕ) → AreDemanded (demands_due l now tick [] k).locks j
+  unfolding demands_due
+  all_demanded l j =
+      files_demanded (waited_files l) (nothing_demanded l) j
+      (⊎_elim
+      (λ e. inr e)
+      (λ e. inl (none_waits l j (none_found (is_wait_on j) l.waiters (sym (any_mapped ino_of_wait j l.waiters) ∙ sym (has_rising j (map ino_of_wait l.waiters)) ∙ e))))
+      (cases_Bool (has j (waited_files l))))
+
+-- A pass without a tick over a file of which all is demanded.
+
+module _ (k : Config) (now : Stamp) (to : Mode) (ino : ℕ) (p : Demanding) where
+  idle_row : (c : ClientId) → IsLowOf p.locks to c ino → (o : Option LockRow) → row_of p.locks c ino ≡ o → demand_row k now false to o p ≡ p
+  unfolding demand_row demand_with
+  idle_row c h None q = refl
+  idle_row c h (Some r) q = ap (demand_with p r) (low_none k now to r.demand (h r q))
+
+  idle_clients : (cs : List ClientId) → ((c : ClientId) → is_among cs c ≡ true → IsLowOf p.locks to c ino) → demand_clients k now false ino to cs p ≡ p
+  unfolding demand_clients
+  idle_clients [] h = refl
+  idle_clients (c ∷ cs) h =
+      ap (demand_clients k now false ino to cs) (idle_row c (h c (ap (λ b. b || is_among cs c) (eq-eqb c.0 c.0 refl))) (row_of p.locks c ino) refl)
+      ∙ idle_clients cs (λ d e. h d (last (same_client d c) (is_among cs d) e))
+    where
+      last : (a d : Bool) → d ≡ true → a || d ≡ true
+      last true d e = refl
+      last false d e = e
+
+idle_by : (k : Config) (now : Stamp) (suspects : List ClientId) (ino : ℕ) (p : Demanding) (o : Option Waiter) → find (is_wait_on ino) p.locks.waiters ≡ o → AreDemanded p.locks ino → demand_for k now false suspects o p ≡ p
+unfolding demand_for
+idle_by k now suspects ino p None q d = refl
+idle_by k now suspects ino p (Some w) q d =
+    idle_clients k now (wish w.mode) w.ino p (to_demand p.locks suspects w)
+    (λ c e. d w q c (sym (among_way w p.locks.rows c) ∙ among_filter (λ x. not (is_among suspects x)) (in_way_of w p.locks.rows) c e))
+
+-- where all is demanded, a pass without a tick over the file does nothing
+pub idle_demands : (k : Config) (now : Stamp) (tick : Bool) (suspects : List ClientId) (ino : ℕ) (p : Demanding) → not tick ≡ true → AreDemanded p.locks ino → demand_for k now tick suspects (find (is_wait_on ino) p.locks.waiters) p ≡ p
+idle_demands k now tick suspects ino p t d = ap (λ b. demand_for k now b suspects (find (is_wait_on ino) p.locks.waiters) p) (not_true tick t) ∙ idle_by k now suspects ino p (find (is_wait_on ino) p.locks.waiters) refl d
+
+pub none_of_empty : {A : Type 0} (xs : List A) → nat_eq (length xs) 0 ≡ true → xs ≡ []
+none_of_empty [] e = refl
+none_of_empty (x ∷ xs) e = let z : suc (length xs) ≡ 0 = eqb-true (suc (length xs)) 0 e in cc

@@ -1,8 +1,8 @@
 -- What passes settle, and what a change of one file leaves of the others.
-use Rattle.std.proofs.Common.{◌≡◌, ℕ, zero, suc, ◌+◌, ◌≤◌, ◌⊎◌, Bool, true, false, cond, if◌then◌else◌, List, [], ◌∷◌, ◌++◌, map, filter, length, refl, sym, ap, subst, ◌∙◌, ⊎_elim, inl, inr, true≢false, arith, eq-eqb}
+use Rattle.std.proofs.Common.{◌≡◌, ℕ, zero, suc, ◌≤◌, ◌⊎◌, Bool, true, false, cond, if◌then◌else◌, List, [], ◌∷◌, ◌++◌, map, filter, length, refl, sym, ap, subst, ◌∙◌, ⊎_elim, inl, inr, true≢false, arith}
 use Rattle.std.specs.Prelude.{Result, Ok, Err, find, not, Option, Some, None, ◌==◌, ◌&&◌, ◌||◌}
 use Rattle.std.specs.List.{list_any}
-use Rattle.std.proofs.lemmas.Bool.{cases_Bool, and_parts, and_from, eqb-true}
+use Rattle.std.proofs.lemmas.Bool.{cases_Bool, and_parts, eqb-true}
 use Rattle.st_base.specs.declared.ids.ClientId.{ClientId}
 use Rattle.st_base.specs.declared.ids.Life.{Life}
 use Rattle.st_base.specs.declared.mode.Mode.{Mode}
@@ -16,10 +16,10 @@ use Rattle.st_locks.specs.declared.refusal.LockRefusal.TheVariants as refusing
 use Rattle.st_locks.specs.Calls.{Answers, acquired}
 use Rattle.st_rules.specs.declared.locks.LockRow.{LockRow}
 use Rattle.st_rules.specs.declared.locks.Waiter.{Waiter}
-use Rattle.st_rules.specs.Keys.{put, rising, same_client}
-use Rattle.st_rules.specs.Locks.{Locks, Acquired, Granting, acquire, acquire_at, acquire_granted, acquire_held, acquire_more, acquire_new, acquire_over, acquire_queued, answered_row, demand_seen, drop_file_waits, grant, grantable, grant_and, grant_file, grant_files, grant_waiter, has_place, ino_of_wait, is_row_of, is_row_on, is_under, is_wait_of, is_wait_on, lower, lowered, may_grant, new_row, new_wait, next_grants, next_waiter, not_released, nothing_granted, queue, queue_at, raise, release, release_to, released, released_at, row_of, stands_against, wait_for, wait_of, waited_files, with_row, without_wait}
+use Rattle.st_rules.specs.Keys.{put, same_client}
+use Rattle.st_rules.specs.Locks.{Locks, Acquired, Granting, acquire, acquire_at, acquire_granted, acquire_held, acquire_more, acquire_new, acquire_over, acquire_queued, answered_row, demand_seen, drop_file_waits, grant, grantable, grant_and, grant_file, grant_files, grant_waiter, has_place, ino_of_wait, is_row_of, is_row_on, is_under, is_wait_of, is_wait_on, lower, lowered, may_grant, new_row, new_wait, next_grants, next_waiter, not_released, nothing_granted, queue, queue_at, release, release_to, released, released_at, row_of, stands_against, wait_for, wait_of, waited_files}
 use Rattle.st_tables.proofs.RisingKeys.{has, has_rising}
-use Rattle.st_locks.specs.Settled.{AreDemanded, IsClear, IsFull, IsSettled, Marked, Marks, is_in_way, is_marked}
+use Rattle.st_locks.specs.Settled.{AreDemanded, IsSettled, Marked, Marks, is_in_way, is_marked}
 use Rattle.st_locks.proofs.Grants.{grantable_found, length_without, same_wait}
 
 -- Lists, and the part of them that is of one file.

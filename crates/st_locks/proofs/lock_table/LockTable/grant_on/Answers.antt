@@ -1,5 +1,4 @@
-use Rattle.std.proofs.Common.{◌≡◌, None, length, sym, ap, subst, ◌∙◌}
-use Rattle.st_rules.specs.Locks.{Locks, next_waiter}
+use Rattle.std.proofs.Common.{length, sym, ap, subst, ◌∙◌}
 use Rattle.st_locks.specs.Calls.{granting}
 use Rattle.st_locks.proofs.Settled.{SameOn, kept, idle_grants, marked_itself, same_grant_file}
 use Rattle.st_locks.proofs.lock_table.LockTable.grant_on.Goals as goal

@@ -1,5 +1,5 @@
 use Rattle.std.proofs.Common.{◌≡◌, None, sym, ap, subst, ◌∙◌}
-use Rattle.st_rules.specs.Locks.{Locks, next_grants, next_waiter}
+use Rattle.st_rules.specs.Locks.{Locks, next_waiter}
 use Rattle.st_locks.proofs.Settled.{all_granted}
 use Rattle.st_locks.proofs.lock_table.LockTable.next_grants.Goals as goal
 

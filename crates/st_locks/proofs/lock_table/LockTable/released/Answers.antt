@@ -1,4 +1,4 @@
-use Rattle.std.proofs.Common.{sym, ap, subst}
+use Rattle.std.proofs.Common.{ap, subst}
 use Rattle.st_locks.proofs.Settled.{SameOn, kept, same_released}
 use Rattle.st_locks.proofs.lock_table.LockTable.released.Goals as goal
 
