@@ -298,7 +298,7 @@ module _ (k : Config) (now : Stamp) (tick : Bool) where
       h))
       (cases_Bool (x == j))
 
-  none_waits : (l : Locks) (j : ℕ) → find (is_wait_on j) l.waiters ≡ None → AreDemanded l j
+  pub none_waits : (l : Locks) (j : ℕ) → find (is_wait_on j) l.waiters ≡ None → AreDemanded l j
   none_waits l j q w f c t r e = let u : None ≡ Some w = sym q ∙ f in cc
 
   -- after a pass without suspects, of all files what is in the way is demanded

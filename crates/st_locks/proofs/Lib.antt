@@ -9,3 +9,4 @@ pub mod Overdue
 pub mod Sound
 pub mod Settled
 pub mod Demanded
+pub mod Walks

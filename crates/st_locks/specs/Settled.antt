@@ -1,12 +1,12 @@
 -- Which files a pass may leave alone.
-use Rattle.std.specs.Prelude.{◌≡◌, ℕ, Bool, true, false, not, ◌==◌, ◌&&◌, ◌||◌, List, find, Option, Some, None}
+use Rattle.std.specs.Prelude.{◌≡◌, ℕ, Bool, true, false, not, ◌==◌, ◌&&◌, ◌||◌, List, if◌then◌else◌, find, Option, Some, None}
 use Rattle.std.specs.List.{list_any}
 use Rattle.st_base.specs.declared.ids.ClientId.{ClientId}
 use Rattle.st_base.specs.declared.mode.Mode.{Mode}
 use Rattle.st_rules.specs.declared.locks.LockRow.{LockRow}
 use Rattle.st_rules.specs.declared.locks.RowDemand.{RowDemand}
 use Rattle.st_rules.specs.declared.locks.Waiter.{Waiter}
-use Rattle.st_rules.specs.Keys.{same_client}
+use Rattle.st_rules.specs.Keys.{rising, same_client}
 use Rattle.st_rules.specs.Locks.{Locks, is_below, is_wait_on, next_waiter, row_of, stands_against, wish}
 
 -- marked files: all, or those of a list
@@ -29,6 +29,10 @@ IsClear m = (j : ℕ) → is_marked m j ≡ false
 -- all files are marked
 abbrev pub IsFull : Marked → Type 0
 IsFull m = (j : ℕ) → is_marked m j ≡ true
+
+-- the files that a pass walks: all that are waited for, or those of the list
+abbrev pub walked : Bool → Marked → List ℕ → List ℕ
+walked all m waited = if all || m.all then waited else rising m.files
 
 -- the demand asks for this mode or a lower one
 abbrev pub is_low : Mode → Option RowDemand → Bool

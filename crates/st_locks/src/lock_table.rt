@@ -7,6 +7,7 @@ ghost use Rattle.st_base.specs.declared.ids.Stamp.{Stamp};
 ghost use Rattle.st_rules.specs.Locks as locks;
 ghost use Rattle.st_rules.specs.ServerInvariants.{IsLockTable};
 ghost use Rattle.st_locks.specs.Since.{IsClient, is_since, since_of, wait_order};
+ghost use Rattle.st_locks.specs.Settled.{walked};
 ghost use Rattle.st_locks.specs.Calls.{Answers, Installs, demanding, file_demanded, file_granted, granting, is_lock, is_lock_row, is_old_row, is_row_from, same_file, told};
 
 use crate::passes::{Pass, Sent};
@@ -39,6 +40,17 @@ impl Model for LockTable {
     ghost view = { λ t. t.table };
 
     ghost invariant = { λ t. IsSettled t.table t.granting t.demanding };
+}
+
+/// The files that a pass walks, in rising order: all that are waited for, or those that were touched.
+fn walked(table: &PlainTable, all: bool, marks: &Touched) -> Result<Vec<u32>, AllocError>
+    ensures { IfOk result (λ v. v.items ≡ walked all marks.now (locks.waited_files table.now)) }
+{
+    if all || marks.is_all() {
+        table.waited_files()
+    } else {
+        marks.rising(table.alloc)
+    }
 }
 
 impl LockTable {
@@ -208,15 +220,13 @@ impl LockTable {
         self.table.answered(client, ino, g);
     }
 
-    /// The grants of one file, where a call touched it.
+    /// The grants of one file.
     fn grant_on(&mut self, granted: &mut Vec<Sent>, ino: u32) -> Result<(), AllocError>
         requires { self.old.grants + length self.old.waiters < 2 ^ 32 }
         ensures ok { OnOk result (granting self.new granted.new.items ≡ file_granted ino (granting self.old granted.old.items)) }
         ensures room { OnOk result (self.new.grants + length self.new.waiters < 2 ^ 32) }
     {
-        if !self.granting.has(ino) {
-            return Ok(());
-        }
+        self.granting.touch(ino);
         self.demanding.touch(ino);
         match self.table.grant_file(granted, ino) {
             Ok(()) => Ok(()),
@@ -228,18 +238,26 @@ impl LockTable {
         }
     }
 
+    /// The grants of these files, one file after another.
+    #[tactic(auto, unfolding(st_rules::specs::Locks::grant_files))]
+    fn grant_each(&mut self, granted: &mut Vec<Sent>, files: &[u32]) -> Result<(), AllocError>
+        requires { self.old.grants + length self.old.waiters < 2 ^ 32 }
+        ensures { OnOk result (granting self.new granted.new.items ≡ locks.grant_files files.now (granting self.old granted.old.items)) }
+    {
+        for ino in files {
+            self.grant_on(granted, *ino)?;
+        }
+        Ok(())
+    }
+
     /// The grants of all files that a call touched.
-    #[tactic(auto, unfolding(st_rules::specs::Locks::next_grants, st_rules::specs::Locks::grant_files))]
     fn grant_touched(&mut self) -> Result<Vec<Sent>, AllocError>
         requires { self.old.grants + length self.old.waiters < 2 ^ 32 }
         ensures { IfOk result (λ v. locks.next_grants self.old ≡ granting self.new v.items) }
     {
-        let alloc = self.table.alloc;
-        let files = self.table.waited_files()?;
-        let mut granted = Vec::new(alloc);
-        for ino in files.as_slice() {
-            self.grant_on(&mut granted, *ino)?;
-        }
+        let mut granted = Vec::new(self.table.alloc);
+        let files = walked(&self.table, false, &self.granting)?;
+        self.grant_each(&mut granted, files.as_slice())?;
         Ok(granted)
     }
 
@@ -253,7 +271,7 @@ impl LockTable {
         Ok(granted)
     }
 
-    /// The demands of one file, on a tick or where a call touched it.
+    /// The demands of one file.
     fn demand_on(
         &mut self,
         due: &mut Vec<Sent>,
@@ -263,9 +281,6 @@ impl LockTable {
     ) -> Result<(), AllocError>
         ensures { OnOk result (demanding self.new due.new.items ≡ file_demanded pass suspects.now ino (demanding self.old due.old.items)) }
     {
-        if !pass.tick && !self.demanding.has(ino) {
-            return Ok(());
-        }
         match self.table.demand_for(due, pass, suspects, ino) {
             Ok(()) => Ok(()),
             Err(error) => {
@@ -276,17 +291,30 @@ impl LockTable {
         }
     }
 
+    /// The demands of these files, one file after another.
+    #[tactic(auto, unfolding(st_rules::specs::Locks::demand_files))]
+    fn demand_each(
+        &mut self,
+        due: &mut Vec<Sent>,
+        pass: Pass,
+        suspects: &[ClientId],
+        files: &[u32],
+    ) -> Result<(), AllocError>
+        ensures { OnOk result (demanding self.new due.new.items ≡ locks.demand_files pass.config pass.now pass.tick suspects.now files.now (demanding self.old due.old.items)) }
+    {
+        for ino in files {
+            self.demand_on(due, pass, suspects, *ino)?;
+        }
+        Ok(())
+    }
+
     /// The demands of all waited files on a tick, and else of those that a call touched.
-    #[tactic(auto, unfolding(st_rules::specs::Locks::demands_due, st_rules::specs::Locks::demand_files))]
     fn demand_touched(&mut self, pass: Pass, suspects: &[ClientId]) -> Result<Vec<Sent>, AllocError>
         ensures { IfOk result (λ v. locks.demands_due self.old pass.now pass.tick suspects.now pass.config ≡ demanding self.new v.items) }
     {
-        let alloc = self.table.alloc;
-        let files = self.table.waited_files()?;
-        let mut due = Vec::new(alloc);
-        for ino in files.as_slice() {
-            self.demand_on(&mut due, pass, suspects, *ino)?;
-        }
+        let mut due = Vec::new(self.table.alloc);
+        let files = walked(&self.table, pass.tick, &self.demanding)?;
+        self.demand_each(&mut due, pass, suspects, files.as_slice())?;
         Ok(due)
     }
 

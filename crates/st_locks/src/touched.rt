@@ -1,8 +1,10 @@
 // The files that were touched since a pass last walked them.
-ghost use Rattle.std.specs.Prelude.{◌≡◌, ◌==◌, ℕ, false};
+ghost use Rattle.std.specs.Prelude.{◌≡◌, ◌==◌, ◌<◌, ◌-◌, ℕ, IfOk, false};
 ghost use Rattle.std.specs.List.{list_any};
+ghost use Rattle.st_rules.specs.Keys as keys;
 ghost use Rattle.st_locks.specs.Settled.{IsClear, IsFull, Marks, is_marked};
 
+use st_tables::put_key;
 use std::alloc::{AllocError, Global};
 use std::marker::Model;
 
@@ -44,11 +46,24 @@ impl Touched {
         self.all || has(self.files.as_slice(), ino)
     }
 
-    /// Whether a file was touched.
-    pub fn any(&self) -> bool
-        ensures { result ≡ false → IsClear self.now }
+    /// Whether all files were touched.
+    pub fn is_all(&self) -> bool
+        ensures { result ≡ self.now.all }
     {
-        self.all || !self.files.is_empty()
+        self.all
+    }
+
+    /// The files of the list, in rising order.
+    pub fn rising(&self, alloc: Global) -> Result<Vec<u32>, AllocError>
+        ensures { IfOk result (λ v. v.items ≡ keys.rising self.now.files) }
+    {
+        let mut found = Vec::new(alloc);
+        let mut left = self.files.len();
+        while left > 0 {
+            left -= 1;
+            put_key(&mut found, self.files[left])?;
+        }
+        Ok(found)
     }
 
     /// Room for so many files, without which all are touched where one is.

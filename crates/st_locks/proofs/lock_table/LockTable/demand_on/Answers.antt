@@ -1,13 +1,8 @@
 use Rattle.std.proofs.Common.{find, sym, ap, subst, ◌∙◌}
 use Rattle.st_rules.specs.Locks.{is_wait_on}
 use Rattle.st_locks.specs.Calls.{demanding}
-use Rattle.st_locks.proofs.Demanded.{Lowers, idle_demands, lowers_demanded, lowers_for, lowers_next}
+use Rattle.st_locks.proofs.Demanded.{Lowers, lowers_demanded, lowers_for, lowers_next}
 use Rattle.st_locks.proofs.lock_table.LockTable.demand_on.Goals as goal
-
-pub returns-then-not-has : goal.returns-then-not-has
-returns-then-not-has c =
-    sym (idle_demands c.args.pass.config c.args.pass.now c.args.pass.tick c.args.suspects.now c.args.ino (demanding c.args.self.now c.args.due.now.items) c.if-not-pass.true
-    (rw (← c.self.view_is) (c.self.invariant.demanded c.args.ino (sym c.has.ensures ∙ c.if-not-has.true))))
 
 pub invariant_of-self : goal.invariant_of-self
 invariant_of-self c =
