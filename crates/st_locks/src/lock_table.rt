@@ -104,6 +104,16 @@ impl LockTable {
         self.table.by_since()
     }
 
+    /// Room to keep which files are touched.
+    fn reserve(&mut self) -> Result<(), AllocError>
+        ensures { self.new ≡ self.old }
+    {
+        let room = self.table.waits.len() + 16;
+        self.granting.reserve(room)?;
+        self.demanding.reserve(room)?;
+        Ok(())
+    }
+
     /// The client asks for the file in this mode, S or X; `grants` tells whether new locks may be granted at all.
     ///
     /// # Errors
@@ -122,6 +132,7 @@ impl LockTable {
         requires lock { is_lock mode ≡ true }
         ensures { Answers self.old self.new result (locks.acquire self.old client life ino mode grants) }
     {
+        self.reserve()?;
         self.granting.touch(ino);
         self.demanding.touch(ino);
         self.table.acquire(client, life, ino, mode, grants)
