@@ -1,6 +1,5 @@
 -- A write that may still have its effect: its page is dirty under an exclusive lock and a lease that lasts.
-use Rattle.std.proofs.Common.{◌≡◌, ◌≢◌, ℕ, zero, suc, ◌+◌, ◌<◌, ◌≤◌, Bool, true, false, List, [], ◌∷◌, Option, Some, None, refl, sym, ap, ◌∙◌, subst, inl, inr, arith}
-use Rattle.std.specs.Prelude.{nat_le}
+use Rattle.std.proofs.Common.{◌≡◌, ◌≢◌, ℕ, zero, suc, ◌<◌, ◌≤◌, Bool, true, false, List, [], ◌∷◌, Option, Some, None, refl, sym, ap, ◌∙◌, subst, inl, inr, arith}
 use Rattle.std.proofs.lemmas.Bool.{leb-false}
 use Rattle.st_base.specs.declared.ids.ClientId.{ClientId}
 use Rattle.st_base.specs.declared.ids.Life.{Life}
@@ -13,7 +12,7 @@ use Rattle.st_rules.specs.Client as cl
 use Rattle.st_rules.specs.ClientState.{Association, ClientSession}
 use Rattle.st_rules.specs.Keys.{client}
 use Rattle.st_rules.specs.Server.{ServerNode}
-use Rattle.st_rules.specs.World.{World, ClientSite, clock_of, end_or_present, ended_of, lease_end_of, node_of, present_end, server, site_of}
+use Rattle.st_rules.specs.World.{World, ClientSite, clock_of, end_or_present, lease_end_of, node_of, present_end, server}
 use Rattle.st_assoc.specs.Assoc.{Config}
 use Rattle.st_assoc.proofs.World.{exclusive}
 use Rattle.st_lemmas.specs.Lists.{Has}
@@ -21,7 +20,7 @@ use Rattle.st_views.specs.Halves.{held_in, leased_in}
 use Rattle.st_laws_client.specs.Shown.{Lasts}
 use Rattle.st_laws_server.specs.Stands.{pairs}
 use Rattle.st_laws.specs.World.{AllStand}
-use Rattle.st_laws_copies.specs.Law.{Apart, Stands_at}
+use Rattle.st_laws_copies.specs.Law.{Stands_at}
 use Rattle.st_laws_copies.specs.World.{Unheld}
 use Rattle.st_laws_copies.proofs.Locked.{found_there}
 use Rattle.st_laws_pages.proofs.Effects.{stands_not}
