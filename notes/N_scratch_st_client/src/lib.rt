@@ -1,0 +1,6 @@
+//! SCRATCH, never merged.
+#![tactic(auto)]
+
+mod node;
+
+pub use node::ClientNode;
