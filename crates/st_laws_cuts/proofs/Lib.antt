@@ -1,5 +1,6 @@
 pub mod Client
 pub mod Step
 pub mod Server
+pub mod Seen
 pub mod World
 pub mod Law
