@@ -1,11 +1,10 @@
 -- The rules of a client, walked once: what they do to the requests of a session, to the operations that wait for one, and to what is
 -- sent and answered.
 use Rattle.std.proofs.Common.{◌≡◌, ℕ, ◌≤◌, ◌<◌, ◌⊎◌, Bool, true, false, not, ◌&&◌, ◌==◌, List, [], ◌∷◌, ◌++◌, Option, Some, None, Ok, Err, refl, sym, ap, ◌∙◌, subst, inl, inr, arith, if◌then◌else◌, append_assoc}
-use Rattle.std.specs.Prelude.{filter, is_some, map}
+use Rattle.std.specs.Prelude.{filter, map}
 use Rattle.std.proofs.lemmas.Bool.{eqb-true, eq-eqb}
 use Rattle.st_base.specs.declared.disk.Tag.{Tag}
 use Rattle.st_base.specs.declared.ids.ClientId.{ClientId}
-use Rattle.st_base.specs.declared.ids.Epoch.{Epoch}
 use Rattle.st_base.specs.declared.ids.FileId.{FileId}
 use Rattle.st_base.specs.declared.ids.GrantNo.{GrantNo}
 use Rattle.st_base.specs.declared.ids.PageNo.{PageNo}
@@ -13,7 +12,6 @@ use Rattle.st_base.specs.declared.ids.ServerId.{ServerId}
 use Rattle.st_base.specs.declared.ids.Stamp.{Stamp}
 use Rattle.st_base.specs.declared.mode.Mode.{Mode}
 use Rattle.st_base.specs.declared.mode.Mode.TheVariants as modes
-use Rattle.st_base.specs.declared.rows.ExtentRow.{ExtentRow}
 use Rattle.st_messages.specs.declared.answer.AppAnswer.{AppAnswer}
 use Rattle.st_messages.specs.declared.answer.AppAnswer.TheVariants as answers
 use Rattle.st_messages.specs.declared.ask.Ask.{Ask}
@@ -42,7 +40,6 @@ use Rattle.st_rules.specs.declared.client.Operation.{Operation}
 use Rattle.st_rules.specs.declared.client.PageCommand.{PageCommand}
 use Rattle.st_rules.specs.declared.client.Release.{Release}
 use Rattle.st_rules.specs.declared.client.Request.{Request}
-use Rattle.st_rules.specs.declared.client.Stage.TheVariants as stages
 use Rattle.st_rules.specs.declared.client.WriteRefusal.TheVariants.{DirtyFull}
 use Rattle.st_rules.specs.declared.pages.DirtyPage.{DirtyPage}
 use Rattle.st_rules.specs.Client as cl
@@ -58,408 +55,15 @@ use Rattle.st_rules.specs.Keys.{server_node}
 use Rattle.st_lemmas.specs.Lists.{Has}
 use Rattle.st_lemmas.proofs.Lookups.{some_is}
 use Rattle.st_lemmas.proofs.Tables.{and_true, has_append, has_filter, has_map, not_true}
-use Rattle.st_laws_cuts.specs.Cuts.{All_wait, Asks_for, Between, Counts, Given, Keyed, Numbers, Placed, Same_body, Waits, Waits_at, view}
-
--- an operation's server and stage
-pub asked_of : (s : ServerId) (o : Operation) → cs.is_asked s o ≡ true → (cs.is_of s o ≡ true) × (cs.is_asked_at o.stage ≡ true)
-asked_of s o e = and_true (cs.is_of s o) (cs.is_asked_at o.stage) e
-
--- only a cut or a request for a name is that of an ask
-pub only_own : (a : Ask) (b : Body) → Asks_for a b → cs.asks_cut_or_name b ≡ true
-only_own (asks.Cut f p) (bodies.Cut ino g q) h = refl
-only_own (asks.Name s k) (bodies.Name op) h = refl
-only_own a b h = absurd h
-
-no_acquire : (ino : ℕ) (b : Body) → cs.acquires ino b ≡ true → cs.asks_cut_or_name b ≡ true → ⊥
-no_acquire ino (bodies.Acquire i m) h e = cc
-no_acquire ino b h e = cc
-
-no_map : (ino : ℕ) (b : Body) → cs.maps ino b ≡ true → cs.asks_cut_or_name b ≡ true → ⊥
-no_map ino (bodies.Map i g p) h e = cc
-no_map ino (bodies.Allocate i g p n) h e = cc
-no_map ino b h e = cc
-
-no_reassert : (b : Body) → cs.reasserts b ≡ true → cs.asks_cut_or_name b ≡ true → ⊥
-no_reassert (bodies.Reassert rows) h e = cc
-no_reassert b h e = cc
-
-if_both : (P : Turn → Type 0) (b : Bool) (t u : Turn) → P t → P u → P (if b then t else u)
-if_both P true t u x y = x
-if_both P false t u x y = y
-
-if_case : (P : Turn → Type 0) (b : Bool) (t u : Turn) → (b ≡ true → P t) → (b ≡ false → P u) → P (if b then t else u)
-if_case P true t u x y = x refl
-if_case P false t u x y = y refl
-
-has_middle : {A : Type 0} (k p : A) (xs ys : List A) → Has p (xs ++ ys) → Has p (xs ++ k ∷ ys)
-has_middle k p [] ys h = inr h
-has_middle k p (x ∷ xs) ys (inl e) = inl e
-has_middle k p (x ∷ xs) ys (inr h) = inr (has_middle k p xs ys h)
+use Rattle.st_laws_cuts.specs.Cuts.{Asks_for, Between, Counts, Given, Keyed, Placed, Same_body, Waits, Waits_at, view}
+use Rattle.st_laws_cuts.proofs.Keeping.{Base, C, C_in, Free, K, Okay, Plain, Sent, W, W_in, Whole, asked_of, b_answers, b_fewer, b_more, b_say, free_all, freed, has_middle, if_both, if_case, into, is_free, no_acquire, no_map, no_reassert, only_own, w_answers, w_condemn, w_extents, w_fewer, w_granted, w_of_other, w_queued, w_reasserted, w_refused, w_removed, w_say, w_view, w_without}
 
 module _ (M : List Message) (c : ClientId) (Known : ℕ → Ask → Type 0) (Before : ServerId → ℕ → ℕ → ℕ → ℕ → Type 0) (Done : ℕ → Ask → Type 0) where
-  -- what was sent before the step, and in it so far
-  abbrev pub Sent : List Output → Message → Type 0
-  Sent out m = Has m M ⊎ Has (outputs.Send m) out
-
-  -- `cut` is said of a cut that was done
-  abbrev pub Said_of : ℕ → AppAnswer → Type 0
-  Said_of op answers.Cut = (ask : Ask) × Known op ask × Done op ask
-  Said_of op a = Unit {0}
-
-  -- an output that is no request
-  abbrev pub Okay : ServerId → ℕ → Output → Type 0
-  Okay s life (outputs.Send m) = Between c s m × (m.header.life ≡ life) × (m.header.number ≡ 0)
-  Okay s life (outputs.Answer op a) = Said_of op a
-  Okay s life o = Unit {0}
-
-  -- What stands within a rule at a server, with the operations and outputs that it began with: but for who waits.
-  pub record Base (s : ServerId) (B : List Operation) (out0 : List Output) (id : ClientId) (sv : ServerId) (life : ℕ) (v : Option (ℕ × Requests)) (ops : List Operation) (out : List Output) : Type 0 where
-    pub id_ : id ≡ c
-    pub server : sv ≡ s
-    pub asked : (o : Operation) → Has o ops → Known o.op o.ask
-    pub others : (o : Operation) → Has o ops → cs.is_of sv o ≡ false → Has o B
-    pub numbers : Numbers (Sent out) c sv life v
-    pub sent : (m : Message) → Has (outputs.Send m) out → Has (outputs.Send m) out0 ⊎ Between c sv m
-    pub said : (op : ℕ) → Has (outputs.Answer op answers.Cut) out → (ask : Ask) × Known op ask × Done op ask
-
-  -- and who waits
-  pub record Whole (s : ServerId) (B : List Operation) (out0 : List Output) (id : ClientId) (sv : ServerId) (life : ℕ) (v : Option (ℕ × Requests)) (ops : List Operation) (out : List Output) : Type 0 where
-    pub base : Base s B out0 id sv life v ops out
-    pub waits : All_wait Before sv life v ops
-
-  -- nobody waits
-  abbrev pub Free : ServerId → List Operation → Type 0
-  Free sv ops = (o : Operation) → Has o ops → cs.is_asked sv o ≡ true → ⊥
-
   module _ (s : ServerId) (B : List Operation) (out0 : List Output) where
-    abbrev K : ClientId → ServerId → ℕ → Option (ℕ × Requests) → List Operation → List Output → Type 0
-    K id sv life v ops out = Base s B out0 id sv life v ops out
-
-    -- of a turn
-    abbrev pub C : Turn → Type 0
-    C t = Base s B out0 t.id t.here.server t.here.life.0 (view t.here.session) t.operations t.out
-
-    abbrev pub W : Turn → Type 0
-    W t = Whole s B out0 t.id t.here.server t.here.life.0 (view t.here.session) t.operations t.out
-
-    -- of a turn, were its session this one
-    abbrev pub C_in : Turn → ClientSession → Type 0
-    C_in t x = Base s B out0 t.id t.here.server t.here.life.0 (view (Some x)) t.operations t.out
-
-    abbrev pub W_in : Turn → ClientSession → Type 0
-    W_in t x = Whole s B out0 t.id t.here.server t.here.life.0 (view (Some x)) t.operations t.out
-
-    back : (t : Turn) (x : ClientSession) → t.here.session ≡ Some x → W_in t x → W t
-    back t x e w = subst (λ o. Whole s B out0 t.id t.here.server t.here.life.0 (view o) t.operations t.out) (sym e) w
-
-    into : (t : Turn) (x : ClientSession) → t.here.session ≡ Some x → W t → W_in t x
-    into t x e w = subst (λ o. Whole s B out0 t.id t.here.server t.here.life.0 (view o) t.operations t.out) e w
-
-    free_all : (id : ClientId) (sv : ServerId) (life : ℕ) (v : Option (ℕ × Requests)) (ops : List Operation) (out : List Output) → Free sv ops → K id sv life v ops out → Whole s B out0 id sv life v ops out
-    free_all id sv life v ops out f b = record { base = b; waits = λ o h e. absurd (f o h e) }
-
-    -- with no outstanding request nobody waits
-    is_free : (sv : ServerId) (life epoch : ℕ) (q : Option Request) (ops : List Operation) → q ≡ None → ((o : Operation) → Has o ops → cs.is_asked sv o ≡ true → Waits_at Before sv life epoch q o) → Free sv ops
-    is_free sv life epoch q ops e f o h a = subst (λ q. Waits_at Before sv life epoch q o) e (f o h a)
-
-    -- Small changes.
-    -- more outputs, none of them a request
-    b_more : (id : ClientId) (sv : ServerId) (life : ℕ) (v : Option (ℕ × Requests)) (ops : List Operation) (out os : List Output) → ((o : Output) → Has o os → Okay sv life o) → K id sv life v ops out → K id sv life v ops (out ++ os)
-    b_more id sv life v ops out os k b =
-        record {
-          id_ = b.id_;
-          server = b.server;
-          asked = b.asked;
-          others = b.others;
-          numbers = record { lives = λ m h t. lives m (which m h) t; placed = λ m h t. placed m v (which m h) t (b.numbers.placed m); counts = b.numbers.counts };
-          sent = λ m h. sends m (has_append out os (outputs.Send m) h);
-          said = λ op h. says op (has_append out os (outputs.Answer op answers.Cut) h);
-        }
-      where
-        which : (m : Message) → Sent (out ++ os) m → Sent out m ⊎ Has (outputs.Send m) os
-        which m (inl h) = inl (inl h)
-        which m (inr h) = go (has_append out os (outputs.Send m) h)
-          where
-            go : Has (outputs.Send m) out ⊎ Has (outputs.Send m) os → Sent out m ⊎ Has (outputs.Send m) os
-            go (inl i) = inl (inr i)
-            go (inr i) = inr i
-
-        lives : (m : Message) → Sent out m ⊎ Has (outputs.Send m) os → Between c sv m → m.header.life ≤ life
-        lives m (inl h) t = b.numbers.lives m h t
-        lives m (inr h) t = let z = (k (outputs.Send m) h).1 in omega (arith, z)
-
-        placed : (m : Message) (v : Option (ℕ × Requests)) → Sent out m ⊎ Has (outputs.Send m) os → Between c sv m → (Sent out m → Between c sv m → Placed life v m) → Placed life v m
-        placed m v (inl h) t f = f h t
-        placed m None (inr h) t f = λ l. (k (outputs.Send m) h).2
-        placed m (Some x) (inr h) t f = λ l n. let z = (k (outputs.Send m) h).2 in absurd (omega (arith, z, n))
-
-        sends : (m : Message) → Has (outputs.Send m) out ⊎ Has (outputs.Send m) os → Has (outputs.Send m) out0 ⊎ Between c sv m
-        sends m (inl h) = b.sent m h
-        sends m (inr h) = inr (k (outputs.Send m) h).0
-
-        says : (op : ℕ) → Has (outputs.Answer op answers.Cut) out ⊎ Has (outputs.Answer op answers.Cut) os → (ask : Ask) × Known op ask × Done op ask
-        says op (inl h) = b.said op h
-        says op (inr h) = k (outputs.Answer op answers.Cut) h
-
-    one_okay : (sv : ServerId) (life : ℕ) (o : Output) → Okay sv life o → (x : Output) → Has x (o ∷ []) → Okay sv life x
-    one_okay sv life o k x (inl e) = subst (Okay sv life) (sym e) k
-    one_okay sv life o k x (inr i) = absurd i
-
-    b_say : (id : ClientId) (sv : ServerId) (life : ℕ) (v : Option (ℕ × Requests)) (ops : List Operation) (out : List Output) (o : Output) → Okay sv life o → K id sv life v ops out → K id sv life v ops (out ++ o ∷ [])
-    b_say id sv life v ops out o k b = b_more id sv life v ops out (o ∷ []) (one_okay sv life o k) b
-
-    w_say : (t : Turn) (o : Output) → Okay t.here.server t.here.life.0 o → W t → W (say t o)
-    w_say t o k w = record { base = b_say t.id t.here.server t.here.life.0 (view t.here.session) t.operations t.out o k w.base; waits = w.waits }
-
-    -- fewer operations
-    b_fewer : (id : ClientId) (sv : ServerId) (life : ℕ) (v : Option (ℕ × Requests)) (ops qs : List Operation) (out : List Output) → ((o : Operation) → Has o qs → Has o ops) → K id sv life v ops out → K id sv life v qs out
-    b_fewer id sv life v ops qs out f b =
-        record { id_ = b.id_; server = b.server; asked = λ o h. b.asked o (f o h); others = λ o h e. b.others o (f o h) e; numbers = b.numbers; sent = b.sent; said = b.said }
-
-    w_fewer : (id : ClientId) (sv : ServerId) (life : ℕ) (v : Option (ℕ × Requests)) (ops qs : List Operation) (out : List Output) → ((o : Operation) → Has o qs → Has o ops) → Whole s B out0 id sv life v ops out → Whole s B out0 id sv life v qs out
-    w_fewer id sv life v ops qs out f w = record { base = b_fewer id sv life v ops qs out f w.base; waits = λ o h e. w.waits o (f o h) e }
-
-    -- operations are answered
-    abbrev Plain : AppAnswer → Type 0
-    Plain a = (op : ℕ) → Said_of op a
-
-    okay_answers : (sv : ServerId) (life : ℕ) (a : AppAnswer) (xs : List Operation) → Plain a → (x : Output) → Has x (map (answer_to a) xs) → Okay sv life x
-    okay_answers sv life a xs p x h = let z = has_map (answer_to a) xs x h in subst (Okay sv life) (sym z.2) (p z.0.op)
-
-    b_answers : (t : Turn) (picked : Operation → Bool) (a : AppAnswer) → Plain a → C t → C (cs.answer_each picked a t)
-    unfolding cs.answer_each
-    b_answers t picked a p b =
-        b_more t.id t.here.server t.here.life.0 (view t.here.session) _ t.out _ (okay_answers t.here.server t.here.life.0 a _ p)
-        (b_fewer t.id t.here.server t.here.life.0 (view t.here.session) t.operations _ t.out (λ o h. (has_filter _ t.operations o h).0) b)
-
-    w_answers : (t : Turn) (picked : Operation → Bool) (a : AppAnswer) → Plain a → W t → W (cs.answer_each picked a t)
-    unfolding cs.answer_each
-    w_answers t picked a p w = record { base = b_answers t picked a p w.base; waits = λ o h e. w.waits o (has_filter _ t.operations o h).0 e }
-
-    -- the operations that wait are answered, and nobody waits
-    freed : (t : Turn) (a : AppAnswer) → Free t.here.server (cs.answer_each (cs.is_asked t.here.server) a t).operations
-    unfolding cs.answer_each
-    freed t a o h e = let z = not_true _ (has_filter (λ o. not (cs.is_asked t.here.server o)) t.operations o h).1 in clash e z
-      where
-        clash : {b : Bool} → b ≡ true → b ≡ false → ⊥
-        clash x y = cc
-
-    -- Sessions that go on.
-    -- a session with the same epoch and requests is the same to all this
-    w_session : (t : Turn) (x : ClientSession) → W_in t x → W (with_session x t)
-    w_session t x w = w
-
-    w_condemn : (t : Turn) (x : ClientSession) → W_in t x → W (cr.condemn t x)
-    unfolding cr.condemn
-    w_condemn t x w = w
-
-    grant_view : (x : ClientSession) (ino : ℕ) (g : GrantNo) (mode : Mode) → view (Some (cr.grant (cs.forget_wait ino x) ino g mode)) ≡ view (Some x)
-    unfolding cr.grant cr.grant_new cr.accept_grant cr.decline
-    grant_view x ino g mode = go (locks.is_above_seen x.locks ino g)
-      where
-        y : ClientSession
-        y = cs.forget_wait ino x
-
-        new : (b : Bool) → view (Some (if b then cr.accept_grant y ino g mode else cr.decline y ino g)) ≡ view (Some x)
-        new true = refl
-        new false = refl
-
-        go : (b : Bool) → view (Some (if b then cr.grant_new y ino g mode else y)) ≡ view (Some x)
-        go true = new (locks.has_place y.locks ino)
-        go false = refl
-
-    w_view : (t : Turn) (x y : ClientSession) → view (Some y) ≡ view (Some x) → W_in t x → W_in t y
-    w_view t x y e w = subst (λ v. Whole s B out0 t.id t.here.server t.here.life.0 v t.operations t.out) (sym e) w
-
-    w_granted : (t : Turn) (x : ClientSession) (ino : ℕ) (g : GrantNo) (mode : Mode) → W_in t x → W (cr.granted t x ino g mode)
-    unfolding cr.granted
-    w_granted t x ino g mode w = w_view t x (cr.grant (cs.forget_wait ino x) ino g mode) (grant_view x ino g mode) w
-
-    w_queued : (t : Turn) (x : ClientSession) (now : Stamp) (ino : ℕ) (mode : Mode) → W_in t x → W (cr.queued t x now ino mode)
-    unfolding cr.queued cr.wait_told cr.wait_unless_held
-    w_queued t x now ino mode w = w_view t x (cr.wait_unless_held x ino mode now) (go (Rattle.st_base.specs.Mode.covers (locks.mode_of x.locks ino) mode)) w
-      where
-        go : (b : Bool) → view (Some (if b then x else cr.wait_told x ino mode now)) ≡ view (Some x)
-        go true = refl
-        go false = refl
-
-    w_extents : (t : Turn) (x : ClientSession) (ino : ℕ) (rows : List ExtentRow) (asked : Body) → W t → W (cr.extents t x ino rows asked)
-    unfolding cr.extents cr.learn
-    w_extents t x ino rows asked w = if_both W (cr.is_current x.locks asked) _ t w w
-
-    w_reasserted : (t : Turn) (x : ClientSession) → W_in t x → W (cr.reasserted t x)
-    unfolding cr.reasserted
-    w_reasserted t x w = w
-
-    w_removed : (t : Turn) (x : ClientSession) (file : Option ℕ) → W t → W_in t x → W (cr.removed t x file)
-    unfolding cr.removed cr.drop_held cr.drop_lock
-    w_removed t x None w y = w
-    w_removed t x (Some ino) w y = go (locks.lock_of x.locks ino)
-      where
-        go : (o : Option HeldLock) → W (cr.drop_held t x ino o)
-        go None = w
-        go (Some l) = y
-
-    -- Refusals.
-    w_refuse_file : (t : Turn) (a : AppAnswer) (file : Option ℕ) → Plain a → C t → C (cr.refuse_file t a file)
-    unfolding cr.refuse_file
-    w_refuse_file t a None p w = w
-    w_refuse_file t a (Some ino) p w = b_answers t _ a p w
-
-    w_refuse_page : (t : Turn) (a : AppAnswer) (file : Option ℕ) (page : Option PageNo) → Plain a → C t → C (cr.refuse_page t a file page)
-    unfolding cr.refuse_page
-    w_refuse_page t a (Some ino) (Some p) k w = b_answers t _ a k w
-    w_refuse_page t a (Some ino) None k w = w
-    w_refuse_page t a None page k w = w
-
-    w_refuse_as : (t : Turn) (y : Why) (a b : ℕ) (file : Option ℕ) (asked : Body) → C t → C (cr.refuse_as t y a b file asked)
-    unfolding cr.refuse_as cr.refuse_holder
-    w_refuse_as t why.NoFile a b file asked w = w_refuse_file t _ file (λ op. tt) w
-    w_refuse_as t why.TooManyLocks a b file asked w = w_refuse_file t _ file (λ op. tt) w
-    w_refuse_as t why.NoSpace a b file asked w = w_refuse_page t _ file _ (λ op. tt) w
-    w_refuse_as t why.NotHolder a b file asked w = if_both C (cs.asks_cut_or_remove asked) _ t (b_answers t _ _ (λ op. tt) w) w
-    w_refuse_as t y a b file asked w = w
-
-    -- an operation that is stuck waits no more
-    record Stuck_of (t : Turn) (o p : Operation) : Type 0 where
-      pub op : p.op ≡ o.op
-      pub ask : p.ask ≡ o.ask
-      pub free : cs.is_asked t.here.server p ≡ true → ⊥
-      pub same : cs.is_of t.here.server o ≡ false → p ≡ o
-
-    stuck_is : (t : Turn) (o : Operation) → Stuck_of t o (cr.stuck t o)
-    stuck_is t o = go (cs.is_asked t.here.server o) refl
-      where
-        clash : {b : Bool} → b ≡ true → b ≡ false → ⊥
-        clash x y = cc
-
-        stays : (a : Bool) → (a && false) ≡ true → ⊥
-        stays true e = cc
-        stays false e = cc
-
-        go : (b : Bool) → cs.is_asked t.here.server o ≡ b → Stuck_of t o (if b then cs.at_stage stages.Stuck o else o)
-        go true e = record { op = refl; ask = refl; free = λ h. stays (cs.is_of t.here.server o) h; same = λ f. absurd (clash (asked_of t.here.server o e).0 f) }
-        go false e = record { op = refl; ask = refl; free = λ h. clash h e; same = λ f. refl }
-
-    abbrev From : Turn → Operation → Type 0
-    From t o = (p : Operation) × Has p t.operations × (o ≡ cr.stuck t p)
-
-    w_stuck : (t : Turn) → C t → W (cr.leave_stuck t)
-    unfolding cr.leave_stuck
-    w_stuck t b =
-        record {
-          base = record {
-            id_ = b.id_;
-            server = b.server;
-            asked = λ o h. asked o (has_map (cr.stuck t) t.operations o h);
-            others = λ o h e. others o (has_map (cr.stuck t) t.operations o h) e;
-            numbers = b.numbers;
-            sent = b.sent;
-            said = b.said;
-          };
-          waits = λ o h e. absurd (free o (has_map (cr.stuck t) t.operations o h) e);
-        }
-      where
-        asked : (o : Operation) → From t o → Known o.op o.ask
-        asked o (p, h, e) =
-            let z = stuck_is t p in
-            subst (λ (q : Operation). Known q.op q.ask) (sym e) (subst (λ n. Known n (cr.stuck t p).ask) (sym z.op) (subst (λ a. Known p.op a) (sym z.ask) (b.asked p h)))
-
-        of_same : (o p : Operation) → server_of p.ask ≡ server_of o.ask → cs.is_of t.here.server o ≡ false → cs.is_of t.here.server p ≡ false
-        of_same o p e f = ap (λ (x : ServerId). x.0 == t.here.server.0) e ∙ f
-
-        others : (o : Operation) → From t o → cs.is_of t.here.server o ≡ false → Has o B
-        others o (p, h, e) f =
-            let z = stuck_is t p in
-            let g = of_same o p (sym (ap (λ (q : Operation). server_of q.ask) e ∙ ap server_of z.ask)) f in
-            subst (λ q. Has q B) (sym (e ∙ z.same g)) (b.others p h g)
-
-        free : (o : Operation) → From t o → cs.is_asked t.here.server o ≡ true → ⊥
-        free o (p, h, e) f = (stuck_is t p).free (subst (λ q. cs.is_asked t.here.server q ≡ true) e f)
-
-    w_refused : (t : Turn) (y : Why) (a b : ℕ) (file : Option ℕ) (asked : Body) → C t → W (cr.refused t y a b file asked)
-    unfolding cr.refused
-    w_refused t y a b file asked w = w_stuck _ (w_refuse_as t y a b file asked w)
-
-    -- A session that begins: nothing is known of its numbers, and nobody waits.
-    b_begins : (t : Turn) (x : ClientSession) → t.here.session ≡ None → x.requests ≡ cs.no_requests → W t → W_in t x
-    b_begins t x e n w = free_all t.id t.here.server t.here.life.0 (view (Some x)) t.operations t.out free base
-      where
-        none : Whole s B out0 t.id t.here.server t.here.life.0 None t.operations t.out
-        none = subst (λ o. Whole s B out0 t.id t.here.server t.here.life.0 (view o) t.operations t.out) e w
-
-        free : Free t.here.server t.operations
-        free o h a = none.waits o h a
-
-        counts : Counts (Some (x.epoch.0, cs.no_requests))
-        counts = (omega arith, tt)
-
-        base : C_in t x
-        base = subst (λ r. Base s B out0 t.id t.here.server t.here.life.0 (Some (x.epoch.0, r)) t.operations t.out) (sym n)
-            (record {
-              id_ = none.base.id_;
-              server = none.base.server;
-              asked = none.base.asked;
-              others = none.base.others;
-              numbers = record { lives = none.base.numbers.lives; placed = λ m h b l k. let z = none.base.numbers.placed m h b l in absurd (omega (arith, z, k)); counts = counts };
-              sent = none.base.sent;
-              said = none.base.said;
-            })
-
-    w_welcome : (t : Turn) (now : Stamp) (epoch : Epoch) (stamp : Stamp) → t.here.session ≡ None → W t → W (cr.welcome t now epoch stamp)
-    unfolding cr.welcome cr.begin_session cr.note_lease
-    w_welcome t now epoch stamp e w =
-        if_both W (cr.is_timely t now stamp) _ t (w_say (cr.begin_here (cr.new_session epoch stamp) t) _ tt (b_begins t (cr.new_session epoch stamp) e refl w)) w
-
-    w_without : (t : Turn) (now : Stamp) (h : Header) (b : Body) → t.here.session ≡ None → W t → W (cr.without_session t now h b)
-    unfolding cr.without_session
-    w_without t now h bodies.Welcome e w = w_welcome t now _ _ e w
-    w_without t now h b e w = w
-
-    -- A newer epoch: its numbers begin anew, and who waited is answered.
-    w_newer : (t : Turn) (x : ClientSession) (epoch : Epoch) → t.here.session ≡ Some x → W t → W (cr.newer_epoch t x epoch)
-    unfolding cr.newer_epoch cr.follow_epoch cs.answer_each
-    w_newer t x epoch e w = if_case W (cr.is_newer x epoch) _ t (λ f. follows (Rattle.std.proofs.lemmas.Bool.ltb-true _ _ (and_true (Rattle.std.specs.Prelude.nat_lt x.epoch.0 epoch.0) _ f).0)) (λ f. w)
-      where
-        y : ClientSession
-        y = cr.in_epoch epoch x
-
-        z : W_in t x
-        z = into t x e w
-
-        moved : x.epoch.0 < epoch.0 → C_in t y
-        moved l =
-            record {
-              id_ = z.base.id_;
-              server = z.base.server;
-              asked = z.base.asked;
-              others = z.base.others;
-              numbers = record {
-                lives = z.base.numbers.lives;
-                placed = λ m h b k n. let u = (z.base.numbers.placed m h b k n).up_to in record { up_to = omega (arith, u, l); below = λ q. absurd (omega (arith, u, l, q)); same = λ q. absurd (omega (arith, u, l, q)) };
-                counts = (omega arith, tt);
-              };
-              sent = z.base.sent;
-              said = z.base.said;
-            }
-
-        follows : x.epoch.0 < epoch.0 → W (cs.answer_each (cs.is_asked t.here.server) (answers.Uncertain x.epoch.0 epoch.0) (with_session y t))
-        follows l =
-            record {
-              base = b_answers (with_session y t) (cs.is_asked t.here.server) (answers.Uncertain x.epoch.0 epoch.0) (λ op. tt) (moved l);
-              waits = λ o h a. absurd (freed (with_session y t) (answers.Uncertain x.epoch.0 epoch.0) o h a);
-            }
-
-    w_of_other : (t : Turn) (x : ClientSession) (epoch : Epoch) (b : Body) → t.here.session ≡ Some x → W t → W (cr.of_other_epoch t x epoch b)
-    unfolding cr.of_other_epoch
-    w_of_other t x epoch (bodies.Nack why.OtherEpoch u v) e w = w_newer t x epoch e w
-    w_of_other t x epoch (bodies.Nack z u v) e w = w
-    w_of_other t x epoch b e w = w
-
     -- Requests.
     -- what a new message does to the numbers
     b_sends : (id : ClientId) (sv : ServerId) (life : ℕ) (v w : Option (ℕ × Requests)) (ops : List Operation) (out : List Output) (x : Message) → Between c sv x → x.header.life ≡ life →
-        ((m : Message) → Sent out m → Between c sv m → Placed life w m) → Placed life w x → Counts w → K id sv life v ops out → K id sv life w ops (out ++ outputs.Send x ∷ [])
+        ((m : Message) → (Sent M c Known Before Done) out m → Between c sv m → Placed life w m) → Placed life w x → Counts w → (K M c Known Before Done s B out0) id sv life v ops out → (K M c Known Before Done s B out0) id sv life w ops (out ++ outputs.Send x ∷ [])
     b_sends id sv life v w ops out x t l old new counts b =
         record {
           id_ = b.id_;
@@ -474,20 +78,20 @@ module _ (M : List Message) (c : ClientId) (Known : ℕ → Ask → Type 0) (Bef
         same : (m y : Message) → outputs.Send m ≡ outputs.Send y → m ≡ y
         same m y e = cc
 
-        which : (m : Message) → Sent (out ++ outputs.Send x ∷ []) m → Sent out m ⊎ (m ≡ x)
+        which : (m : Message) → (Sent M c Known Before Done) (out ++ outputs.Send x ∷ []) m → (Sent M c Known Before Done) out m ⊎ (m ≡ x)
         which m (inl h) = inl (inl h)
         which m (inr h) = go (has_append out (outputs.Send x ∷ []) (outputs.Send m) h)
           where
-            go : Has (outputs.Send m) out ⊎ Has (outputs.Send m) (outputs.Send x ∷ []) → Sent out m ⊎ (m ≡ x)
+            go : Has (outputs.Send m) out ⊎ Has (outputs.Send m) (outputs.Send x ∷ []) → (Sent M c Known Before Done) out m ⊎ (m ≡ x)
             go (inl i) = inl (inr i)
             go (inr (inl e)) = inr (same m x e)
             go (inr (inr i)) = absurd i
 
-        lives : (m : Message) → Sent out m ⊎ (m ≡ x) → Between c sv m → m.header.life ≤ life
+        lives : (m : Message) → (Sent M c Known Before Done) out m ⊎ (m ≡ x) → Between c sv m → m.header.life ≤ life
         lives m (inl h) u = b.numbers.lives m h u
         lives m (inr e) u = let z = ap (λ (y : Message). y.header.life) e in omega (arith, z, l)
 
-        placed : (m : Message) → Sent out m ⊎ (m ≡ x) → Between c sv m → Placed life w m
+        placed : (m : Message) → (Sent M c Known Before Done) out m ⊎ (m ≡ x) → Between c sv m → Placed life w m
         placed m (inl h) u = old m h u
         placed m (inr e) u = subst (Placed life w) (sym e) new
 
@@ -509,14 +113,14 @@ module _ (M : List Message) (c : ClientId) (Known : ℕ → Ask → Type 0) (Bef
     between t epoch number stamp body e = (ap (λ (y : ClientId). y.0) e, refl)
 
     -- a message that is no request
-    w_idle : (t : Turn) (epoch stamp : ℕ) (body : Body) → W t → W (cs.send t epoch 0 stamp body)
+    w_idle : (t : Turn) (epoch stamp : ℕ) (body : Body) → (W M c Known Before Done s B out0) t → (W M c Known Before Done s B out0) (cs.send t epoch 0 stamp body)
     unfolding cs.send
-    w_idle t epoch stamp body w = w_say t _ (between t epoch 0 stamp body w.base.id_, refl, refl) w
+    w_idle t epoch stamp body w = (w_say M c Known Before Done s B out0) t _ (between t epoch 0 stamp body w.base.id_, refl, refl) w
 
     module _ (fresh : (sv : ServerId) (life epoch number op : ℕ) → ((m : Message) → Has m M → Keyed c sv life epoch number m → ⊥) → Before sv life epoch number op) where
       -- a new request, where none is outstanding
-      w_ask : (t : Turn) (x : ClientSession) (now : Stamp) (body : Body) (cutting : Option ℕ) → x.requests.asked ≡ None → C_in t x → ((o : Operation) → Has o t.operations → cs.is_asked t.here.server o ≡ true → Asks_for o.ask body) →
-          W (cp.ask t x now body cutting)
+      w_ask : (t : Turn) (x : ClientSession) (now : Stamp) (body : Body) (cutting : Option ℕ) → x.requests.asked ≡ None → (C_in M c Known Before Done s B out0) t x → ((o : Operation) → Has o t.operations → cs.is_asked t.here.server o ≡ true → Asks_for o.ask body) →
+          (W M c Known Before Done s B out0) (cp.ask t x now body cutting)
       unfolding cp.ask cs.send cs.asking
       w_ask t x now body cutting e b f =
           record {
@@ -543,7 +147,7 @@ module _ (M : List Message) (c : ClientId) (Known : ℕ → Ask → Type 0) (Bef
               omega (arith, r, u)
 
       -- the outstanding request again
-      w_again : (t : Turn) (x : ClientSession) (now : Stamp) (q : Request) → x.requests.asked ≡ Some q → W_in t x → W (cp.ask_again t x now q)
+      w_again : (t : Turn) (x : ClientSession) (now : Stamp) (q : Request) → x.requests.asked ≡ Some q → (W_in M c Known Before Done s B out0) t x → (W M c Known Before Done s B out0) (cp.ask_again t x now q)
       unfolding cp.ask_again cs.send
       w_again t x now q e w =
           record {
@@ -610,7 +214,7 @@ module _ (M : List Message) (c : ClientId) (Known : ℕ → Ask → Type 0) (Bef
         pub from : (o : Operation) → Has o a.operations → (p : Operation) × Has p os × (o.op ≡ p.op) × (o.ask ≡ p.ask) × ((o ≡ p) ⊎ (cs.is_of t.here.server p ≡ true))
         pub own : (o : Operation) → Has o a.operations → cs.is_asked t.here.server o ≡ true → Asks_for o.ask a.wanted.body
 
-      asking_is : (t : Turn) (x : ClientSession) (now : Stamp) (os : List Operation) (a : cp.Asking) → cp.first_asking t x now os ≡ Some a → Free t.here.server os → Asking_ok t os a
+      asking_is : (t : Turn) (x : ClientSession) (now : Stamp) (os : List Operation) (a : cp.Asking) → cp.first_asking t x now os ≡ Some a → (Free M c Known Before Done) t.here.server os → Asking_ok t os a
       unfolding cp.first_asking cp.asks_or cp.asked_by
       asking_is t x now [] a e f = cc
       asking_is t x now (o ∷ os) a e f = go (cp.asked_by t x now o) refl (cp.first_asking t x now os) refl e (λ b g. asking_is t x now os b g (λ p h. f p (inr h)))
@@ -664,24 +268,24 @@ module _ (M : List Message) (c : ClientId) (Known : ℕ → Ask → Type 0) (Bef
           go (Some w) e1 l e2 q k = here w e1 (sym (some_is q))
 
       -- with none outstanding nobody waits
-      none_waits : (t : Turn) (x : ClientSession) → x.requests.asked ≡ None → W_in t x → Free t.here.server t.operations
-      none_waits t x e w = is_free t.here.server t.here.life.0 x.epoch.0 x.requests.asked t.operations e w.waits
+      none_waits : (t : Turn) (x : ClientSession) → x.requests.asked ≡ None → (W_in M c Known Before Done s B out0) t x → (Free M c Known Before Done) t.here.server t.operations
+      none_waits t x e w = (is_free M c Known Before Done s B out0) t.here.server t.here.life.0 x.epoch.0 x.requests.asked t.operations e w.waits
 
-      w_plain_ask : (t : Turn) (x : ClientSession) (now : Stamp) (body : Body) → x.requests.asked ≡ None → W_in t x → W (cp.ask t x now body None)
+      w_plain_ask : (t : Turn) (x : ClientSession) (now : Stamp) (body : Body) → x.requests.asked ≡ None → (W_in M c Known Before Done s B out0) t x → (W M c Known Before Done s B out0) (cp.ask t x now body None)
       w_plain_ask t x now body e w = w_ask t x now body None e w.base (λ o h a. absurd (none_waits t x e w o h a))
 
-      w_keep_alive : (t : Turn) (x : ClientSession) (now : Stamp) → x.requests.asked ≡ None → W_in t x → W t → W (cp.keep_alive t x now)
+      w_keep_alive : (t : Turn) (x : ClientSession) (now : Stamp) → x.requests.asked ≡ None → (W_in M c Known Before Done s B out0) t x → (W M c Known Before Done s B out0) t → (W M c Known Before Done s B out0) (cp.keep_alive t x now)
       unfolding cp.keep_alive
-      w_keep_alive t x now e w y = if_both W _ _ t (w_plain_ask t x now _ e w) y
+      w_keep_alive t x now e w y = if_both (W M c Known Before Done s B out0) _ _ t (w_plain_ask t x now _ e w) y
 
-      w_ask_for : (t : Turn) (x : ClientSession) (now : Stamp) (a : cp.Asking) → cp.first_asking t x now t.operations ≡ Some a → x.requests.asked ≡ None → W_in t x → W (cp.ask_for t x now a)
+      w_ask_for : (t : Turn) (x : ClientSession) (now : Stamp) (a : cp.Asking) → cp.first_asking t x now t.operations ≡ Some a → x.requests.asked ≡ None → (W_in M c Known Before Done s B out0) t x → (W M c Known Before Done s B out0) (cp.ask_for t x now a)
       unfolding cp.ask_for
       w_ask_for t x now a f e w = w_ask (with_store (cp.cut_store a.wanted.cut t.here.store) (with_operations a.operations t)) x now a.wanted.body (cp.file_cut a.wanted.cut) e base k.own
         where
           k : Asking_ok t t.operations a
           k = asking_is t x now t.operations a f (none_waits t x e w)
 
-          base : Base s B out0 t.id t.here.server t.here.life.0 (view (Some x)) a.operations t.out
+          base : (Base M c Known Before Done) s B out0 t.id t.here.server t.here.life.0 (view (Some x)) a.operations t.out
           base =
               record {
                 id_ = w.base.id_;
@@ -700,31 +304,31 @@ module _ (M : List Message) (c : ClientId) (Known : ℕ → Ask → Type 0) (Bef
               others o (p, h, a, b, inl q) g = subst (λ y. Has y B) (sym q) (w.base.others p h (subst (λ y. cs.is_of t.here.server y ≡ false) q g))
               others o (p, h, a, b, inr q) g = absurd (clash q (ap (λ y. (server_of y).0 == t.here.server.0) (sym b) ∙ g))
 
-      w_ask_next : (t : Turn) (x : ClientSession) (now : Stamp) → x.requests.asked ≡ None → W_in t x → W t → W (cp.ask_next t x now)
+      w_ask_next : (t : Turn) (x : ClientSession) (now : Stamp) → x.requests.asked ≡ None → (W_in M c Known Before Done s B out0) t x → (W M c Known Before Done s B out0) t → (W M c Known Before Done s B out0) (cp.ask_next t x now)
       unfolding cp.ask_next cp.ask_for_or
-      w_ask_next t x now e w y = if_both W (cs.is_serving t.config x now) _ _ (go (cp.first_asking t x now t.operations) refl) (w_keep_alive t x now e w y)
+      w_ask_next t x now e w y = if_both (W M c Known Before Done s B out0) (cs.is_serving t.config x now) _ _ (go (cp.first_asking t x now t.operations) refl) (w_keep_alive t x now e w y)
         where
-          go : (o : Option cp.Asking) → cp.first_asking t x now t.operations ≡ o → W (cp.ask_for_or t x now o)
+          go : (o : Option cp.Asking) → cp.first_asking t x now t.operations ≡ o → (W M c Known Before Done s B out0) (cp.ask_for_or t x now o)
           go None f = w_keep_alive t x now e w y
           go (Some a) f = w_ask_for t x now a f e w
 
-      w_ask_by : (t : Turn) (x : ClientSession) (now : Stamp) (rs : List Release) → x.requests.asked ≡ None → W_in t x → W t → W (cp.ask_by t x now rs)
+      w_ask_by : (t : Turn) (x : ClientSession) (now : Stamp) (rs : List Release) → x.requests.asked ≡ None → (W_in M c Known Before Done s B out0) t x → (W M c Known Before Done s B out0) t → (W M c Known Before Done s B out0) (cp.ask_by t x now rs)
       unfolding cp.ask_by cp.ask_release
       w_ask_by t x now [] e w y = w_ask_next t x now e w y
       w_ask_by t x now (r ∷ rs) e w y = w_plain_ask t (record x { releases = rs }) now _ e w
 
-      w_requests_at : (t : Turn) (x : ClientSession) (now : Stamp) (tick : Bool) (o : Option Request) → x.requests.asked ≡ o → W_in t x → W t → W (cp.requests_at t x now tick o)
+      w_requests_at : (t : Turn) (x : ClientSession) (now : Stamp) (tick : Bool) (o : Option Request) → x.requests.asked ≡ o → (W_in M c Known Before Done s B out0) t x → (W M c Known Before Done s B out0) t → (W M c Known Before Done s B out0) (cp.requests_at t x now tick o)
       unfolding cp.requests_at cp.ask_new cp.reassert cp.repeat
-      w_requests_at t x now tick None e w y = if_both W x.due _ _ (w_plain_ask t x now _ e w) (w_ask_by t x now x.releases e w y)
-      w_requests_at t x now tick (Some q) e w y = if_both W _ _ t (w_again t x now q e w) y
+      w_requests_at t x now tick None e w y = if_both (W M c Known Before Done s B out0) x.due _ _ (w_plain_ask t x now _ e w) (w_ask_by t x now x.releases e w y)
+      w_requests_at t x now tick (Some q) e w y = if_both (W M c Known Before Done s B out0) _ _ t (w_again t x now q e w) y
 
-      w_requests : (now : Stamp) (tick : Bool) (t : Turn) → W t → W (cp.requests now tick t)
+      w_requests : (now : Stamp) (tick : Bool) (t : Turn) → (W M c Known Before Done s B out0) t → (W M c Known Before Done s B out0) (cp.requests now tick t)
       unfolding cp.requests cp.requests_by cp.requests_under
       w_requests now tick t w = go t.here.session refl
         where
-          go : (o : Option ClientSession) → t.here.session ≡ o → W (cp.requests_by t now tick o)
+          go : (o : Option ClientSession) → t.here.session ≡ o → (W M c Known Before Done s B out0) (cp.requests_by t now tick o)
           go None e = w
-          go (Some x) e = if_both W x.lease.condemned t _ w (w_requests_at t x now tick x.requests.asked refl (into t x e w) w)
+          go (Some x) e = if_both (W M c Known Before Done s B out0) x.lease.condemned t _ w (w_requests_at t x now tick x.requests.asked refl ((into M c Known Before Done s B out0) t x e w) w)
 
       -- Replies.
       module _ (now : Stamp) (m : Message) (Told : ServerId → Type 0)
@@ -734,7 +338,7 @@ module _ (M : List Message) (c : ClientId) (Known : ℕ → Ask → Type 0) (Bef
         h = m.header
 
         -- the request ends: nothing is outstanding, and who waited is yet to be answered
-        b_ended : (t : Turn) (x : ClientSession) (stamp : Stamp) → C_in t x → C_in t (cr.ended_by stamp x)
+        b_ended : (t : Turn) (x : ClientSession) (stamp : Stamp) → (C_in M c Known Before Done s B out0) t x → (C_in M c Known Before Done s B out0) t (cr.ended_by stamp x)
         b_ended t x stamp b =
             record {
               id_ = b.id_;
@@ -754,22 +358,22 @@ module _ (M : List Message) (c : ClientId) (Known : ℕ → Ask → Type 0) (Bef
         record Noted (t u : Turn) (x : ClientSession) : Type 0 where
           pub here : u.here ≡ t.here
           pub operations : u.operations ≡ t.operations
-          pub base : C_in u x
+          pub base : (C_in M c Known Before Done s B out0) u x
 
-        noted : (t : Turn) (x y : ClientSession) (stamp : Stamp) → C_in t y → Noted t (cr.note_renewal t x stamp) y
+        noted : (t : Turn) (x y : ClientSession) (stamp : Stamp) → (C_in M c Known Before Done s B out0) t y → Noted t (cr.note_renewal t x stamp) y
         unfolding cr.note_renewal cr.note_lease
         noted t x y stamp b = go (lease.is_renewal stamp x.lease)
           where
             go : (z : Bool) → Noted t (if z then cr.note_lease (lease.renewed stamp x.lease) t else t) y
-            go true = record { here = refl; operations = refl; base = b_say t.id t.here.server t.here.life.0 (view (Some y)) t.operations t.out _ tt b }
+            go true = record { here = refl; operations = refl; base = (b_say M c Known Before Done s B out0) t.id t.here.server t.here.life.0 (view (Some y)) t.operations t.out _ tt b }
             go false = record { here = refl; operations = refl; base = b }
 
         -- nobody waits for a reply of another kind
-        none_for : (t : Turn) (x : ClientSession) (q : Request) → x.requests.asked ≡ Some q → W_in t x → (cs.asks_cut_or_name q.body ≡ true → ⊥) → Free t.here.server t.operations
+        none_for : (t : Turn) (x : ClientSession) (q : Request) → x.requests.asked ≡ Some q → (W_in M c Known Before Done s B out0) t x → (cs.asks_cut_or_name q.body ≡ true → ⊥) → (Free M c Known Before Done) t.here.server t.operations
         none_for t x q e w f o i a = f (only_own o.ask q.body (subst (λ r. Waits_at Before t.here.server t.here.life.0 x.epoch.0 r o) e (w.waits o i a)).0)
 
         -- `cut` is said of each that waits
-        said_cut : (t : Turn) (x : ClientSession) (q : Request) → x.requests.asked ≡ Some q → W_in t x → Told t.here.server → h.life ≡ t.here.life.0 → h.epoch ≡ x.epoch.0 → h.number ≡ q.number → cs.is_acknowledged q.body ≡ true →
+        said_cut : (t : Turn) (x : ClientSession) (q : Request) → x.requests.asked ≡ Some q → (W_in M c Known Before Done s B out0) t x → Told t.here.server → h.life ≡ t.here.life.0 → h.epoch ≡ x.epoch.0 → h.number ≡ q.number → cs.is_acknowledged q.body ≡ true →
             (o : Operation) → Has o t.operations → cs.is_asked t.here.server o ≡ true → Done o.op o.ask
         said_cut t x q e w told lf ep nm ack o i a = ends_cut t.here.server told q o of given.0 nm waits.0 ack bodies_same (subst (λ n. Before t.here.server n h.epoch q.number o.op) (sym lf) (subst (λ n. Before t.here.server t.here.life.0 n q.number o.op) (sym ep) waits.1))
           where
@@ -789,43 +393,43 @@ module _ (M : List Message) (c : ClientId) (Known : ℕ → Ask → Type 0) (Bef
                 (subst (λ r. Same_body r y) e ((w.base.numbers.placed y (inl j) k.between (k.of_life ∙ lf) (omega (arith, g, u))).same (k.of_epoch ∙ ep))) k.under
 
         -- What a reply does, besides ending the request.
-        w_acknowledged : (u : Turn) → C u → ((o : Operation) → Has o u.operations → cs.is_asked u.here.server o ≡ true → Done o.op o.ask) → W (cr.acknowledged u)
+        w_acknowledged : (u : Turn) → (C M c Known Before Done s B out0) u → ((o : Operation) → Has o u.operations → cs.is_asked u.here.server o ≡ true → Done o.op o.ask) → (W M c Known Before Done s B out0) (cr.acknowledged u)
         unfolding cr.acknowledged cs.answer_each
         w_acknowledged u b f =
             record {
-              base = b_more u.id u.here.server u.here.life.0 (view u.here.session) _ u.out _ okay
-                  (b_fewer u.id u.here.server u.here.life.0 (view u.here.session) u.operations _ u.out (λ o i. (has_filter _ u.operations o i).0) b);
-              waits = λ o i a. absurd (freed u answers.Cut o i a);
+              base = (b_more M c Known Before Done s B out0) u.id u.here.server u.here.life.0 (view u.here.session) _ u.out _ okay
+                  ((b_fewer M c Known Before Done s B out0) u.id u.here.server u.here.life.0 (view u.here.session) u.operations _ u.out (λ o i. (has_filter _ u.operations o i).0) b);
+              waits = λ o i a. absurd ((freed M c Known Before Done s B out0) u answers.Cut o i a);
             }
           where
-            okay : (x : Output) → Has x (map (answer_to answers.Cut) (filter (cs.is_asked u.here.server) u.operations)) → Okay u.here.server u.here.life.0 x
+            okay : (x : Output) → Has x (map (answer_to answers.Cut) (filter (cs.is_asked u.here.server) u.operations)) → (Okay M c Known Before Done) u.here.server u.here.life.0 x
             okay x i =
                 let z = has_map (answer_to answers.Cut) _ x i in
                 let y = has_filter (cs.is_asked u.here.server) u.operations z.0 z.1 in
-                subst (Okay u.here.server u.here.life.0) (sym z.2) (z.0.ask, b.asked z.0 y.0, f z.0 y.0 y.1)
+                subst ((Okay M c Known Before Done) u.here.server u.here.life.0) (sym z.2) (z.0.ask, b.asked z.0 y.0, f z.0 y.0 y.1)
 
-        named_plain : (r : NameReply) → Plain (cr.name_answer r)
+        named_plain : (r : NameReply) → (Plain M c Known Before Done s B out0) (cr.name_answer r)
         named_plain (replies.Ino ino) op = tt
         named_plain (replies.Listed rows) op = tt
         named_plain (replies.Refused code) op = tt
 
-        w_named : (u : Turn) (x : ClientSession) (file : Option ℕ) (r : NameReply) → u.here.session ≡ Some x → C u → W (cr.named u x file r)
+        w_named : (u : Turn) (x : ClientSession) (file : Option ℕ) (r : NameReply) → u.here.session ≡ Some x → (C M c Known Before Done s B out0) u → (W M c Known Before Done s B out0) (cr.named u x file r)
         unfolding cr.named cr.named_as cs.answer_each
         w_named u x file r e b = by r
           where
             v : Turn
             v = cs.answer_each (cs.is_asked u.here.server) (cr.name_answer r) u
 
-            all : W v
-            all = record { base = b_answers u _ _ (named_plain r) b; waits = λ o i a. absurd (freed u (cr.name_answer r) o i a) }
+            all : (W M c Known Before Done s B out0) v
+            all = record { base = (b_answers M c Known Before Done s B out0) u _ _ (named_plain r) b; waits = λ o i a. absurd ((freed M c Known Before Done s B out0) u (cr.name_answer r) o i a) }
 
-            by : (r2 : NameReply) → W (cr.named_as v x file r2)
-            by (replies.Ino ino) = w_removed v x file all (into v x e all)
+            by : (r2 : NameReply) → (W M c Known Before Done s B out0) (cr.named_as v x file r2)
+            by (replies.Ino ino) = (w_removed M c Known Before Done s B out0) v x file all ((into M c Known Before Done s B out0) v x e all)
             by (replies.Listed rows) = all
             by (replies.Refused code) = all
 
-        w_effect : (t u : Turn) (x y : ClientSession) (q : Request) (b : Body) (file : Option ℕ) → x.requests.asked ≡ Some q → W_in t x → u.here ≡ record t.here { session = Some y } → u.operations ≡ t.operations → C u →
-            cs.fits b q.body ≡ true → (b ≡ bodies.Ack → Told t.here.server) → h.life ≡ t.here.life.0 → h.epoch ≡ x.epoch.0 → h.number ≡ q.number → W (cr.effect u y now b file q.body)
+        w_effect : (t u : Turn) (x y : ClientSession) (q : Request) (b : Body) (file : Option ℕ) → x.requests.asked ≡ Some q → (W_in M c Known Before Done s B out0) t x → u.here ≡ record t.here { session = Some y } → u.operations ≡ t.operations → (C M c Known Before Done s B out0) u →
+            cs.fits b q.body ≡ true → (b ≡ bodies.Ack → Told t.here.server) → h.life ≡ t.here.life.0 → h.epoch ≡ x.epoch.0 → h.number ≡ q.number → (W M c Known Before Done s B out0) (cr.effect u y now b file q.body)
         unfolding cr.effect
         w_effect t u x y q b file e w here ops base fit told lf ep nm = go b fit told
           where
@@ -835,62 +439,62 @@ module _ (M : List Message) (c : ClientId) (Known : ℕ → Ask → Type 0) (Bef
             session : u.here.session ≡ Some y
             session = ap (λ (a : Association). a.session) here
 
-            free : (cs.asks_cut_or_name q.body ≡ true → ⊥) → Free u.here.server u.operations
-            free f = subst (λ (z : ServerId). Free z u.operations) same_server (subst (Free t.here.server) (sym ops) (none_for t x q e w f))
+            free : (cs.asks_cut_or_name q.body ≡ true → ⊥) → (Free M c Known Before Done) u.here.server u.operations
+            free f = subst (λ (z : ServerId). (Free M c Known Before Done) z u.operations) same_server (subst ((Free M c Known Before Done) t.here.server) (sym ops) (none_for t x q e w f))
 
-            whole : (cs.asks_cut_or_name q.body ≡ true → ⊥) → W u
-            whole f = free_all u.id u.here.server u.here.life.0 (view u.here.session) u.operations u.out (free f) base
+            whole : (cs.asks_cut_or_name q.body ≡ true → ⊥) → (W M c Known Before Done s B out0) u
+            whole f = (free_all M c Known Before Done s B out0) u.id u.here.server u.here.life.0 (view u.here.session) u.operations u.out (free f) base
 
-            whole_in : (cs.asks_cut_or_name q.body ≡ true → ⊥) → W_in u y
-            whole_in f = into u y session (whole f)
+            whole_in : (cs.asks_cut_or_name q.body ≡ true → ⊥) → (W_in M c Known Before Done s B out0) u y
+            whole_in f = (into M c Known Before Done s B out0) u y session (whole f)
 
             cut : Told t.here.server → cs.is_acknowledged q.body ≡ true → (o : Operation) → Has o u.operations → cs.is_asked u.here.server o ≡ true → Done o.op o.ask
             cut k ack o i a = said_cut t x q e w k lf ep nm ack o (subst (Has o) ops i) (subst (λ z. cs.is_asked z o ≡ true) (sym same_server) a)
 
-            go : (b : Body) → cs.fits b q.body ≡ true → (b ≡ bodies.Ack → Told t.here.server) → W (cr.effect u y now b file q.body)
-            go (bodies.Granted ino g mode) f k = w_granted u y ino g mode (whole_in (no_acquire ino q.body f))
-            go (bodies.Queued ino mode) f k = w_queued u y now ino mode (whole_in (no_acquire ino q.body f))
-            go (bodies.Extents ino rows) f k = w_extents u y ino rows q.body (whole (no_map ino q.body f))
+            go : (b : Body) → cs.fits b q.body ≡ true → (b ≡ bodies.Ack → Told t.here.server) → (W M c Known Before Done s B out0) (cr.effect u y now b file q.body)
+            go (bodies.Granted ino g mode) f k = (w_granted M c Known Before Done s B out0) u y ino g mode (whole_in (no_acquire ino q.body f))
+            go (bodies.Queued ino mode) f k = (w_queued M c Known Before Done s B out0) u y now ino mode (whole_in (no_acquire ino q.body f))
+            go (bodies.Extents ino rows) f k = (w_extents M c Known Before Done s B out0) u y ino rows q.body (whole (no_map ino q.body f))
             go bodies.Ack f k = w_acknowledged u base (cut (k refl) f)
             go (bodies.Named reply) f k = w_named u y file reply session base
-            go bodies.Reasserted f k = w_reasserted u y (whole_in (no_reassert q.body f))
-            go (bodies.Nack z a b) f k = w_refused u z a b file q.body base
+            go bodies.Reasserted f k = (w_reasserted M c Known Before Done s B out0) u y (whole_in (no_reassert q.body f))
+            go (bodies.Nack z a b) f k = (w_refused M c Known Before Done s B out0) u z a b file q.body base
             go b f k = cc f
 
-        w_reply_to : (t : Turn) (x : ClientSession) (q : Request) (stamp : Stamp) (b : Body) → x.requests.asked ≡ Some q → W_in t x → cs.fits b q.body ≡ true → (b ≡ bodies.Ack → Told t.here.server) → h.life ≡ t.here.life.0 → h.epoch ≡ x.epoch.0 → h.number ≡ q.number →
-            W (cr.reply_to t x now stamp b q.body)
+        w_reply_to : (t : Turn) (x : ClientSession) (q : Request) (stamp : Stamp) (b : Body) → x.requests.asked ≡ Some q → (W_in M c Known Before Done s B out0) t x → cs.fits b q.body ≡ true → (b ≡ bodies.Ack → Told t.here.server) → h.life ≡ t.here.life.0 → h.epoch ≡ x.epoch.0 → h.number ≡ q.number →
+            (W M c Known Before Done s B out0) (cr.reply_to t x now stamp b q.body)
         unfolding cr.reply_to cr.end_request
         w_reply_to t x q stamp b e w fit told lf ep nm =
             let z = noted t x (cr.ended_by stamp x) stamp (b_ended t x stamp w.base) in
             w_effect t (with_session (cr.ended_by stamp x) (cr.note_renewal t x stamp)) x (cr.ended_by stamp x) q b (cs.file_asked x.cutting q.body) e w (ap (λ (a : Association). record a { session = Some (cr.ended_by stamp x) }) z.here) z.operations z.base fit told lf ep nm
 
-        w_reply : (t : Turn) (x : ClientSession) (b : Body) → t.here.session ≡ Some x → W t → (b ≡ bodies.Ack → Told t.here.server) → h.life ≡ t.here.life.0 → h.epoch ≡ x.epoch.0 → W (cr.reply_of t x now h b)
+        w_reply : (t : Turn) (x : ClientSession) (b : Body) → t.here.session ≡ Some x → (W M c Known Before Done s B out0) t → (b ≡ bodies.Ack → Told t.here.server) → h.life ≡ t.here.life.0 → h.epoch ≡ x.epoch.0 → (W M c Known Before Done s B out0) (cr.reply_of t x now h b)
         unfolding cr.reply_of cr.counted cr.by_request cr.count_reply
         w_reply t x b e w told lf ep = go x.requests.asked refl
           where
             stamp : Stamp
             stamp = record { 0 = h.stamp }
 
-            go : (r : Option Request) → x.requests.asked ≡ r → W (cr.counted t x now h.number stamp b r)
+            go : (r : Option Request) → x.requests.asked ≡ r → (W M c Known Before Done s B out0) (cr.counted t x now h.number stamp b r)
             go None f = w
-            go (Some q) f = if_case W (cr.is_counting h.number b q) (cr.count_reply t x now stamp b q.body) t counts (λ g. w)
+            go (Some q) f = if_case (W M c Known Before Done s B out0) (cr.is_counting h.number b q) (cr.count_reply t x now stamp b q.body) t counts (λ g. w)
               where
-                counts : cr.is_counting h.number b q ≡ true → W (cr.count_reply t x now stamp b q.body)
+                counts : cr.is_counting h.number b q ≡ true → (W M c Known Before Done s B out0) (cr.count_reply t x now stamp b q.body)
                 counts g =
                     let z = and_true (cs.is_request_of h.number q) (cs.fits b q.body) g in
-                    if_both W (cr.refuses_reassertion b q.body) (cr.condemn t x) (cr.reply_to t x now stamp b q.body) (w_condemn t x (into t x e w))
-                    (w_reply_to t x q stamp b f (into t x e w) z.1 told lf ep (sym (eqb-true q.number h.number z.0)))
+                    if_both (W M c Known Before Done s B out0) (cr.refuses_reassertion b q.body) (cr.condemn t x) (cr.reply_to t x now stamp b q.body) ((w_condemn M c Known Before Done s B out0) t x ((into M c Known Before Done s B out0) t x e w))
+                    (w_reply_to t x q stamp b f ((into M c Known Before Done s B out0) t x e w) z.1 told lf ep (sym (eqb-true q.number h.number z.0)))
 
-        w_nack : (t : Turn) (x : ClientSession) (y : Why) (a b : ℕ) → t.here.session ≡ Some x → W t → h.life ≡ t.here.life.0 → h.epoch ≡ x.epoch.0 → W (cr.nack t x now h y a b)
-        w_nack t x why.Suspect a b e w lf ep = w_condemn t x (into t x e w)
-        w_nack t x why.NoSession a b e w lf ep = w_condemn t x (into t x e w)
+        w_nack : (t : Turn) (x : ClientSession) (y : Why) (a b : ℕ) → t.here.session ≡ Some x → (W M c Known Before Done s B out0) t → h.life ≡ t.here.life.0 → h.epoch ≡ x.epoch.0 → (W M c Known Before Done s B out0) (cr.nack t x now h y a b)
+        w_nack t x why.Suspect a b e w lf ep = (w_condemn M c Known Before Done s B out0) t x ((into M c Known Before Done s B out0) t x e w)
+        w_nack t x why.NoSession a b e w lf ep = (w_condemn M c Known Before Done s B out0) t x ((into M c Known Before Done s B out0) t x e w)
         w_nack t x why.OtherEpoch a b e w lf ep = w
         w_nack t x why.Grace a b e w lf ep = w
-        w_nack t x why.GraceOver a b e w lf ep = w_condemn t x (into t x e w)
-        w_nack t x why.Conflict a b e w lf ep = w_condemn t x (into t x e w)
+        w_nack t x why.GraceOver a b e w lf ep = (w_condemn M c Known Before Done s B out0) t x ((into M c Known Before Done s B out0) t x e w)
+        w_nack t x why.Conflict a b e w lf ep = (w_condemn M c Known Before Done s B out0) t x ((into M c Known Before Done s B out0) t x e w)
         w_nack t x y a b e w lf ep = w_reply t x (bodies.Nack y a b) e w (λ f. cc f) lf ep
 
-        w_demand : (t : Turn) (x : ClientSession) (ino : ℕ) (g : GrantNo) (to : Mode) → t.here.session ≡ Some x → W t → W (cr.demand t x ino g to)
+        w_demand : (t : Turn) (x : ClientSession) (ino : ℕ) (g : GrantNo) (to : Mode) → t.here.session ≡ Some x → (W M c Known Before Done s B out0) t → (W M c Known Before Done s B out0) (cr.demand t x ino g to)
         unfolding cr.demand cr.demand_by cr.demand_as cr.see_demand cr.release_unheld
         w_demand t x ino g to e w = by (locks.demand x.locks ino g to).asked
           where
@@ -901,42 +505,42 @@ module _ (M : List Message) (c : ClientId) (Known : ℕ → Ask → Type 0) (Bef
             both true = refl
             both false = refl
 
-            by : (a : Asked) → W (cr.demand_as t l ino g a)
-            by demands.Reduce = w_idle (with_session l t) _ _ _ (into t x e w)
-            by demands.NotHeld = w_view t x (cr.release_unheld l ino g) (both (cr.has_release l ino g)) (into t x e w)
+            by : (a : Asked) → (W M c Known Before Done s B out0) (cr.demand_as t l ino g a)
+            by demands.Reduce = w_idle (with_session l t) _ _ _ ((into M c Known Before Done s B out0) t x e w)
+            by demands.NotHeld = (w_view M c Known Before Done s B out0) t x (cr.release_unheld l ino g) (both (cr.has_release l ino g)) ((into M c Known Before Done s B out0) t x e w)
             by demands.Stale = w
 
-        w_of_epoch : (t : Turn) (x : ClientSession) (b : Body) → t.here.session ≡ Some x → W t → (b ≡ bodies.Ack → Told t.here.server) → h.life ≡ t.here.life.0 → h.epoch ≡ x.epoch.0 → W (cr.of_epoch t x now h b)
+        w_of_epoch : (t : Turn) (x : ClientSession) (b : Body) → t.here.session ≡ Some x → (W M c Known Before Done s B out0) t → (b ≡ bodies.Ack → Told t.here.server) → h.life ≡ t.here.life.0 → h.epoch ≡ x.epoch.0 → (W M c Known Before Done s B out0) (cr.of_epoch t x now h b)
         unfolding cr.of_epoch cr.grant_or_reply
         w_of_epoch t x (bodies.Nack y a b) e w told lf ep = w_nack t x y a b e w lf ep
-        w_of_epoch t x (bodies.Granted ino g mode) e w told lf ep = if_both W (h.number == 0) _ _ (w_granted t x ino g mode (into t x e w)) (w_reply t x (bodies.Granted ino g mode) e w told lf ep)
+        w_of_epoch t x (bodies.Granted ino g mode) e w told lf ep = if_both (W M c Known Before Done s B out0) (h.number == 0) _ _ ((w_granted M c Known Before Done s B out0) t x ino g mode ((into M c Known Before Done s B out0) t x e w)) (w_reply t x (bodies.Granted ino g mode) e w told lf ep)
         w_of_epoch t x (bodies.Demand ino g to) e w told lf ep = w_demand t x ino g to e w
         w_of_epoch t x b e w told lf ep = w_reply t x b e w told lf ep
 
-        w_with : (t : Turn) (x : ClientSession) (b : Body) → t.here.session ≡ Some x → W t → (b ≡ bodies.Ack → Told t.here.server) → h.life ≡ t.here.life.0 → W (cr.with_a_session t x now h b)
+        w_with : (t : Turn) (x : ClientSession) (b : Body) → t.here.session ≡ Some x → (W M c Known Before Done s B out0) t → (b ≡ bodies.Ack → Told t.here.server) → h.life ≡ t.here.life.0 → (W M c Known Before Done s B out0) (cr.with_a_session t x now h b)
         unfolding cr.with_a_session
-        w_with t x b e w told lf = if_case W (h.epoch == x.epoch.0) _ _ (λ f. w_of_epoch t x b e w told lf (eqb-true h.epoch x.epoch.0 f)) (λ f. w_of_other t x _ b e w)
+        w_with t x b e w told lf = if_case (W M c Known Before Done s B out0) (h.epoch == x.epoch.0) _ _ (λ f. w_of_epoch t x b e w told lf (eqb-true h.epoch x.epoch.0 f)) (λ f. (w_of_other M c Known Before Done s B out0) t x _ b e w)
 
-        pub w_hear : (t : Turn) → (m.body ≡ bodies.Ack → (sv : ServerId) → h.from ≡ server_node sv → Told sv) → W t → W (cr.hear now h m.body t)
+        pub w_hear : (t : Turn) → (m.body ≡ bodies.Ack → (sv : ServerId) → h.from ≡ server_node sv → Told sv) → (W M c Known Before Done s B out0) t → (W M c Known Before Done s B out0) (cr.hear now h m.body t)
         unfolding cr.hear cr.by_session
-        w_hear t told w = if_case W (cr.is_heard t now h) (cr.by_session t now h m.body t.here.session) t heard (λ f. w)
+        w_hear t told w = if_case (W M c Known Before Done s B out0) (cr.is_heard t now h) (cr.by_session t now h m.body t.here.session) t heard (λ f. w)
           where
-            by : (m.body ≡ bodies.Ack → Told t.here.server) → h.life ≡ t.here.life.0 → (o : Option ClientSession) → t.here.session ≡ o → W (cr.by_session t now h m.body o)
-            by k lf None e = w_without t now h m.body e w
+            by : (m.body ≡ bodies.Ack → Told t.here.server) → h.life ≡ t.here.life.0 → (o : Option ClientSession) → t.here.session ≡ o → (W M c Known Before Done s B out0) (cr.by_session t now h m.body o)
+            by k lf None e = (w_without M c Known Before Done s B out0) t now h m.body e w
             by k lf (Some x) e = w_with t x m.body e w k lf
 
-            heard : cr.is_heard t now h ≡ true → W (cr.by_session t now h m.body t.here.session)
+            heard : cr.is_heard t now h ≡ true → (W M c Known Before Done s B out0) (cr.by_session t now h m.body t.here.session)
             heard f =
                 let z = and_true (h.from == server_node t.here.server) _ f in
                 by (λ g. told g t.here.server (eqb-true _ _ z.0)) (eqb-true _ _ (and_true (h.life == t.here.life.0) _ z.1).0) t.here.session refl
 
     -- Losses: the operations of the server are answered, and the next life begins.
-    b_answered : (t : Turn) (op : ℕ) (a : AppAnswer) → Plain a → C t → C (cs.answered t op a)
-    b_answered t op a p b = b_say t.id t.here.server t.here.life.0 (view t.here.session) t.operations t.out _ (p op) b
+    b_answered : (t : Turn) (op : ℕ) (a : AppAnswer) → (Plain M c Known Before Done s B out0) a → (C M c Known Before Done s B out0) t → (C M c Known Before Done s B out0) (cs.answered t op a)
+    b_answered t op a p b = (b_say M c Known Before Done s B out0) t.id t.here.server t.here.life.0 (view t.here.session) t.operations t.out _ (p op) b
 
     -- a turn whose server, life and operations are the same
     record Ended_one (t u : Turn) : Type 0 where
-      pub base : C u
+      pub base : (C M c Known Before Done s B out0) u
       pub server_ : u.here.server ≡ t.here.server
       pub operations : u.operations ≡ t.operations
 
@@ -944,7 +548,7 @@ module _ (M : List Message) (c : ClientId) (Known : ℕ → Ask → Type 0) (Bef
     if_ended true t u v x y = x
     if_ended false t u v x y = y
 
-    end_one : (t : Turn) (x : ClientSession) (o : Operation) → C t → Ended_one t (cl.end_operation t x o)
+    end_one : (t : Turn) (x : ClientSession) (o : Operation) → (C M c Known Before Done s B out0) t → Ended_one t (cl.end_operation t x o)
     unfolding cl.end_operation cl.end_unsent cl.end_sync cl.tell_lost
     end_one t x o b = if_ended (cs.is_sent o) t _ _ (record { base = b_answered t o.op _ (λ op. tt) b; server_ = refl; operations = refl }) (by o.ask)
       where
@@ -955,7 +559,7 @@ module _ (M : List Message) (c : ClientId) (Known : ℕ → Ask → Type 0) (Bef
         by (asks.Sync f) = if_ended (pages.has_lost t.here.lost f.ino) t _ _ (record { base = b_answered (cs.with_lost_rows (pages.untold t.here.lost f.ino) t) o.op _ (λ op. tt) b; server_ = refl; operations = refl }) quiesced
         by a = quiesced
 
-    end_all : (x : ClientSession) (os : List Operation) (t : Turn) → C t → Ended_one t (cl.end_each x os t)
+    end_all : (x : ClientSession) (os : List Operation) (t : Turn) → (C M c Known Before Done s B out0) t → Ended_one t (cl.end_each x os t)
     unfolding cl.end_each
     end_all x [] t b = record { base = b; server_ = refl; operations = refl }
     end_all x (o ∷ os) t b =
@@ -963,7 +567,7 @@ module _ (M : List Message) (c : ClientId) (Known : ℕ → Ask → Type 0) (Bef
         let r = end_all x os (cl.end_operation t x o) e.base in
         record { base = r.base; server_ = r.server_ ∙ e.server_; operations = r.operations ∙ e.operations }
 
-    w_lost : (t : Turn) (x : ClientSession) → W t → W (cl.lose_session t x)
+    w_lost : (t : Turn) (x : ClientSession) → (W M c Known Before Done s B out0) t → (W M c Known Before Done s B out0) (cl.lose_session t x)
     unfolding cl.lose_session cl.end_operations
     w_lost t x w =
         record {
@@ -994,7 +598,7 @@ module _ (M : List Message) (c : ClientId) (Known : ℕ → Ask → Type 0) (Bef
 
         r : Ended_one v2 u
         r = end_all x (filter (cs.is_of t.here.server) t.operations) v2
-            (b_say t.id t.here.server t.here.life.0 (view t.here.session) _ t.out _ tt (b_fewer t.id t.here.server t.here.life.0 (view t.here.session) t.operations _ t.out (λ o h. (has_filter _ t.operations o h).0) w.base))
+            ((b_say M c Known Before Done s B out0) t.id t.here.server t.here.life.0 (view t.here.session) _ t.out _ tt ((b_fewer M c Known Before Done s B out0) t.id t.here.server t.here.life.0 (view t.here.session) t.operations _ t.out (λ o h. (has_filter _ t.operations o h).0) w.base))
 
         clash : {b : Bool} → b ≡ true → b ≡ false → ⊥
         clash x y = cc
@@ -1002,21 +606,21 @@ module _ (M : List Message) (c : ClientId) (Known : ℕ → Ask → Type 0) (Bef
         gone : (o : Operation) → Has o (filter (λ o. not (cs.is_of t.here.server o)) t.operations) → cs.is_of u.here.server o ≡ true → ⊥
         gone o h e = clash (subst (λ z. cs.is_of z o ≡ true) r.server_ e) (not_true _ (has_filter (λ o. not (cs.is_of t.here.server o)) t.operations o h).1)
 
-    pub w_lose : (now : Stamp) (t : Turn) → W t → W (cl.lose now t)
+    pub w_lose : (now : Stamp) (t : Turn) → (W M c Known Before Done s B out0) t → (W M c Known Before Done s B out0) (cl.lose now t)
     unfolding cl.lose cl.lose_by cl.lose_over
     w_lose now t w = go t.here.session
       where
-        go : (o : Option ClientSession) → W (cl.lose_by t now o)
+        go : (o : Option ClientSession) → (W M c Known Before Done s B out0) (cl.lose_by t now o)
         go None = w
-        go (Some x) = if_both W (cl.is_over t x now) _ t (w_lost t x w) w
+        go (Some x) = if_both (W M c Known Before Done s B out0) (cl.is_over t x now) _ t (w_lost t x w) w
 
     -- Ends of commands.
-    w_failed : (t : Turn) (x : PageCommand) (kind : IoKind) → W t → W (cl.failed_as t x kind)
+    w_failed : (t : Turn) (x : PageCommand) (kind : IoKind) → (W M c Known Before Done s B out0) t → (W M c Known Before Done s B out0) (cl.failed_as t x kind)
     unfolding cl.failed_as cl.mark_failed
-    w_failed t x io.Read w = w_answers t _ _ (λ op. tt) w
-    w_failed t x (io.Write v) w = w_answers _ _ _ (λ op. tt) (if_both W (cl.is_present t x v) _ t w w)
+    w_failed t x io.Read w = (w_answers M c Known Before Done s B out0) t _ _ (λ op. tt) w
+    w_failed t x (io.Write v) w = (w_answers M c Known Before Done s B out0) _ _ _ (λ op. tt) (if_both (W M c Known Before Done s B out0) (cl.is_present t x v) _ t w w)
 
-    w_finish_as : (t : Turn) (x : PageCommand) (block : Option (Tag × List ℕ)) (e : Ended) → W t → W (cl.finish_as t x block e)
+    w_finish_as : (t : Turn) (x : PageCommand) (block : Option (Tag × List ℕ)) (e : Ended) → (W M c Known Before Done s B out0) t → (W M c Known Before Done s B out0) (cl.finish_as t x block e)
     unfolding cl.finish_as cl.filled_by cl.hardened
     w_finish_as t x block ends.Unknown w = w
     w_finish_as t x None ends.Filled w = w
@@ -1025,41 +629,41 @@ module _ (M : List Message) (c : ClientId) (Known : ℕ → Ask → Type 0) (Bef
     w_finish_as t x block ends.Redirty w = w
     w_finish_as t x block ends.Failed w = w_failed t x x.kind w
 
-    w_finish_command : (t : Turn) (x : PageCommand) (ok : Bool) (block : Option (Tag × List ℕ)) → W t → W (cl.finish_command t x ok block)
+    w_finish_command : (t : Turn) (x : PageCommand) (ok : Bool) (block : Option (Tag × List ℕ)) → (W M c Known Before Done s B out0) t → (W M c Known Before Done s B out0) (cl.finish_command t x ok block)
     unfolding cl.finish_command cl.ended_by
     w_finish_command t x ok block w = w_finish_as (cl.with_commands (pages.end_command t.here.store.commands x.number ok (pages.version_of t.here.store.pages x.ino x.page)).commands t) x block _ w
 
-    w_finish_by : (t : Turn) (x : PageCommand) (r : Option (Option (Tag × List ℕ))) → W t → W (cl.finish_by t x r)
+    w_finish_by : (t : Turn) (x : PageCommand) (r : Option (Option (Tag × List ℕ))) → (W M c Known Before Done s B out0) t → (W M c Known Before Done s B out0) (cl.finish_by t x r)
     unfolding cl.finish_by cl.done_by
     w_finish_by t x None w = w_finish_command t x false None w
-    w_finish_by t x (Some b) w = if_both W (cl.is_result_of x.kind b) _ t (w_finish_command t x true b w) w
+    w_finish_by t x (Some b) w = if_both (W M c Known Before Done s B out0) (cl.is_result_of x.kind b) _ t (w_finish_command t x true b w) w
 
-    pub w_finish : (number : ℕ) (r : Option (Option (Tag × List ℕ))) (t : Turn) → W t → W (cl.finish number r t)
+    pub w_finish : (number : ℕ) (r : Option (Option (Tag × List ℕ))) (t : Turn) → (W M c Known Before Done s B out0) t → (W M c Known Before Done s B out0) (cl.finish number r t)
     unfolding cl.finish cl.finish_at
     w_finish number r t w = go (pages.command_of t.here.store.commands number)
       where
-        go : (o : Option PageCommand) → W (cl.finish_at t o r)
+        go : (o : Option PageCommand) → (W M c Known Before Done s B out0) (cl.finish_at t o r)
         go None = w
         go (Some x) = w_finish_by t x r w
 
     -- The pass over the operations: those that were not yet looked at stand behind those that stay.
     abbrev R : List Operation → Turn → Type 0
-    R os t = Whole s B out0 t.id t.here.server t.here.life.0 (view t.here.session) (t.operations ++ os) t.out
+    R os t = (Whole M c Known Before Done) s B out0 t.id t.here.server t.here.life.0 (view t.here.session) (t.operations ++ os) t.out
 
     if_rest : (os : List Operation) (b : Bool) (t u : Turn) → R os t → R os u → R os (if b then t else u)
     if_rest os true t u x y = x
     if_rest os false t u x y = y
 
     r_keep : (os : List Operation) (o : Operation) (t : Turn) → R (o ∷ os) t → R os (cs.keep o t)
-    r_keep os o t r = subst (λ x. Whole s B out0 t.id t.here.server t.here.life.0 (view t.here.session) x t.out) (sym (append_assoc t.operations (o ∷ []) os)) r
+    r_keep os o t r = subst (λ x. (Whole M c Known Before Done) s B out0 t.id t.here.server t.here.life.0 (view t.here.session) x t.out) (sym (append_assoc t.operations (o ∷ []) os)) r
 
-    r_answer : (os : List Operation) (o : Operation) (a : AppAnswer) (t : Turn) → Plain a → R (o ∷ os) t → R os (cp.answer o a t)
+    r_answer : (os : List Operation) (o : Operation) (a : AppAnswer) (t : Turn) → (Plain M c Known Before Done s B out0) a → R (o ∷ os) t → R os (cp.answer o a t)
     r_answer os o a t p r =
-        let z = w_fewer t.id t.here.server t.here.life.0 (view t.here.session) (t.operations ++ o ∷ os) (t.operations ++ os) t.out (λ x h. has_middle o x t.operations os h) r in
-        record { base = b_say t.id t.here.server t.here.life.0 (view t.here.session) (t.operations ++ os) t.out _ (p o.op) z.base; waits = z.waits }
+        let z = (w_fewer M c Known Before Done s B out0) t.id t.here.server t.here.life.0 (view t.here.session) (t.operations ++ o ∷ os) (t.operations ++ os) t.out (λ x h. has_middle o x t.operations os h) r in
+        record { base = (b_say M c Known Before Done s B out0) t.id t.here.server t.here.life.0 (view t.here.session) (t.operations ++ os) t.out _ (p o.op) z.base; waits = z.waits }
 
-    r_say : (os : List Operation) (t : Turn) (o : Output) → Okay t.here.server t.here.life.0 o → R os t → R os (say t o)
-    r_say os t o k r = record { base = b_say t.id t.here.server t.here.life.0 (view t.here.session) (t.operations ++ os) t.out o k r.base; waits = r.waits }
+    r_say : (os : List Operation) (t : Turn) (o : Output) → (Okay M c Known Before Done) t.here.server t.here.life.0 o → R os t → R os (say t o)
+    r_say os t o k r = record { base = (b_say M c Known Before Done s B out0) t.id t.here.server t.here.life.0 (view t.here.session) (t.operations ++ os) t.out o k r.base; waits = r.waits }
 
     r_change : (os : List Operation) (o : Operation) (f : FileId) (p : PageNo) (bytes : List ℕ) (x : Note) (t : Turn) → R (o ∷ os) t → R os (cp.change_page t o f p bytes x)
     unfolding cp.change_page cp.change_by cp.change pages.write
@@ -1140,78 +744,78 @@ module _ (M : List Message) (c : ClientId) (Known : ℕ → Ask → Type 0) (Bef
     has_none (y ∷ ys) x (inr h) = inr (has_none ys x h)
     has_none [] x h = h
 
-    w_operations : (now : Stamp) (t : Turn) → W t → W (cp.operations now t)
+    w_operations : (now : Stamp) (t : Turn) → (W M c Known Before Done s B out0) t → (W M c Known Before Done s B out0) (cp.operations now t)
     unfolding cp.operations
     w_operations now t w =
         let u = cp.operate_each t.operations now t.operations (with_operations [] t) in
-        w_fewer u.id u.here.server u.here.life.0 (view u.here.session) (u.operations ++ []) u.operations u.out (λ o h. has_none u.operations o h) (r_each t.operations now t.operations (with_operations [] t) w)
+        (w_fewer M c Known Before Done s B out0) u.id u.here.server u.here.life.0 (view u.here.session) (u.operations ++ []) u.operations u.out (λ o h. has_none u.operations o h) (r_each t.operations now t.operations (with_operations [] t) w)
 
     -- Reductions.
-    w_reduce_to : (t : Turn) (x : ClientSession) (ino : ℕ) (g : GrantNo) (to : Mode) → W_in t x → W (cp.reduce_to t x ino g to)
+    w_reduce_to : (t : Turn) (x : ClientSession) (ino : ℕ) (g : GrantNo) (to : Mode) → (W_in M c Known Before Done s B out0) t x → (W M c Known Before Done s B out0) (cp.reduce_to t x ino g to)
     unfolding cp.reduce_to
     w_reduce_to t x ino g to w = w
 
-    w_reduce_idle : (t : Turn) (x : ClientSession) (ino : ℕ) → W t → W_in t x → W (cp.reduce_idle t x ino)
+    w_reduce_idle : (t : Turn) (x : ClientSession) (ino : ℕ) → (W M c Known Before Done s B out0) t → (W_in M c Known Before Done s B out0) t x → (W M c Known Before Done s B out0) (cp.reduce_idle t x ino)
     unfolding cp.reduce_idle cp.reduce_by cp.reduce_given
-    w_reduce_idle t x ino w y = if_both W (cp.may_reduce t x ino) _ t (go (locks.reduce x.locks ino)) w
+    w_reduce_idle t x ino w y = if_both (W M c Known Before Done s B out0) (cp.may_reduce t x ino) _ t (go (locks.reduce x.locks ino)) w
       where
-        given : (z : locks.Reduced) (o : Option (GrantNo × Mode)) → W (cp.reduce_given t (cs.with_cache z.locks x) ino o)
+        given : (z : locks.Reduced) (o : Option (GrantNo × Mode)) → (W M c Known Before Done s B out0) (cp.reduce_given t (cs.with_cache z.locks x) ino o)
         given z None = w
         given z (Some (g, m)) = w_reduce_to t (cs.with_cache z.locks x) ino g m y
 
-        go : (r : locks.Reduced) → W (cp.reduce_by t x ino r)
+        go : (r : locks.Reduced) → (W M c Known Before Done s B out0) (cp.reduce_by t x ino r)
         go r = given r r.given
 
-    w_reduces : (inos : List ℕ) (t : Turn) → W t → W (cp.reduce_each inos t)
+    w_reduces : (inos : List ℕ) (t : Turn) → (W M c Known Before Done s B out0) t → (W M c Known Before Done s B out0) (cp.reduce_each inos t)
     unfolding cp.reduce_each cp.reduce
     w_reduces [] t w = w
     w_reduces (ino ∷ inos) t w = w_reduces inos _ (go t.here.session refl)
       where
-        go : (o : Option ClientSession) → t.here.session ≡ o → W (cp.reduce t ino o)
+        go : (o : Option ClientSession) → t.here.session ≡ o → (W M c Known Before Done s B out0) (cp.reduce t ino o)
         go None e = w
-        go (Some x) e = w_reduce_idle t x ino w (into t x e w)
+        go (Some x) e = w_reduce_idle t x ino w ((into M c Known Before Done s B out0) t x e w)
 
     -- Writes.
-    w_write_page : (t : Turn) (x : ClientSession) (now : Stamp) (tick : Bool) (o : Option DirtyPage) → W t → W (cp.write_page t x now tick o)
+    w_write_page : (t : Turn) (x : ClientSession) (now : Stamp) (tick : Bool) (o : Option DirtyPage) → (W M c Known Before Done s B out0) t → (W M c Known Before Done s B out0) (cp.write_page t x now tick o)
     unfolding cp.write_page cp.write_due cp.write_out cp.write_out_at cp.submit_write cp.submit_command
     w_write_page t x now tick None w = w
-    w_write_page t x now tick (Some d) w = if_both W (cp.is_writable t x now tick d) _ t (go (pages.mapping_of t.here.store.extents d.ino d.page)) w
+    w_write_page t x now tick (Some d) w = if_both (W M c Known Before Done s B out0) (cp.is_writable t x now tick d) _ t (go (pages.mapping_of t.here.store.extents d.ino d.page)) w
       where
-        go : (m : Option Mapping) → W (cp.write_out_at t d m)
+        go : (m : Option Mapping) → (W M c Known Before Done s B out0) (cp.write_out_at t d m)
         go None = w
-        go (Some m) = w_say (cp.with_command d.ino d.page (io.Write d.version) t) _ tt w
+        go (Some m) = (w_say M c Known Before Done s B out0) (cp.with_command d.ino d.page (io.Write d.version) t) _ tt w
 
-    w_writes : (x : ClientSession) (now : Stamp) (tick : Bool) (xs : List (ℕ × PageNo)) (t : Turn) → W t → W (cp.write_each x now tick xs t)
+    w_writes : (x : ClientSession) (now : Stamp) (tick : Bool) (xs : List (ℕ × PageNo)) (t : Turn) → (W M c Known Before Done s B out0) t → (W M c Known Before Done s B out0) (cp.write_each x now tick xs t)
     unfolding cp.write_each
     w_writes x now tick [] t w = w
     w_writes x now tick (y ∷ ys) t w = w_writes x now tick ys _ (w_write_page t x now tick _ w)
 
-    w_writing : (now : Stamp) (tick : Bool) (t : Turn) → W t → W (cp.writes now tick t)
+    w_writing : (now : Stamp) (tick : Bool) (t : Turn) → (W M c Known Before Done s B out0) t → (W M c Known Before Done s B out0) (cp.writes now tick t)
     unfolding cp.writes cp.writes_by
     w_writing now tick t w = go t.here.session
       where
-        go : (o : Option ClientSession) → W (cp.writes_by t now tick o)
+        go : (o : Option ClientSession) → (W M c Known Before Done s B out0) (cp.writes_by t now tick o)
         go None = w
         go (Some x) = w_writes x now tick _ t w
 
     -- Greeting.
-    w_greeting : (now : Stamp) (tick : Bool) (t : Turn) → W t → W (cp.greeting now tick t)
+    w_greeting : (now : Stamp) (tick : Bool) (t : Turn) → (W M c Known Before Done s B out0) t → (W M c Known Before Done s B out0) (cp.greeting now tick t)
     unfolding cp.greeting cp.greeting_by cp.greet cp.hello
     w_greeting now tick t w = go t.here.session
       where
-        go : (o : Option ClientSession) → W (cp.greeting_by t now tick o)
-        go None = if_both W (cp.must_greet t now tick) _ t (w_idle (cp.with_greeting now t) 0 now.0 bodies.Hello w) w
+        go : (o : Option ClientSession) → (W M c Known Before Done s B out0) (cp.greeting_by t now tick o)
+        go None = if_both (W M c Known Before Done s B out0) (cp.must_greet t now tick) _ t (w_idle (cp.with_greeting now t) 0 now.0 bodies.Hello w) w
         go (Some x) = w
 
     pub w_passes : ((sv : ServerId) (life epoch number op : ℕ) → ((m : Message) → Has m M → Keyed c sv life epoch number m → ⊥) → Before sv life epoch number op) →
-        (now : Stamp) (tick : Bool) (t : Turn) → W t → W (cp.passes now tick t)
+        (now : Stamp) (tick : Bool) (t : Turn) → (W M c Known Before Done s B out0) t → (W M c Known Before Done s B out0) (cp.passes now tick t)
     unfolding cp.passes cp.reductions
     w_passes fresh now tick t w = w_requests fresh now tick _ (w_greeting now tick _ (w_writing now tick _ (w_reduces _ _ (w_operations now t w))))
 
     -- Asks of applications.
-    pub w_take : (op : ℕ) (ask : Ask) → Known op ask → (t : Turn) → W t → W (cs.only_at (server_of ask) (cl.take_ask op ask) t)
+    pub w_take : (op : ℕ) (ask : Ask) → Known op ask → (t : Turn) → (W M c Known Before Done s B out0) t → (W M c Known Before Done s B out0) (cs.only_at (server_of ask) (cl.take_ask op ask) t)
     unfolding cs.only_at cl.take_ask cl.take_by cl.take_sync cl.tell_lost cl.pend
-    w_take op ask k t w = if_case W (cs.is_at (server_of ask) t.here) (cl.take_ask op ask t) t (λ e. by e ask) (λ e. w)
+    w_take op ask k t w = if_case (W M c Known Before Done s B out0) (cs.is_at (server_of ask) t.here) (cl.take_ask op ask t) t (λ e. by e ask) (λ e. w)
       where
         new : Operation
         new = cs.new_operation op ask
@@ -1223,7 +827,7 @@ module _ (M : List Message) (c : ClientId) (Known : ℕ → Ask → Type 0) (Bef
         clash : {b : Bool} → b ≡ true → b ≡ false → ⊥
         clash x y = cc
 
-        pended : cs.is_at (server_of ask) t.here ≡ true → W (cs.keep new t)
+        pended : cs.is_at (server_of ask) t.here ≡ true → (W M c Known Before Done s B out0) (cs.keep new t)
         pended at =
             record {
               base = record {
@@ -1256,6 +860,6 @@ module _ (M : List Message) (c : ClientId) (Known : ℕ → Ask → Type 0) (Bef
             waits o (inr (inl q)) e = absurd (unsent (cs.is_of t.here.server new) (subst (λ z. cs.is_asked t.here.server z ≡ true) q e))
             waits o (inr (inr i)) e = absurd i
 
-        by : cs.is_at (server_of ask) t.here ≡ true → (a : Ask) → W (cl.take_by t op ask a)
-        by at (asks.Sync f) = if_both W (pages.has_lost t.here.lost f.ino) _ _ (w_say (cs.with_lost_rows (pages.untold t.here.lost f.ino) t) _ tt w) (pended at)
+        by : cs.is_at (server_of ask) t.here ≡ true → (a : Ask) → (W M c Known Before Done s B out0) (cl.take_by t op ask a)
+        by at (asks.Sync f) = if_both (W M c Known Before Done s B out0) (pages.has_lost t.here.lost f.ino) _ _ ((w_say M c Known Before Done s B out0) (cs.with_lost_rows (pages.untold t.here.lost f.ino) t) _ tt w) (pended at)
         by at a = pended at

@@ -1,3 +1,4 @@
+pub mod Keeping
 pub mod Client
 pub mod Step
 pub mod Server

@@ -26,7 +26,8 @@ use Rattle.st_lemmas.specs.Lists.{Has}
 use Rattle.st_lemmas.proofs.Tables.{has_append, has_map_in}
 use Rattle.st_laws_pages.specs.Lives.{Once, server_number}
 use Rattle.st_laws_cuts.specs.Cuts.{All_wait, Asks_for, Between, Keyed, Numbers, view}
-use Rattle.st_laws_cuts.proofs.Client.{Sent, Whole, asked_of, w_finish, w_hear, w_lose, w_passes, w_take}
+use Rattle.st_laws_cuts.proofs.Client.{w_finish, w_hear, w_lose, w_passes, w_take}
+use Rattle.st_laws_cuts.proofs.Keeping.{Sent, Whole, asked_of}
 
 -- associations of servers that differ
 abbrev pub Onces : List Association → Type 0

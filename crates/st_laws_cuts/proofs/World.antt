@@ -58,7 +58,7 @@ use Rattle.st_laws_asks.proofs.World.{asks_more}
 use Rattle.st_laws_pages.specs.Lives.{Node_holds}
 use Rattle.st_laws_cuts.specs.Cuts.{Acked, Asks_for, Between, Client_ok, Cut_done, Cuts_hold, Early, Fulfilled, Kept_state, Keyed, Numbers, Server_ok, Waits, Waits_at, asks_of, view}
 use Rattle.st_laws_cuts.specs.Law.{CutsAreLogged}
-use Rattle.st_laws_cuts.proofs.Client.{Sent}
+use Rattle.st_laws_cuts.proofs.Keeping.{Sent}
 use Rattle.st_laws_cuts.proofs.Step.{At, Held, onces, stepped}
 use Rattle.st_laws_cuts.proofs.Server.{Acks, Cut_noted, Good, New, served}
 use Rattle.st_laws_cuts.proofs.Seen.{set_cases, server_not_client, No_answers, none_answered, fates_none, server_none, cut_said, Answer_of, answered_said}
