@@ -30,7 +30,7 @@ def write(name, lines):
 
 
 def draws():
-    lines = [FIRST, "ghost use Rattle.std.specs.Prelude.{◌≡◌};", "ghost use Rattle.st_generate.specs.Generator.{draw, state_after};"]
+    lines = [FIRST, "ghost use Rattle.std.specs.Prelude.{◌≡◌};", "ghost use Rattle.st_rules.specs.Generator.{draw, state_after};"]
     for name, seed in SEEDS.items():
         numbers = Draws(seed)
         clauses = []
@@ -68,7 +68,7 @@ def candidates():
     lines = [
         FIRST,
         "ghost use Rattle.std.specs.Prelude.{◌≡◌, None, Some, codes};",
-        "ghost use Rattle.st_generate.specs.Generator.{candidate};",
+        "ghost use Rattle.st_rules.specs.Generator.{candidate};",
         "ghost use Rattle.st_generate_rows.specs.Words.{line_of};",
     ]
     for name, kind in KINDS.items():

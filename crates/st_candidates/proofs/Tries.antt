@@ -5,7 +5,7 @@ use Rattle.st_messages.specs.declared.event.Event.{Event}
 use Rattle.st_rules.specs.declared.observation.WorldRefusal.{WorldRefusal}
 use Rattle.st_rules.specs.Admissible.{refusal}
 use Rattle.st_rules.specs.World.{World}
-use Rattle.st_generate.specs.Generator.{candidate, candidate_in, choice, fallback, try_first, tried, unless_refused}
+use Rattle.st_rules.specs.Generator.{candidate, candidate_in, choice, fallback, try_first, tried, unless_refused}
 use Rattle.st_candidates.specs.Choice.{IsTry, admitted_of}
 
 -- what a candidate gives

@@ -3,7 +3,7 @@ use Rattle.std.specs.Prelude.{◌≡◌, ℕ, if◌then◌else◌, Option, Some,
 use Rattle.st_messages.specs.declared.event.Event.{Event}
 use Rattle.st_rules.specs.Admissible.{refusal}
 use Rattle.st_rules.specs.World.{World}
-use Rattle.st_generate.specs.Generator.{candidate_in, try_first}
+use Rattle.st_rules.specs.Generator.{candidate_in, try_first}
 
 -- an event, where it is admissible
 abbrev pub admitted : World → Event → Option Event

@@ -1,5 +1,5 @@
 ghost use Rattle.std.specs.Prelude.{◌≡◌, IfOk, Some};
-ghost use Rattle.st_generate.specs.Generator as generator;
+ghost use Rattle.st_rules.specs.Generator as generator;
 
 use crate::draws::Draws;
 use st_base::{PageBytes, Rows};

@@ -1,5 +1,5 @@
 ghost use Rattle.std.specs.Prelude.{◌≡◌, IfOk, is_none, length};
-ghost use Rattle.st_generate.specs.Generator.{chosen};
+ghost use Rattle.st_rules.specs.Generator.{chosen};
 ghost use Rattle.st_rules.specs.Admissible.{refusal};
 ghost use Rattle.st_rules.specs.World.{World};
 ghost use Rattle.st_candidates.specs.Choice.{IsTry, admitted};

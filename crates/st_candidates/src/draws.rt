@@ -1,5 +1,5 @@
 ghost use Rattle.std.specs.Prelude.{◌≡◌, ◌<◌};
-ghost use Rattle.st_generate.specs.Generator as generator;
+ghost use Rattle.st_rules.specs.Generator as generator;
 
 use st_base::{ClientId, FileId, NodeId, PageNo, ServerId};
 use std::marker::Model;

@@ -9,7 +9,7 @@ use Rattle.st_rules.specs.declared.observation.WorldRefusal.TheVariants as refus
 use Rattle.st_rules.specs.Keys.{client}
 use Rattle.st_rules.specs.World.{World, server}
 use Rattle.st_rules.specs.Admissible.{refusal, stands}
-use Rattle.st_generate.specs.Generator as g
+use Rattle.st_rules.specs.Generator as g
 use Rattle.st_generate.proofs.Drawn.{Good, GoodDrawn, candidate_good}
 
 -- what the fallback's test is, by the numbers of clients and servers

@@ -11,7 +11,7 @@ use Rattle.st_rules.specs.Safety.{is_event, is_increment}
 use Rattle.st_schedule.specs.Words.{MOST_NUMBER}
 use Rattle.st_schedule.specs.Grammar.{Fits, IsNode, IsFile, IsEven, IsStep, byte_of}
 use Rattle.st_lemmas.proofs.Tables.{and_both}
-use Rattle.st_generate.specs.Generator as g
+use Rattle.st_rules.specs.Generator as g
 
 -- a draw is below its bound
 below_lt : (n x : ℕ) → 0 < n → g.below n x < n

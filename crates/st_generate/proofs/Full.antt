@@ -20,7 +20,7 @@ use Rattle.st_rules.specs.Server.{ServerNode}
 use Rattle.st_rules.specs.World.{World, ClientSite, fresh_world, message_of, node_of, receiver_of, site_of}
 use Rattle.st_lemmas.proofs.Numbers.{set_length}
 use Rattle.st_lemmas.proofs.Steps.{step_happens}
-use Rattle.st_generate.specs.Generator as g
+use Rattle.st_rules.specs.Generator as g
 use Rattle.st_generate.specs.Law.{SendsFew, SendsFewOn, Sent_is_bounded}
 use Rattle.st_generate.proofs.Sizes.{step_sized}
 

@@ -12,7 +12,7 @@ use Rattle.st_rules.specs.World.{World, fresh_world}
 use Rattle.st_schedule.specs.Words.{MOST_NUMBER}
 use Rattle.st_schedule.specs.Grammar.{Fits}
 use Rattle.st_lemmas.proofs.Tables.{and_both}
-use Rattle.st_generate.specs.Generator as g
+use Rattle.st_rules.specs.Generator as g
 use Rattle.st_generate.specs.Law.{Begins_with_a_head, Has_length, Each_is_admissible, Each_is_in_range, Runs_to_the_end, Is_reported_whole, Head_has_a_line, Each_has_a_line, run_of}
 use Rattle.st_generate.proofs.Sizes.{Sized, step_sized, sized_then}
 use Rattle.st_generate.proofs.Choices.{chosen_stands, chosen_good}

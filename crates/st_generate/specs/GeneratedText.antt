@@ -6,7 +6,7 @@ use Rattle.st_messages.specs.declared.event.Event.{Event}
 use Rattle.st_rules.specs.Report.{ended, report_open}
 use Rattle.st_schedule.specs.Words.{line_of}
 use Rattle.st_schedule.specs.Grammar.{head_words, words, words_after, ask_words, name_words}
-use Rattle.st_generate.specs.Generator.{settings, generate, work, generator_open}
+use Rattle.st_rules.specs.Generator.{settings, generate, work, generator_open}
 
 -- the counts of the head
 abbrev pub counts : Counts

@@ -1,3 +1,2 @@
-pub mod Generator
 pub mod GeneratedText
 pub mod Law

@@ -1,6 +1,6 @@
 // Written by tools/generate_rows.py.
 ghost use Rattle.std.specs.Prelude.{◌≡◌, None, Some, codes};
-ghost use Rattle.st_generate.specs.Generator.{candidate};
+ghost use Rattle.st_rules.specs.Generator.{candidate};
 ghost use Rattle.st_generate_rows.specs.Words.{line_of};
 
 /// A candidate from 5 (kind 0, even advance): after 30 messages and 4 commands, after one of each, and at the start.

@@ -1,7 +1,7 @@
 ghost use Rattle.std.specs.Prelude.{◌≡◌, None, Some, option_map};
 ghost use Rattle.st_rules.specs.declared.observation.WorldRefusal.TheVariants as refusals;
 ghost use Rattle.st_rules.specs.Admissible.{refusal};
-ghost use Rattle.st_generate.specs.Generator.{candidate, choice, fallback, generator_world, drawn_node};
+ghost use Rattle.st_rules.specs.Generator.{candidate, choice, fallback, generator_world, drawn_node};
 
 /// From 0 the first candidate is the start of a node, which is not admissible, since every node runs.
 #[tactic(auto, unfolding(crate::specs::Words::rows_open))]

@@ -1,6 +1,6 @@
 // Written by tools/generate_rows.py.
 ghost use Rattle.std.specs.Prelude.{◌≡◌};
-ghost use Rattle.st_generate.specs.Generator.{draw, state_after};
+ghost use Rattle.st_rules.specs.Generator.{draw, state_after};
 
 /// The first four draws from 0, below 16, 20, 3 and 256, and the state behind them.
 #[tactic(auto, unfolding(crate::specs::Words::rows_open))]

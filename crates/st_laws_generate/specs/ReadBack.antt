@@ -5,7 +5,7 @@ use Rattle.st_schedule.specs.declared.reader.Progress.TheVariants as progress
 use Rattle.st_schedule.specs.Words.{line_of}
 use Rattle.st_schedule.specs.Grammar.{head_words}
 use Rattle.st_schedule.specs.Reader.{MOST_EVENTS, read_line}
-use Rattle.st_generate.specs.Generator.{settings, generate}
+use Rattle.st_rules.specs.Generator.{settings, generate}
 use Rattle.st_generate.specs.GeneratedText.{counts, generate_text}
 use Rattle.st_generate.specs.Law.{HasFew}
 use Rattle.st_tank.specs.Schedule.{Schedule, Whole, lines_of, schedule_of}

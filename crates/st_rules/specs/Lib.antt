@@ -29,3 +29,4 @@ pub mod Report
 pub mod Lines
 pub mod Dating
 pub mod Safety
+pub mod Generator

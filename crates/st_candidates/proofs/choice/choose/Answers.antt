@@ -1,5 +1,5 @@
 use Rattle.std.proofs.Common.{◌≡◌, ◌-◌, arith, subst, ap, ◌∙◌}
-use Rattle.st_generate.specs.Generator.{choice}
+use Rattle.st_rules.specs.Generator.{choice}
 use Rattle.st_candidates.specs.Choice.{IsTry}
 use Rattle.st_candidates.proofs.Tries.{falls_back, goes_on, is_made}
 use Rattle.st_candidates.proofs.choice.choose.Goals as goal

@@ -1,5 +1,5 @@
 use Rattle.std.proofs.Common.{◌≡◌, ◌-◌}
-use Rattle.st_generate.specs.Generator.{choice}
+use Rattle.st_rules.specs.Generator.{choice}
 use Rattle.st_candidates.proofs.choice.choose.Given as goal
 
 abbrev pub invariant-loop-i : goal.invariant-loop-i
