@@ -1,2 +1,4 @@
 pub mod Events
 pub mod Tracked
+pub mod Still
+pub mod Falling
