@@ -32,6 +32,7 @@ use Rattle.st_laws_elders.specs.Elders.{Stood_life}
 use Rattle.st_laws_elders.proofs.Falling.{Own_row, V, after, before_at, came, dirty_any, falls, own_row, stands, there_too}
 use Rattle.st_laws_living.specs.Living.{Open_crashed, Open_write, Over_or_still, Writes_hold, writer}
 use Rattle.st_laws_living.proofs.Still.{still_on}
+use Rattle.st_laws_living.proofs.Tracked.{site_kept}
 
 -- a page is dirty under a lease only
 session_there : (asks : ℕ → Option Ask) (c : ℕ) (w : World) (site : ClientSite) (a : Association) (ino : ℕ) (p : Rattle.st_base.specs.declared.ids.PageNo.PageNo) (d : DirtyPage) → Client_copies asks (client c) w.log (clock_of w (nodes.Client (client c))) site.node.state → Has a site.node.state.associations →
@@ -98,5 +99,9 @@ module _ (asks : ℕ → Option Ask) (k : Config) (count : ℕ) (w : World) (c :
           by end is node at (inl late) = inl (same_clock x.client end.0 late)
           by end is node at (inr s) = still_on k count w v h.all new (writer x tag) row q end is node (new.servers (writer x tag).file.server.0 node at) (came k count w c site there runs h.all after0 (writer x tag).file.server.0 node at) s
 
+  is_there : (n : ℕ) (x : IssuedCommand) (at : BlockAt) (tag : Tag) (bytes : List ℕ) → Open_write w n x at tag bytes → (s : ClientSite) × (site_of v x.client ≡ Some s)
+  unfolding ev.crashes_client ev.marks
+  is_there n x at tag bytes o = let z = h.there n x at tag bytes o in site_kept w.clients c x.client.0 (ev.stopped_site site) z.0 z.1
+
   pub writes_fall : Writes_hold k count v
-  writes_fall = record { all = new; writes = λ n x at tag bytes o row q crash. stand n x at tag bytes (same_open n x at tag bytes o) row q crash }
+  writes_fall = record { all = new; there = λ n x at tag bytes o. is_there n x at tag bytes (same_open n x at tag bytes o); writes = λ n x at tag bytes o row q crash. stand n x at tag bytes (same_open n x at tag bytes o) row q crash }

@@ -2,3 +2,5 @@ pub mod Events
 pub mod Tracked
 pub mod Still
 pub mod Falling
+pub mod Lasting
+pub mod Cases

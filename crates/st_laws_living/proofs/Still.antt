@@ -112,6 +112,7 @@ module _ (k : Config) (count : ℕ) (w : World) (h : Writes_hold k count w) (cou
       (record {
         lives = record { lives = h.all.fates.lives.lives; known = h.all.fates.lives.known };
         counts = counts;
+        there = λ n x at tag bytes o. h.there n x at tag bytes (record { issued = o.issued; command = o.command; is = o.is; what = o.what; unreported = o.unreported });
         open_ = λ n x at tag bytes o. h.writes n x at tag bytes (record { issued = o.issued; command = o.command; is = o.is; what = o.what; unreported = o.unreported });
       }))
 
@@ -124,6 +125,7 @@ module _ (k : Config) (count : ℕ) (w : World) (h : Writes_hold k count w) (cou
   writes_go_on =
       record {
         all = followed.after;
+        there = was.there;
         writes = λ n x at tag bytes o row q crashed.
             let y = was.open_ n x at tag bytes o row q crashed in
             record {

@@ -1,6 +1,6 @@
 -- A write that is not reported, of a life that a crash ended, was so before, through each event at which no client crashes.
 use Rattle.std.proofs.Common.{◌≡◌, ℕ, suc, ◌⊎◌, Bool, true, false, List, [], ◌∷◌, ◌++◌, Option, Some, None, Ok, refl, sym, ap, ◌∙◌, subst, inl, inr, arith}
-use Rattle.std.specs.Prelude.{find, length, map}
+use Rattle.std.specs.Prelude.{find, length, map, pred}
 use Rattle.st_base.specs.declared.ids.ClientId.{ClientId}
 use Rattle.st_base.specs.declared.ids.FileId.{FileId}
 use Rattle.st_base.specs.declared.ids.Life.{Life}
@@ -30,7 +30,9 @@ use Rattle.st_rules.specs.Server.{ServerNode}
 use Rattle.st_rules.specs.World as world
 use Rattle.st_rules.specs.World.{World, ClientSite, Net, Tally, clock_of, ended_of, is_life_of, numbered, site_of, with_numbered}
 use Rattle.st_lemmas.specs.Lists.{Has}
-use Rattle.st_lemmas.proofs.Numbers.{length_more, numbered_own}
+use Rattle.st_lemmas.proofs.Numbers.{length_more, numbered_below, numbered_own}
+use Rattle.st_laws.proofs.Everywhere.{numbered_is}
+use Rattle.st_laws.proofs.Pairs.{length_set}
 use Rattle.st_laws_pages.specs.Fates.{Pending_all}
 use Rattle.st_laws_pages.specs.Lives.{All_known, ended_rows, LivesHold, Node_holds, owner_of, Stepped}
 use Rattle.st_laws_pages.specs.Losses.{Fit}
@@ -77,6 +79,10 @@ uncrashed c s (outputs.Note n ∷ os) row h = note n h (uncrashed c s os row)
 not_both : (b : Bool) → b ≡ false → b ≡ true → ⊥
 not_both true e f = cc
 not_both false e f = cc
+
+-- a client that is there stays there
+pub site_kept : (xs : List ClientSite) (c d : ℕ) (new s : ClientSite) → numbered xs d ≡ Some s → (y : ClientSite) × (numbered (with_numbered c new xs) d ≡ Some y)
+site_kept xs c d new s e = let z = numbered_below xs d s e in numbered_is (with_numbered c new xs) d z.0 (let l = length_set xs (pred c) new in let u = z.1 in omega (arith, l, u))
 
 -- Outputs submit as many commands as they issue.
 one_counts : (c : ClientId) (before : ClientState) (o : Output) (sc : ev.Scene) → length sc.world.commands ≡ length sc.world.disks.commands → length (ev.client_says sc c before o).world.commands ≡ length (ev.client_says sc c before o).world.disks.commands
@@ -141,10 +147,12 @@ module _ (P : LeaseLife → LogOwner → Type 0) where
       record {
         lives = record { lives = h.lives.lives; known = h.lives.known };
         counts = h.counts ∙ sym g.count;
-        open_ = λ k x at tag bytes o.
-            let z = g.opens k o.command o.is o.unreported in
-            h.open_ k x at tag bytes (record { issued = o.issued; command = z.0; is = z.1; what = sym z.3 ∙ o.what; unreported = z.2 });
+        there = λ k x at tag bytes o. h.there k x at tag bytes (was k x at tag bytes o);
+        open_ = λ k x at tag bytes o. h.open_ k x at tag bytes (was k x at tag bytes o);
       }
+    where
+      was : (k : ℕ) (x : IssuedCommand) (at : BlockAt) (tag : Tag) (bytes : List ℕ) → Open_write (Besides w n s d t) k x at tag bytes → Open_write w k x at tag bytes
+      was k x at tag bytes o = let z = g.opens k o.command o.is o.unreported in record { issued = o.issued; command = z.0; is = z.1; what = sym z.3 ∙ o.what; unreported = z.2 }
 
   same_open : (w v : World) → v.commands ≡ w.commands → v.disks ≡ w.disks → (k : ℕ) (x : IssuedCommand) (at : BlockAt) (tag : Tag) (bytes : List ℕ) → Open_write v k x at tag bytes → Open_write w k x at tag bytes
   same_open w v e f k x at tag bytes o = record { issued = ap (λ cs. numbered cs k) (sym e) ∙ o.issued; command = o.command; is = ap (λ (d : Disks). disks.command_at d.commands k) (sym f) ∙ o.is; what = o.what; unreported = o.unreported }
@@ -158,6 +166,7 @@ module _ (P : LeaseLife → LogOwner → Type 0) where
               known = subst (All_known w.clients w.ended w.commands) (sym (owners_more w.log (log.hard_cut f p))) (known_owner w.clients w.ended w.commands (map owner_of w.log) (log.nobody f p) (inr refl) h.lives.known);
             };
         counts = h.counts;
+        there = λ k x at tag bytes o. h.there k x at tag bytes (same_open w (ev.with_log (w.log ++ log.hard_cut f p ∷ []) w) refl refl k x at tag bytes o);
         open_ = λ k x at tag bytes o. h.open_ k x at tag bytes (same_open w (ev.with_log (w.log ++ log.hard_cut f p ∷ []) w) refl refl k x at tag bytes o);
       }
 
@@ -166,6 +175,7 @@ module _ (P : LeaseLife → LogOwner → Type 0) where
       record {
         lives = record { lives = h.lives.lives; known = same_owners w (ev.log_hard w.log x) (owners_hard w.log x) h.lives.known };
         counts = h.counts;
+        there = λ k y at tag bytes o. h.there k y at tag bytes (same_open w (ev.with_log (ev.log_hard w.log x) w) refl refl k y at tag bytes o);
         open_ = λ k y at tag bytes o. h.open_ k y at tag bytes (same_open w (ev.with_log (ev.log_hard w.log x) w) refl refl k y at tag bytes o);
       }
 
@@ -176,8 +186,8 @@ module _ (P : LeaseLife → LogOwner → Type 0) where
       record {
         lives = lives;
         counts = ap length fl.commands ∙ (all_counts c site.node.state t.out (ev.quiet v0) h.counts) ∙ sym (ap (λ (d : Disks). length d.commands) (flushes_disks c t.node.state (world.all_servers u) u));
-        open_ = λ k x at tag bytes o. go k x at tag bytes o.command o.what
-            (record { issued = ap (λ xs. numbered xs k) (sym fl.commands) ∙ o.issued; command = o.command; is = ap (λ (d : Disks). disks.command_at d.commands k) (sym (flushes_disks c t.node.state (world.all_servers u) u)) ∙ o.is; what = o.what; unreported = o.unreported });
+        there = λ k x at tag bytes o. is_there k x at tag bytes (in_u k x at tag bytes o);
+        open_ = λ k x at tag bytes o. go k x at tag bytes (in_u k x at tag bytes o);
       }
     where
       now : Stamp
@@ -219,9 +229,32 @@ module _ (P : LeaseLife → LogOwner → Type 0) where
       at_first : site_of v0 c ≡ Some now_site
       at_first = numbered_own w.clients c.0 now_site old there
 
-      go : (k : ℕ) (x : IssuedCommand) (at : BlockAt) (tag : Tag) (bytes : List ℕ) (d : DiskCommand) → d.what ≡ commands.Write at tag bytes → Open_write u k x at tag bytes → Of_crashed P v (writer x tag)
-      go k x at tag bytes d wh o =
-          by (all_say c site.node.state now_site (length w.servers) t.out (ev.quiet v0) (record { own = at_first; counts = h.counts; servers = refl }) k x o.command (o.issued, o.is))
+      in_u : (k : ℕ) (x : IssuedCommand) (at : BlockAt) (tag : Tag) (bytes : List ℕ) → Open_write v k x at tag bytes → Open_write u k x at tag bytes
+      in_u k x at tag bytes o =
+          record {
+            issued = ap (λ xs. numbered xs k) (sym fl.commands) ∙ o.issued;
+            command = o.command;
+            is = ap (λ (d : Disks). disks.command_at d.commands k) (sym (flushes_disks c t.node.state (world.all_servers u) u)) ∙ o.is;
+            what = o.what;
+            unreported = o.unreported;
+          }
+
+      from : (k : ℕ) (x : IssuedCommand) (at : BlockAt) (tag : Tag) (bytes : List ℕ) (o : Open_write u k x at tag bytes) →
+          ((numbered v0.commands k ≡ Some x) × (disks.command_at v0.disks.commands k ≡ Some o.command)) ⊎ Is_new c now_site (length w.servers) t.out x o.command
+      from k x at tag bytes o = all_say c site.node.state now_site (length w.servers) t.out (ev.quiet v0) (record { own = at_first; counts = h.counts; servers = refl }) k x o.command (o.issued, o.is)
+
+      is_there : (k : ℕ) (x : IssuedCommand) (at : BlockAt) (tag : Tag) (bytes : List ℕ) → Open_write u k x at tag bytes → (s : ClientSite) × (site_of v x.client ≡ Some s)
+      is_there k x at tag bytes o = by (from k x at tag bytes o)
+        where
+          by : ((numbered v0.commands k ≡ Some x) × (disks.command_at v0.disks.commands k ≡ Some o.command)) ⊎ Is_new c now_site (length w.servers) t.out x o.command → (s : ClientSite) × (site_of v x.client ≡ Some s)
+          by (inl i) =
+              let z = h.there k x at tag bytes (record { issued = i.0; command = o.command; is = i.1; what = o.what; unreported = o.unreported }) in
+              let y = site_kept w.clients c.0 x.client.0 now_site z.0 z.1 in
+              (y.0, ap (λ xs. numbered xs x.client.0) clients ∙ y.1)
+          by (inr n) = (now_site, ap (λ (z : ClientId). site_of v z) n.client ∙ own)
+
+      go : (k : ℕ) (x : IssuedCommand) (at : BlockAt) (tag : Tag) (bytes : List ℕ) → Open_write u k x at tag bytes → Of_crashed P v (writer x tag)
+      go k x at tag bytes o = by (from k x at tag bytes o)
         where
           by : ((numbered v0.commands k ≡ Some x) × (disks.command_at v0.disks.commands k ≡ Some o.command)) ⊎ Is_new c now_site (length w.servers) t.out x o.command → Of_crashed P v (writer x tag)
           by (inl i) =
@@ -231,11 +264,11 @@ module _ (P : LeaseLife → LogOwner → Type 0) where
 
   advanced : (w : World) (steps : List ℕ) → Open_tracked P w → Open_tracked P (ev.advances w steps).world
   unfolding ev.advances ev.marks
-  advanced w steps h = record { lives = advance_lives w steps h.lives; counts = h.counts; open_ = λ k x at tag bytes o. h.open_ k x at tag bytes (same_open w (ev.advances w steps).world refl refl k x at tag bytes o) }
+  advanced w steps h = record { lives = advance_lives w steps h.lives; counts = h.counts; there = λ k x at tag bytes o. h.there k x at tag bytes (same_open w (ev.advances w steps).world refl refl k x at tag bytes o); open_ = λ k x at tag bytes o. h.open_ k x at tag bytes (same_open w (ev.advances w steps).world refl refl k x at tag bytes o) }
 
   started : (w : World) (c : ClientId) (site : ClientSite) → site_of w c ≡ Some site → site.node.running ≡ false → Open_tracked P w → Open_tracked P (ev.starts_client w c (Some site))
   unfolding ev.starts_client
-  started w c site there r h = record { lives = start_lives w c site there r h.lives; counts = h.counts; open_ = λ k x at tag bytes o. h.open_ k x at tag bytes (same_open w (ev.starts_client w c (Some site)) refl refl k x at tag bytes o) }
+  started w c site there r h = record { lives = start_lives w c site there r h.lives; counts = h.counts; there = λ k x at tag bytes o. (let z = h.there k x at tag bytes (same_open w (ev.starts_client w c (Some site)) refl refl k x at tag bytes o) in site_kept w.clients c.0 x.client.0 (ev.started_site site) z.0 z.1); open_ = λ k x at tag bytes o. h.open_ k x at tag bytes (same_open w (ev.starts_client w c (Some site)) refl refl k x at tag bytes o) }
 
   pub tracked : (w : World) (e : Event) → ((c : ClientId) → e ≡ events.Crash (nodes.Client c) → ⊥) → adm.refusal w e ≡ None → Open_tracked P w → Open_tracked P (ev.happens w e).world
   tracked w e never r h = each_event (Open_tracked P) (record { besides = besides; cut = cut; hard = hard; client = stepped; advance = advanced; start = started }) w e never r h

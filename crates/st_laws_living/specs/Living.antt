@@ -13,7 +13,7 @@ use Rattle.st_rules.specs.declared.world.LeaseLife.{LeaseLife}
 use Rattle.st_rules.specs.Disks as disks
 use Rattle.st_rules.specs.FlatLog.{owner}
 use Rattle.st_rules.specs.Server.{ServerNode}
-use Rattle.st_rules.specs.World.{World, clock_of, node_of, numbered, server}
+use Rattle.st_rules.specs.World.{World, ClientSite, clock_of, node_of, numbered, server, site_of}
 use Rattle.st_assoc.specs.Assoc.{Config}
 use Rattle.st_laws_pages.specs.Lives.{LivesHold}
 use Rattle.st_laws.specs.World.{AllStand}
@@ -36,10 +36,17 @@ abbrev pub Open_crashed : (LeaseLife → LogOwner → Type 0) → World → Type
 Open_crashed P w =
     (k : ℕ) (x : IssuedCommand) (at : BlockAt) (tag : Tag) (bytes : List ℕ) → Open_write w k x at tag bytes → Of_crashed P w (writer x tag)
 
+-- and its client is there
+abbrev pub Open_there : World → Type 0
+Open_there w =
+    (k : ℕ) (x : IssuedCommand) (at : BlockAt) (tag : Tag) (bytes : List ℕ) → Open_write w k x at tag bytes →
+    (site : ClientSite) × (site_of w x.client ≡ Some site)
+
 -- and the commands of the disks are the world's
 pub record Open_tracked (P : LeaseLife → LogOwner → Type 0) (w : World) : Type 0 where
   pub lives : LivesHold w
   pub counts : length w.commands ≡ length w.disks.commands
+  pub there : Open_there w
   pub open_ : Open_crashed P w
 
 -- the lease of a life that ended is over, or the life stands still with an exclusive lock on the file
@@ -52,4 +59,5 @@ pub record Over_or_still (k : Config) (count : ℕ) (w : World) (all : AllStand 
 -- So it is of each write that is not reported, of a life that a crash ended.
 pub record Writes_hold (k : Config) (count : ℕ) (w : World) : Type 0 where
   pub all : AllStand k count w
+  pub there : Open_there w
   pub writes : Open_crashed (Over_or_still k count w all) w
