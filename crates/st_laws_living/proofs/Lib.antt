@@ -4,3 +4,5 @@ pub mod Still
 pub mod Falling
 pub mod Lasting
 pub mod Cases
+pub mod Growing
+pub mod Alone
