@@ -1,0 +1,2 @@
+//! Writes that clients submit, and what stands on the disks in every run.
+#![tactic(auto)]
