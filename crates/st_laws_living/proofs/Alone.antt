@@ -126,13 +126,13 @@ module _ (w : World) (c : ℕ) (old site : ClientSite) (input : ClientInput) (th
   clients : v.clients ≡ with_numbered c mine w.clients
   clients = fl.clients ∙ said.clients
 
-  own : site_of v (client c) ≡ Some mine
+  pub own : site_of v (client c) ≡ Some mine
   own = ap (λ z. numbered z c) clients ∙ numbered_own w.clients c mine old there
 
-  first : site_of sc0.world (client c) ≡ Some mine
+  pub first : site_of sc0.world (client c) ≡ Some mine
   first = numbered_own w.clients c mine old there
 
-  clock : clock_of v (nodes.Client (client c)) ≡ now
+  pub clock : clock_of v (nodes.Client (client c)) ≡ now
   clock = ap (λ ts. Rattle.std.specs.Prelude.unwrap_or (numbered ts c) (world.stamp 0)) (fl.clocks ∙ said.clocks)
 
   on : Steps_on w v c old mine
@@ -188,7 +188,7 @@ module _ (w : World) (c : ℕ) (old site : ClientSite) (input : ClientInput) (th
             (l.listed.ino ∙ ap (λ (q : FileId). q.ino) ef ∙ sym m.listed.ino) (l.listed.page ∙ ep ∙ sym m.listed.page)
 
     -- a life at a server behind the step
-    life_there : (b : Association) → Has b mine.node.state.associations → (s : ServerId) → s ≡ b.server → life_with mine.node.state s ≡ b.life
+    pub life_there : (b : Association) → Has b mine.node.state.associations → (s : ServerId) → s ≡ b.server → life_with mine.node.state s ≡ b.life
     life_there b here s e = ap (λ o. world.life_at o) (ap (λ z. find (is_at z) mine.node.state.associations) e ∙ own_found mine.node.state.associations once_after b here)
 
     module _ (pre rest : List Output) (number : ℕ) (at to : BlockAt) (tag : Tag) (bytes : List ℕ) (parts : pre ++ write_said number at to tag bytes ∷ rest ≡ t.out) where
@@ -210,22 +210,22 @@ module _ (w : World) (c : ℕ) (old site : ClientSite) (input : ClientInput) (th
       its : Has (write_said number at to tag bytes) t.out
       its = in_out (write_said number at to tag bytes) (among (write_said number at to tag bytes) pre)
 
-      listed : Listed_at mine.node.state.associations number tag
+      pub listed : Listed_at mine.node.state.associations number tag
       listed = keeps.said number at to tag bytes its
 
-      abbrev b : Association
+      abbrev pub b : Association
       b = listed.0
 
-      here : Has b mine.node.state.associations
+      pub here : Has b mine.node.state.associations
       here = listed.1
 
-      on_b : Is_listed b number tag
+      pub on_b : Is_listed b number tag
       on_b = listed.2
 
-      g1 : Grows sc0.world w1
+      pub g1 : Grows sc0.world w1
       g1 = grows_all (client c) site.node.state pre sc0
 
-      own1 : site_of w1 (client c) ≡ Some mine
+      pub own1 : site_of w1 (client c) ≡ Some mine
       own1 = ap (λ z. numbered z c) g1.clients ∙ first
 
       -- the command
@@ -244,12 +244,12 @@ module _ (w : World) (c : ℕ) (old site : ClientSite) (input : ClientInput) (th
       x_listed : Listed_since mine.starts b x tag
       x_listed = record { since = refl; listed = on_b }
 
-      lasts : Lasts mine.node.state.config.lease (clock_of v (nodes.Client (client c))).0 b.session
+      pub lasts : Lasts mine.node.state.config.lease (clock_of v (nodes.Client (client c))).0 b.session
       lasts =
           subst (λ (s : Stamp). Lasts mine.node.state.config.lease s.0 b.session) (sym clock)
           (subst (λ (z : Rattle.st_base.specs.declared.config.Config.Config). Lasts z.lease now.0 b.session) (ap (λ (n : cl.ClientNode). n.state.config) (sym same) ∙ st.config) (step_lasts (client c) site.node.state now input fit b here))
 
-      mode : 2 ≤ (held_in b.session tag.file.ino).mode
+      pub mode : 2 ≤ (held_in b.session tag.file.ino).mode
       mode =
           let z = (copies c mine own).runs runs in
           let s : Stands_at (client c) v.log b = (while_at _ _ (client c) v.log mine.node.state.associations b z.copies here).lasting lasts in

@@ -55,12 +55,12 @@ use Rattle.st_laws_submits.specs.Submits.{Each_fine, Fine_one, Fine_submit, Fine
 use Rattle.st_laws_submits.proofs.Last.{Adds_one, Logs, change_apart as last_elsewhere, change_last, ends_last}
 
 -- More outputs.
-fine_last : (c : ClientId) (before : ClientState) (os : List Output) (o : Output) (sc : Scene) → Each_fine c before sc os → Fine_one (After c before sc os).world c o → Each_fine c before sc (os ++ o ∷ [])
+pub fine_last : (c : ClientId) (before : ClientState) (os : List Output) (o : Output) (sc : Scene) → Each_fine c before sc os → Fine_one (After c before sc os).world c o → Each_fine c before sc (os ++ o ∷ [])
 unfolding client_says_all
 fine_last c before [] o sc h q = record { one = q; rest = record {} }
 fine_last c before (x ∷ os) o sc h q = record { one = h.one; rest = fine_last c before os o (client_says sc c before x) h.rest q }
 
-fine_both : (c : ClientId) (before : ClientState) (os ps : List Output) (sc : Scene) → Each_fine c before sc os → Each_fine c before (After c before sc os) ps → Each_fine c before sc (os ++ ps)
+pub fine_both : (c : ClientId) (before : ClientState) (os ps : List Output) (sc : Scene) → Each_fine c before sc os → Each_fine c before (After c before sc os) ps → Each_fine c before sc (os ++ ps)
 unfolding client_says_all
 fine_both c before [] ps sc h q = q
 fine_both c before (x ∷ os) ps sc h q = record { one = h.one; rest = fine_both c before os ps (client_says sc c before x) h.rest q }
@@ -196,8 +196,8 @@ module _ (size : ℕ) (c : ClientId) (before : ClientState) (sc : Scene) (site :
   changes_in t _ (Then _ u v ch rest) others n live h r =
       changes_in u v rest others (others_next t.here.server u.here.server others x.server n) (right_next t.here u.here x.server x.life live) h
       (record {
-        here = record { latest = change_latest c now t u ch cs ds (es t.out) (es u.out) z r.here.latest; last = change_last c now t u ch (es t.out) (es u.out) l r.here.last };
-        apart = λ b i. record { latest = latest_elsewhere c now t u ch cs ds (es t.out) (es u.out) b (n b i) z (r.apart b i).latest; last = last_elsewhere c now t u ch (es t.out) (es u.out) b (n b i) l (r.apart b i).last };
+        here = record { latest = change_latest c now t u ch (After c before sc t.out).world.commands (After c before sc u.out).world.commands (es t.out) (es u.out) z r.here.latest; last = change_last c now t u ch (es t.out) (es u.out) l r.here.last };
+        apart = λ b i. record { latest = latest_elsewhere c now t u ch (After c before sc t.out).world.commands (After c before sc u.out).world.commands (es t.out) (es u.out) b (n b i) z (r.apart b i).latest; last = last_elsewhere c now t u ch (es t.out) (es u.out) b (n b i) l (r.apart b i).last };
         said = change_said t u ch live placed r.here r.said;
       })
     where
@@ -210,13 +210,7 @@ module _ (size : ℕ) (c : ClientId) (before : ClientState) (sc : Scene) (site :
       placed : Placed size u.out
       placed = placed_grown size u.out v.out (record { more = y.more; out = y.out }) h
 
-      abbrev cs : List Rattle.st_rules.specs.declared.world.IssuedCommand.IssuedCommand
-      cs = (After c before sc t.out).world.commands
-
-      abbrev ds : List Rattle.st_rules.specs.declared.world.IssuedCommand.IssuedCommand
-      ds = (After c before sc u.out).world.commands
-
-      z : Adds c now t u ch cs ds (es t.out) (es u.out)
+      z : Adds c now t u ch (After c before sc t.out).world.commands (After c before sc u.out).world.commands (es t.out) (es u.out)
       z = change_adds size c before sc site there count now t u ch live placed
 
       l : Logs c now t u ch (es t.out) (es u.out)

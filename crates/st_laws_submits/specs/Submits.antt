@@ -7,6 +7,7 @@ use Rattle.st_base.specs.declared.disk.Command.TheVariants as commands
 use Rattle.st_base.specs.declared.disk.Tag.{Tag}
 use Rattle.st_base.specs.declared.ids.ClientId.{ClientId}
 use Rattle.st_base.specs.declared.ids.Life.{Life}
+use Rattle.st_base.specs.declared.ids.NodeId.TheVariants as nodes
 use Rattle.st_base.specs.declared.ids.PageNo.{PageNo}
 use Rattle.st_messages.specs.declared.output.Output.{Output}
 use Rattle.st_messages.specs.declared.output.Output.TheVariants as outputs
@@ -16,9 +17,13 @@ use Rattle.st_rules.specs.ClientPages as pages
 use Rattle.st_rules.specs.ClientState.{Association, ClientState}
 use Rattle.st_rules.specs.Events.{Scene, client_says, latest}
 use Rattle.st_rules.specs.FlatLog.{owner}
-use Rattle.st_rules.specs.World.{World, ClientSite, life_with, server_of_disk, site_of}
+use Rattle.st_rules.specs.Keys.{client}
+use Rattle.st_rules.specs.World.{World, ClientSite, clock_of, life_with, server_of_disk, site_of}
+use Rattle.st_lemmas.specs.Lists.{Has}
+use Rattle.st_laws_client.specs.Shown.{Lasts}
 use Rattle.st_laws_pages.specs.Flush.{file_at}
 use Rattle.st_laws_pages.specs.Folds.{Last_is, owner_at}
+use Rattle.st_laws_reads.specs.Law.{Running}
 
 -- of a write of a life
 pub record Fine_write (w : World) (c : ClientId) (life : Life) (at to : BlockAt) (tag : Tag) : Type 0 where
@@ -47,3 +52,9 @@ abbrev pub Latest_last : ClientId → List LogEntry → Association → Type 0
 Latest_last c es a =
     (ino : ℕ) (p : PageNo) (d : DirtyPage) → pages.dirty_of a.store.pages ino p ≡ Some d →
     Last_is 1 (latest es c (file_at a ino) p) (file_at a ino) p es
+
+-- at all clients that run, where their leases last
+abbrev pub Last_in : World → List LogEntry → Type 0
+Last_in w es =
+    (c : ℕ) (site : ClientSite) → Running w c site → (a : Association) → Has a site.node.state.associations →
+    Lasts site.node.state.config.lease (clock_of w (nodes.Client (client c))).0 a.session → Latest_last (client c) es a
