@@ -6,3 +6,5 @@ pub mod Others
 pub mod Owing
 pub mod Taking
 pub mod Client
+pub mod Cutting
+pub mod Run

@@ -160,7 +160,7 @@ last_fewer w v es fs cs ts r h c site run a i l ino p d e =
     earlier None l = tt
     earlier (Some s) l = let z = ts c in omega (arith, l, z)
 
-last_still : (w v : World) → v.clients ≡ w.clients → v.clocks ≡ w.clocks → v.log ≡ w.log → Last_in w w.log → Last_in v v.log
+pub last_still : (w v : World) → v.clients ≡ w.clients → v.clocks ≡ w.clocks → v.log ≡ w.log → Last_in w w.log → Last_in v v.log
 last_still w v cs ts ls h = subst (Last_in v) (sym ls) (last_fewer w v w.log w.log cs (λ c. subst (λ z. (clock_in w.clocks (client c)).0 ≤ (clock_in z (client c)).0) (sym ts) (omega arith)) (fewer_same w.log) h)
 
 -- A cut.

@@ -125,29 +125,43 @@ taken_in w e x p q = cc q
 abbrev pub Gives : Taking → Type 0
 Gives x = Node_owes x.world x.client x.site (cl.node_step x.site.node (clock_of x.world (nodes.Client x.client)) x.input)
 
-module _ (w : World) (at_servers : (s : ServerId) (input : ServerInput) → At_server w s input (node_of w s)) where
+-- of a server, by the event
+abbrev pub Receiver_gives : World → Message → NodeId → Type 0
+Receiver_gives w m (nodes.Client c) = Unit {0}
+Receiver_gives w m (nodes.Server s) = At_server w s (serving.Control m) (node_of w s)
+
+abbrev pub Message_gives : World → Option SentMessage → Type 0
+Message_gives w None = Unit {0}
+Message_gives w (Some m) = Receiver_gives w m.message (receiver_of m)
+
+abbrev pub Server_gives : World → Event → Type 0
+Server_gives w (events.Tick (nodes.Server s)) = At_server w s serving.Tick (node_of w s)
+Server_gives w (events.Deliver n) = Message_gives w (message_of w n)
+Server_gives w e = Unit {0}
+
+module _ (w : World) where
   client_gives : (v : World) (c : ClientId) (input : ClientInput) (o : Option ClientSite) → ((x : Taking) → taking v c input o ≡ Some x → Gives x) → At_client v c input o
   client_gives v c input None f = tt
   client_gives v c input (Some site) f = f (record { world = v; client = c; input = input; site = site }) refl
 
-  pub owed_of : (e : Event) → ((x : Taking) → taken w e ≡ Some x → Gives x) → Owed w e
-  owed_of (events.Tick (nodes.Client c)) f = client_gives w c inputs.Tick (site_of w c) f
-  owed_of (events.Tick (nodes.Server s)) f = at_servers s serving.Tick
-  owed_of (events.App c ask) f = go (site_of w c) f
+  pub owed_of : (e : Event) → ((x : Taking) → taken w e ≡ Some x → Gives x) → Server_gives w e → Owed w e
+  owed_of (events.Tick (nodes.Client c)) f g = client_gives w c inputs.Tick (site_of w c) f
+  owed_of (events.Tick (nodes.Server s)) f g = g
+  owed_of (events.App c ask) f g = go (site_of w c) f
     where
       go : (o : Option ClientSite) → ((x : Taking) → asking w c ask o ≡ Some x → Gives x) → At_ask w c ask o
       go None f = tt
       go (Some site) f = f (record { world = w; client = c; input = inputs.App (site.asks + 1) ask; site = ev.asked_once_more site }) refl
-  owed_of (events.Deliver n) f = go (message_of w n) f
+  owed_of (events.Deliver n) f g = go (message_of w n) f g
     where
-      to : (m : Message) (r : NodeId) → ((x : Taking) → hearing w m r ≡ Some x → Gives x) → At_node w m r
-      to m (nodes.Client c) f = client_gives w c (inputs.Control m) (site_of w c) f
-      to m (nodes.Server s) f = at_servers s (serving.Control m)
+      to : (m : Message) (r : NodeId) → ((x : Taking) → hearing w m r ≡ Some x → Gives x) → Receiver_gives w m r → At_node w m r
+      to m (nodes.Client c) f g = client_gives w c (inputs.Control m) (site_of w c) f
+      to m (nodes.Server s) f g = g
 
-      go : (o : Option SentMessage) → ((x : Taking) → hearing_of w o ≡ Some x → Gives x) → At_delivery w o
-      go None f = tt
-      go (Some m) f = to m.message (receiver_of m) f
-  owed_of (events.Report n ok) f = go (issued_of w n) f
+      go : (o : Option SentMessage) → ((x : Taking) → hearing_of w o ≡ Some x → Gives x) → Message_gives w o → At_delivery w o
+      go None f g = tt
+      go (Some m) f g = to m.message (receiver_of m) f g
+  owed_of (events.Report n ok) f g = go (issued_of w n) f
     where
       at : (y : IssuedCommand) (site : ClientSite) (b : Bool) →
           ((x : Taking) → (if b then taking (ev.with_disks (ev.disks_after w.disks (disks.done w.disks n ok)) w) y.client (ev.end_told (ev.with_disks (ev.disks_after w.disks (disks.done w.disks n ok)) w) n ok y) (Some site) else None) ≡ Some x → Gives x) → b ≡ true →
@@ -162,10 +176,10 @@ module _ (w : World) (at_servers : (s : ServerId) (input : ServerInput) → At_s
       go : (o : Option IssuedCommand) → ((x : Taking) → told_of (ev.with_disks (ev.disks_after w.disks (disks.done w.disks n ok)) w) n ok o ≡ Some x → Gives x) → At_report (ev.with_disks (ev.disks_after w.disks (disks.done w.disks n ok)) w) n ok o
       go None f = tt
       go (Some y) f = at_site y (site_of w y.client) f
-  owed_of (events.Lose n) f = tt
-  owed_of (events.Cut x y) f = tt
-  owed_of (events.Heal x y) f = tt
-  owed_of (events.Advance steps) f = tt
-  owed_of (events.Effect n) f = tt
-  owed_of (events.Crash n) f = tt
-  owed_of (events.Start n) f = tt
+  owed_of (events.Lose n) f g = tt
+  owed_of (events.Cut x y) f g = tt
+  owed_of (events.Heal x y) f g = tt
+  owed_of (events.Advance steps) f g = tt
+  owed_of (events.Effect n) f g = tt
+  owed_of (events.Crash n) f g = tt
+  owed_of (events.Start n) f g = tt

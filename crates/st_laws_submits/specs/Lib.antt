@@ -1,2 +1,3 @@
 pub mod Submits
 pub mod Lies
+pub mod Left
