@@ -8,3 +8,4 @@ pub mod Taking
 pub mod Client
 pub mod Cutting
 pub mod Run
+pub mod Zeros
