@@ -21,7 +21,7 @@ use Rattle.st_rules.specs.Events as ev
 use Rattle.st_rules.specs.Events.{Scene, counted, happens, world_step}
 use Rattle.st_rules.specs.History.{Traced, traced, traced_after}
 use Rattle.st_rules.specs.Safety as safety
-use Rattle.st_rules.specs.Safety.{Promise, Step, Throughout, is_event, step, steps}
+use Rattle.st_rules.specs.Safety.{Promise, ReadsReturnLastWrites, Step, Throughout, is_event, step, steps}
 use Rattle.st_rules.specs.World as world
 use Rattle.st_rules.specs.World.{World, ClientSite, fresh_world, numbered, site_of, site_runs}
 use Rattle.st_assoc.specs.Assoc.{Config}
@@ -65,6 +65,8 @@ use Rattle.st_laws_living.specs.Living.{Writes_hold}
 use Rattle.st_laws_living.proofs.Falling.{writes_fall}
 use Rattle.st_laws_living.proofs.Still.{writes_go_on}
 use Rattle.st_laws_submits.specs.Left.{In_runs_left_too, Pages_left}
+use Rattle.st_laws_submits.specs.Rest.{In_runs_of_rest, Is_rest, Taken_rest}
+use Rattle.st_laws_submits.proofs.Zeros.{left as left_of, left_stopped}
 use Rattle.st_laws_submits.specs.Submits.{Last_in}
 use Rattle.st_laws_submits.proofs.Client as client_step
 use Rattle.st_laws_submits.proofs.Cutting.{server_gives}
@@ -260,6 +262,36 @@ run promise pick k count (e ∷ es) all past t s o d d2 = go (world_step t.world
         let z = next past k count t s e sc (and_true (is_event count e) (list_all (is_event count) es) all).0 q o.0 d.0 d2.0 in
         (pick k count past t e sc z.0 z.1, f (past ++ step t e sc ∷ []) (traced_after e t sc) z.1 o.1 d.1 d2.1)
 
+-- The same, where what is left of an input follows from what is owed at the step.
+module _ (past : List Step) (k : Config) (count : ℕ) (t : Traced) (s : Pages_stand k count past t) (e : Event) (sc : Scene) (took : world_step t.world e ≡ Ok sc) where
+  of_taken : (o : Option Taking) → taken (counted t.world) e ≡ o → Taken_rest o → Taken_left o
+  of_taken None q r = tt
+  of_taken (Some x) q r = go x.site.node.running refl
+    where
+      tk : Takes (counted t.world) sc x
+      tk = subst (λ (z : Scene). Takes (counted t.world) z x) (sym (step_happens t.world e sc took).1) (takes_event (counted t.world) e x q)
+
+      go : (b : Bool) → x.site.node.running ≡ b → Taken_left (Some x)
+      go true runs = left_of (known past) k count t.world sc x s.stood.all s.stood.copies (alone past k count t.world s.elders s.stood.stand.both.flush) s.pages tk runs x.input refl r
+      go false stops = left_stopped t.world sc x k count s.stood.all tk stops x.input refl r
+
+  pub from_rest : Is_rest past (step t e sc) → Is_left past (step t e sc)
+  from_rest r = record { taken = of_taken (taken (counted t.world) e) refl r.taken; cuts = r.cuts }
+
+run_of_rest : (promise : Promise) → ((k : Config) (count : ℕ) (past : List Step) (t : Traced) (e : Event) (sc : Scene) → Kept past (step t e sc) → Pages_stand k count (past ++ step t e sc ∷ []) (traced_after e t sc) → promise past (step t e sc)) → (k : Config) (count : ℕ) (es : List Event) → list_all (is_event count) es ≡ true →
+    (past : List Step) (t : Traced) → Pages_stand k count past t → Throughout Places_after past (steps es t) → Throughout Is_rest past (steps es t) → Throughout promise past (steps es t)
+unfolding steps safety.steps_on Throughout
+run_of_rest promise pick k count [] all past t s o d = tt
+run_of_rest promise pick k count (e ∷ es) all past t s o d = go (world_step t.world e) refl o d (λ past t. run_of_rest promise pick k count es (and_true (is_event count e) (list_all (is_event count) es) all).1 past t)
+  where
+    go : (r : Result Scene WorldRefusal) → world_step t.world e ≡ r → Throughout Places_after past (safety.steps_on (steps es) t e r) → Throughout Is_rest past (safety.steps_on (steps es) t e r) →
+        ((past : List Step) (t : Traced) → Pages_stand k count past t → Throughout Places_after past (steps es t) → Throughout Is_rest past (steps es t) → Throughout promise past (steps es t)) →
+        Throughout promise past (safety.steps_on (steps es) t e r)
+    go (Err r) q o d f = tt
+    go (Ok sc) q o d f =
+        let z = next past k count t s e sc (and_true (is_event count e) (list_all (is_event count) es) all).0 q o.0 (from_rest past k count t s e sc q d.0) d.0.pages in
+        (pick k count past t e sc z.0 z.1, f (past ++ step t e sc ∷ []) (traced_after e t sc) z.1 o.1 d.1)
+
 -- At the start nothing is submitted and nothing is logged.
 module _ (k : base.Config) (clients servers d b form : ℕ) where
   fresh_writes : safety.IsHead k clients servers d b form → Writes_hold (terms_of k) (clients + servers) (fresh_world k clients servers d b form)
@@ -291,3 +323,13 @@ in_run promise pick k clients servers d b form es head events left left_too =
 
 pub pages_hold : In_runs_left_too Pages_after
 pages_hold = in_run Pages_after (λ k count past t e sc kept z. z.pages)
+
+of_rest : (promise : Promise) → ((k : Config) (count : ℕ) (past : List Step) (t : Traced) (e : Event) (sc : Scene) → Kept past (step t e sc) → Pages_stand k count (past ++ step t e sc ∷ []) (traced_after e t sc) → promise past (step t e sc)) → In_runs_of_rest promise
+of_rest promise pick k clients servers d b form es head events rest =
+    run_of_rest promise pick (terms_of k) (clients + servers) es events [] (traced (fresh_world k clients servers d b form)) (begins k clients servers d b form head) (places_law k clients servers d b form es head) rest
+
+pub pages_of_rest : In_runs_of_rest Pages_after
+pages_of_rest = of_rest Pages_after (λ k count past t e sc kept z. z.pages)
+
+pub reads_of_rest : In_runs_of_rest ReadsReturnLastWrites
+reads_of_rest = of_rest ReadsReturnLastWrites (λ k count past t e sc kept z. kept.reads)

@@ -10,6 +10,7 @@ use Rattle.st_messages.specs.declared.ask.Ask.{Ask}
 use Rattle.st_messages.specs.declared.message.Body.{Body}
 use Rattle.st_messages.specs.declared.message.Body.TheVariants as bodies
 use Rattle.st_messages.specs.declared.message.Header.{Header}
+use Rattle.st_messages.specs.declared.message.Message.{Message}
 use Rattle.st_rules.specs.declared.client.ClientInput.{ClientInput}
 use Rattle.st_rules.specs.declared.client.ClientInput.TheVariants as inputs
 use Rattle.st_rules.specs.declared.client.HeldLock.{HeldLock}
@@ -75,6 +76,11 @@ unknown_clean a f ino p e = go (pages.dirty_of a.store.pages ino p) refl
 asked_fresh : (a : Association) (s : ClientSession) (q : Request) (ino : ℕ) (g : GrantNo) (p : PageNo) → Fit a → a.session ≡ Some s → s.requests.asked ≡ Some q → q.body ≡ bodies.Map ino g p → pages.known_of a.store.extents ino p ≡ None
 asked_fresh a s q ino g p f e asked body = (subst (Session_fresh a.store) e f.fresh) (ino, p) (ap map_asked asked ∙ ap map_in body)
 
+-- what is left of each server is left of all
+all_left : (es : List LogEntry) (m : Message) (xs : List Association) → ((a : Association) → Has a xs → Left_at es (inputs.Control m) a) → All_left es (inputs.Control m) xs
+all_left es m [] f = record {}
+all_left es m (a ∷ xs) f = record { one = f a (inl refl); rest = all_left es m xs (λ y i. f y (inr i)) }
+
 module _ (asks : ℕ → ℕ → Option Ask) (k : Config) (count : ℕ) (w : World) (sc : Scene) (x : Taking) (all : AllStand k count w) (copies : CopiesHold asks w) (elders : Elders_alone w) (holds : PagesHold w) (tk : Takes (counted w) sc x) (runs : x.site.node.running ≡ true) where
   abbrev c : ℕ
   c = x.client.0
@@ -133,14 +139,32 @@ module _ (asks : ℕ → ℕ → Option Ask) (k : Config) (count : ℕ) (w : Wor
   replies h body maps a i s session from life epoch =
       record { zeros = λ r ino g p asked is_map said counts current. zeros_at a i s session r ino g p asked is_map current (maps a i s r ino g p session from life epoch asked is_map said counts current) }
 
-  all_left : (m : Rattle.st_messages.specs.declared.message.Message.Message) (xs : List Association) → ((a : Association) → Has a xs → Left_at x.world.log (inputs.Control m) a) → All_left x.world.log (inputs.Control m) xs
-  all_left m [] f = record {}
-  all_left m (a ∷ xs) f = record { one = f a (inl refl); rest = all_left m xs (λ y i. f y (inr i)) }
-
   pub left : (input : ClientInput) → x.input ≡ input → Input_rest x input → Input_owed x input
   left inputs.Tick e r = tt
   left (inputs.App op ask) e r = tt
   left (inputs.Done number result) e r = r
   left (inputs.Control m) e r =
       subst (λ i. All_left x.world.log i (losses (client_turn x.site.node.state []) (now_at x)).state.associations) (sym e)
-      (all_left m (losses (client_turn x.site.node.state []) (now_at x)).state.associations (λ a i s session from life epoch. replies m.header m.body r a i s session from life epoch))
+      (all_left x.world.log m (losses (client_turn x.site.node.state []) (now_at x)).state.associations (λ a i s session from life epoch. replies m.header m.body r a i s session from life epoch))
+
+-- A client that does not run has no session.
+module _ (w : World) (sc : Scene) (x : Taking) (k : Config) (count : ℕ) (all : AllStand k count w) (tk : Takes (counted w) sc x) (stops : x.site.node.running ≡ false) where
+  fits : (a : Association) → Has a x.site.node.state.associations → Fit a
+  fits = subst (λ (n : cl.ClientNode). (y : Association) → Has y n.state.associations → Fit y) tk.same (all.fates.lives.lives.sites x.client tk.old tk.there).fit
+
+  no_session : (a : Association) → Has a (losses (client_turn x.site.node.state []) (now_at x)).state.associations → (s : ClientSession) → a.session ≡ Some s → ⊥
+  no_session a i s e =
+      let b = behind x.client x.site.node.state (now_at x) fits a i s e in
+      let z = ((all.fates.lives.lives.sites x.client tk.old tk.there).stopped (ap (λ (n : cl.ClientNode). n.running) tk.same ∙ stops) a (subst (λ (n : cl.ClientNode). Has a n.state.associations) (sym tk.same) b.was)).session in
+      none (sym z ∙ e)
+    where
+      none : ◌≡◌ {A = Option ClientSession} None (Some s) → ⊥
+      none z = cc
+
+  pub left_stopped : (input : ClientInput) → x.input ≡ input → Input_rest x input → Input_owed x input
+  left_stopped inputs.Tick e r = tt
+  left_stopped (inputs.App op ask) e r = tt
+  left_stopped (inputs.Done number result) e r = r
+  left_stopped (inputs.Control m) e r =
+      subst (λ i. All_left x.world.log i (losses (client_turn x.site.node.state []) (now_at x)).state.associations) (sym e)
+      (all_left x.world.log m (losses (client_turn x.site.node.state []) (now_at x)).state.associations (λ a i s session from life epoch. absurd (no_session a i s session)))
