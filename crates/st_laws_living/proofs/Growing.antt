@@ -78,8 +78,7 @@ submitted c before site number at what rest sc e =
         (numbered (ev.submits sc c o number at what).world.commands (suc (length sc.world.commands)) ≡ Some (ev.issued sc.world c site number at what)) ×
         (disks.command_at (ev.submits sc c o number at what).world.disks.commands (suc (length sc.world.disks.commands)) ≡ Some (disks.new_command what))
     first None q = cc q
-    first (Some s) q =
-        (
-          get_last sc.world.commands (ev.issued sc.world c s number at what) ∙ ap (λ (z : ClientSite). Some (ev.issued sc.world c z number at what)) (Rattle.st_lemmas.proofs.Lookups.some_is q),
-          get_last sc.world.disks.commands (disks.new_command what),
-        )
+    first (Some s) q = (
+      get_last sc.world.commands (ev.issued sc.world c s number at what) ∙ ap (λ (z : ClientSite). Some (ev.issued sc.world c z number at what)) (Rattle.st_lemmas.proofs.Lookups.some_is q),
+      get_last sc.world.disks.commands (disks.new_command what),
+    )

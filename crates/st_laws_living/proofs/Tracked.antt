@@ -58,7 +58,6 @@ use Rattle.st_rules.specs.ClientState.{client_turn}
 use Rattle.st_laws_pages.specs.Fates.{Pending_all}
 use Rattle.st_laws_elders.specs.Elders.{Of_crashed}
 use Rattle.st_laws_writes.proofs.Joining.{Counted, Is_new, all_say, flushes_disks}
-
 use Rattle.st_laws_living.specs.Living.{Open_crashed, Open_tracked, Open_write, writer}
 use Rattle.st_laws_living.proofs.Events.{Goes_on, each_event}
 
@@ -121,7 +120,6 @@ module _ (P : LeaseLife → LogOwner → Type 0) where
       go : (x : Option LeaseLife) → find p w.ended ≡ x → P row o
       go (Some y) z = f row (z ∙ sym (find_front p w.ended rows y z) ∙ there) crashed
       go None z = absurd (not_both row.crashed (lost row (row_is o.client o.file.server o.life rows row (sym (find_back p w.ended rows z) ∙ there)).0) crashed)
-
 
   -- a new command is of a life that is not over
   unended : (v : World) (c : ClientId) (site : ClientSite) → site_of v c ≡ Some site → site.node.running ≡ true → LivesHold v → (x : IssuedCommand) (tag : Tag) → x.client ≡ c → x.life ≡ world.life_with site.node.state x.server → Of_crashed P v (writer x tag)

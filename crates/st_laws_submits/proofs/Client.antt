@@ -282,7 +282,7 @@ module _ (asks : ℕ → ℕ → Option Ask) (k : Config) (count : ℕ) (past mo
           let f = and_true (same_file y.of.file (file_at a ino)) _ t in
           let g = and_true (Rattle.st_rules.specs.Keys.same_server y.of.file.server a.server) _ f.0 in
           let u = law (asks c) k count sc.world c d M site o.association y after (λ z. n (sym z)) (record { there = left; runs = runs }) run ((copies_v c M left).runs runs) o.listed
-              (record { logged = subst (λ l. Has y l) (sym joined) (has_behind w.log kept.more y h); pending = o.pending; own = o.own; server = there_at sc.world (turn_of x).state.associations o.association ((copies_v c M left).servers) o.listed }) in
+          (record { logged = subst (λ l. Has y l) (sym joined) (has_behind w.log kept.more y h); pending = o.pending; own = o.own; server = there_at sc.world (turn_of x).state.associations o.association ((copies_v c M left).servers) o.listed }) in
           let z = unheld_at y.of.file site.node.state.config.lease (clock_of sc.world (nodes.Client (client d))).0 site.node.state.associations u a i l (ap (λ v. record { 0 = v }) (eqb-true y.of.file.server.0 a.server.0 g.0)) in
           let e = ap (λ v. (held_in a.session v).mode) (eqb-true y.of.file.ino ino g.1) in
           omega (arith, m, z, e)

@@ -226,7 +226,7 @@ module _ (past : List Step) (k : Config) (count : ℕ) (t : Traced) (s : Pages_s
               at_places = let p = places_at w s.stood.places in record { count = p.count; told = p.told; known = p.known }
           go false r =
               let stops : sc.world ≡ x.world = ap (λ (z : Scene). z.world) there.is
-                  ∙ ap (λ b. (ev.client_took x.world x.client x.site (if b then Ok (cl.node_turn x.site.node (cl.client_step x.site.node.state (world.clock_of x.world (nodes.Client x.client)) x.input)) else Err Crashed)).world) r in
+              ∙ ap (λ b. (ev.client_took x.world x.client x.site (if b then Ok (cl.node_turn x.site.node (cl.client_step x.site.node.state (world.clock_of x.world (nodes.Client x.client)) x.input)) else Err Crashed)).world) r in
               last_still w sc.world (ap (λ (z : World). z.clients) stops ∙ there.clients) (ap (λ (z : World). z.clocks) stops ∙ there.clocks) (ap (λ (z : World). z.log) stops ∙ there.log) s.last
 
     last_v : Last_in sc.world sc.world.log
