@@ -1,3 +1,4 @@
 pub mod Weights
 pub mod Passing
 pub mod Hearing
+pub mod Stepping
