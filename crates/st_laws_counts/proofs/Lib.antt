@@ -2,3 +2,5 @@ pub mod Weights
 pub mod Passing
 pub mod Hearing
 pub mod Stepping
+pub mod Events
+pub mod Clients
