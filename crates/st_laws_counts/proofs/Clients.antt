@@ -1,6 +1,6 @@
 -- Clients' counters are no further than the rows of the world: behind every event.
 use Rattle.std.proofs.Common.{◌≡◌, ◌≢◌, ◌⊎◌, ℕ, ◌+◌, ◌≤◌, Bool, true, false, List, [], ◌∷◌, ◌++◌, Option, Some, None, Ok, refl, sym, ap, ◌∙◌, subst, inl, inr, arith}
-use Rattle.std.specs.Prelude.{length, map, suc}
+use Rattle.std.specs.Prelude.{length, map}
 use Rattle.st_base.specs.declared.config.Config.{Config}
 use Rattle.st_base.specs.declared.disk.BlockAt.{BlockAt}
 use Rattle.st_base.specs.declared.disk.Command.{Command}
@@ -149,10 +149,10 @@ flush_rows c s (x ∷ ss) w = go (in_phase (cl.lease_end_with s x) (cl.phase_wit
     go a b = record { clients = b.clients ∙ a.clients; servers = b.servers ∙ a.servers; tally = b.tally ∙ a.tally; commands = b.commands ∙ a.commands; log = b.log ∙ a.log; ended = b.ended ∙ a.ended; net = b.net ∙ a.net }
 
 -- A client's step.
-took : (n : ℕ) (w : World) (c : ClientId) (input : ClientInput) (old site : ClientSite) → site_of w c ≡ Some old → Takes old site input → Sites_low n w → Sites_low (suc n) (ev.client_took w c site (Ok (Client_steps w c site input))).world
+took : (n : ℕ) (w : World) (c : ClientId) (input : ClientInput) (old site : ClientSite) → site_of w c ≡ Some old → Takes old site input → Sites_low n w → Sites_low (n + 1) (ev.client_took w c site (Ok (Client_steps w c site input))).world
 unfolding ev.client_took
 took n w c input old site there is h =
-    replaced n (suc n) w v c old after (omega arith) there (rows.clients ∙ said.clients)
+    replaced n (n + 1) w v c old after (omega arith) there (rows.clients ∙ said.clients)
     (let a = said.commands in let b = said.log in let d = said.ended in let e = said.messages in
     record {
       commands = subst (λ zs. length w.commands ≤ length zs) (sym rows.commands) (omega (arith, a));
@@ -206,7 +206,7 @@ took n w c input old site there is h =
           requests = subst (λ (x : world.Net). Asks_low (1 + length x.messages) a.session) (sym rows.net) (asks_more _ _ a.session (omega (arith, e)) f.requests);
         }
 
-    own : Site_low (suc n) v after
+    own : Site_low (n + 1) v after
     own =
         let x = ends.commands in let a = said.commands in let y = low.asks in let z = is.asks in let s = low.starts in let r = is.starts in
         record {
@@ -215,3 +215,140 @@ took n w c input old site there is h =
           commands = subst (λ zs. t.node.state.next_command ≤ 1 + length zs) (sym rows.commands) (omega (arith, x, a));
           associations = few;
         }
+
+-- A server's step.
+
+-- what a theft weighs
+abbrev pub note_of_theft : Note → ℕ
+note_of_theft (notes.Stolen c life) = 1
+note_of_theft n = 0
+
+abbrev pub of_theft : Output → ℕ
+of_theft (outputs.Note n) = note_of_theft n
+of_theft o = 0
+
+-- what a server's outputs add to the world: messages, cuts and thefts
+pub record Served (os : List Output) (w v : World) : Type 0 where
+  pub clients : v.clients ≡ w.clients
+  pub servers : v.servers ≡ w.servers
+  pub events : v.tally.events ≡ w.tally.events
+  pub reads : v.tally.reads ≡ w.tally.reads
+  pub stolen : v.tally.stolen ≡ w.tally.stolen + weigh of_theft os
+  pub grown : Grown w v
+
+grown_same : (w : World) → Grown w w
+grown_same w = record { commands = omega arith; log = omega arith; ended = omega arith; messages = omega arith }
+
+one_grown : {A : Type 0} (xs : List A) (x : A) → length xs ≤ length (xs ++ x ∷ [])
+one_grown xs x = let z = length_more xs x in omega (arith, z)
+
+served_one : (s : ServerId) (o : Output) (sc : Scene) → Served (o ∷ []) sc.world (ev.server_says sc s o).world
+unfolding ev.server_says ev.server_notes ev.cuts ev.sends log.cut
+served_one s (outputs.Send m) sc =
+    record { clients = refl; servers = refl; events = refl; reads = refl; stolen = omega arith; grown = record { commands = omega arith; log = omega arith; ended = omega arith; messages = one_grown sc.world.net.messages _ } }
+served_one s (outputs.Note n) sc = note n
+  where
+    note : (n : Note) → Served (outputs.Note n ∷ []) sc.world (ev.server_notes sc s n).world
+    note (notes.CutDone f p) =
+        record { clients = refl; servers = refl; events = refl; reads = refl; stolen = omega arith; grown = record { commands = omega arith; log = one_grown sc.world.log _; ended = omega arith; messages = omega arith } }
+    note (notes.Stolen c life) =
+        record { clients = refl; servers = refl; events = refl; reads = refl; stolen = omega arith; grown = record { commands = omega arith; log = omega arith; ended = omega arith; messages = omega arith } }
+    note n = record { clients = refl; servers = refl; events = refl; reads = refl; stolen = omega arith; grown = grown_same sc.world }
+served_one s (outputs.Answer op a) sc = record { clients = refl; servers = refl; events = refl; reads = refl; stolen = omega arith; grown = grown_same sc.world }
+served_one s (outputs.Submit number at what) sc = record { clients = refl; servers = refl; events = refl; reads = refl; stolen = omega arith; grown = grown_same sc.world }
+
+pub served_all : (s : ServerId) (os : List Output) (sc : Scene) → Served os sc.world (ev.server_says_all s os sc).world
+unfolding ev.server_says_all
+served_all s [] sc = record { clients = refl; servers = refl; events = refl; reads = refl; stolen = omega arith; grown = grown_same sc.world }
+served_all s (o ∷ os) sc =
+    let x = served_one s o sc in
+    let y = served_all s os (ev.server_says sc s o) in
+    let a = x.stolen in let b = y.stolen in
+    let d = x.grown.commands in let e = x.grown.log in let f = x.grown.ended in let g = x.grown.messages in
+    let h = y.grown.commands in let i = y.grown.log in let j = y.grown.ended in let l = y.grown.messages in
+    record {
+      clients = y.clients ∙ x.clients;
+      servers = y.servers ∙ x.servers;
+      events = y.events ∙ x.events;
+      reads = y.reads ∙ x.reads;
+      stolen = omega (arith, a, b);
+      grown = record { commands = omega (arith, d, h); log = omega (arith, e, i); ended = omega (arith, f, j); messages = omega (arith, g, l) };
+    }
+
+-- the same clients, and no fewer rows
+same_clients : (m n : ℕ) (w v : World) → m ≤ n → v.clients ≡ w.clients → Grown w v → Sites_low m w → Sites_low n v
+same_clients m n w v l cs g h c site e = low_more m n w v site l g (h c site (ap (λ zs. numbered zs c.0) (sym cs) ∙ e))
+
+-- A crash, and a start.
+crashed : (n : ℕ) (w : World) (c : ClientId) (site : ClientSite) (es : List LogEntry) → site_of w c ≡ Some site → length es ≡ length w.log → Sites_low n w → Sites_low (n + 1) (ev.with_log es (ev.with_site c (ev.stopped_site site) (ev.with_crashed_lives site w)))
+unfolding cl.crash
+crashed n w c site es there l h =
+    replaced n (n + 1) w v c site (ev.stopped_site site) (omega arith) there refl grown
+    (record { asks = let x = low.asks in omega (arith, x); starts = let x = low.starts in omega (arith, x); commands = omega arith; associations = λ a i. one a (has_map cl.crashed_association site.node.state.associations a i) }) h
+  where
+    v : World
+    v = ev.with_log es (ev.with_site c (ev.stopped_site site) (ev.with_crashed_lives site w))
+
+    low : Site_low n w site
+    low = h c site there
+
+    grown : Grown w v
+    grown = record { commands = omega arith; log = omega (arith, l); ended = let z = length_both w.ended (map ev.crashed_life (world.lives_of site.node.state)) in omega (arith, z); messages = omega arith }
+      where
+        length_both : {A : Type 0} (xs ys : List A) → length (xs ++ ys) ≡ length xs + length ys
+        length_both [] ys = omega arith
+        length_both (x ∷ xs) ys = let z = length_both xs ys in omega (arith, z)
+
+    one : (a : Association) → (x : Association) × Has x site.node.state.associations × (a ≡ cl.crashed_association x) → Few_at v site.starts a
+    one a (x, i, e) = subst (Few_at v site.starts) (sym e) (record { versions = omega arith; lives = (few_more w v site.starts x grown (low.associations x i)).lives; requests = tt })
+
+started : (n : ℕ) (w : World) (c : ClientId) (site : ClientSite) → site_of w c ≡ Some site → Sites_low n w → Sites_low (n + 1) (ev.with_site c (ev.started_site site) w)
+unfolding cl.start
+started n w c site there h =
+    replaced n (n + 1) w v c site (ev.started_site site) (omega arith) there refl (record { commands = omega arith; log = omega arith; ended = omega arith; messages = omega arith })
+    (record { asks = let x = low.asks in omega (arith, x); starts = let x = low.starts in omega (arith, x); commands = omega arith; associations = λ a i. one a (has_map cl.started_association site.node.state.associations a i) }) h
+  where
+    v : World
+    v = ev.with_site c (ev.started_site site) w
+
+    low : Site_low n w site
+    low = h c site there
+
+    one : (a : Association) → (x : Association) × Has x site.node.state.associations × (a ≡ cl.started_association x) → Few_at v (site.starts + 1) a
+    one a (x, i, e) = subst (Few_at v (site.starts + 1)) (sym e) (record { versions = omega arith; lives = let z = (low.associations x i).lives in omega (arith, z); requests = tt })
+
+grown_of : (w v : World) → Beside w v → Grown w v
+grown_of w v b = record { commands = b.commands; log = b.log; ended = b.ended; messages = b.messages }
+
+pub cases : (n : ℕ) → Cases (Sites_low n) (Sites_low (n + 1))
+unfolding ev.server_took
+cases n =
+    record {
+      beside = λ w v b h. same_clients n n w v (omega arith) b.clients (grown_of w v b) h;
+      done = λ w h. same_clients n (n + 1) w w (omega arith) refl (grown_same w) h;
+      client = λ w c input old site there is r h. took n w c input old site there is h;
+      server = λ w s input node there r h.
+          let t = Server_steps w s node input in
+          let said = served_all s t.out (ev.quiet (ev.with_node s t.node w)) in
+          same_clients n (n + 1) w (ev.server_says_all s t.out (ev.quiet (ev.with_node s t.node w))).world (omega arith) said.clients (grown_by w s t.node (ev.server_says_all s t.out (ev.quiet (ev.with_node s t.node w))).world said.grown) h;
+      crash = crashed n;
+      start = started n;
+      stop = λ w s node there h. same_clients n (n + 1) w (ev.with_node s (sv.crash_node node) w) (omega arith) refl (grown_by w s (sv.crash_node node) _ (grown_same _)) h;
+      begin = λ w s node there h. same_clients n (n + 1) w (ev.with_node s (sv.start_node node (clock_of w (nodes.Server s))) w) (omega arith) refl (grown_by w s (sv.start_node node (clock_of w (nodes.Server s))) _ (grown_same _)) h;
+    }
+  where
+    grown_by : (w : World) (s : ServerId) (node : ServerNode) (v : World) → Grown (ev.with_node s node w) v → Grown w v
+    grown_by w s node v g = record { commands = g.commands; log = g.log; ended = g.ended; messages = g.messages }
+
+-- the world of a head
+pub fresh_low : (k : Config) (clients servers d b form : ℕ) → Sites_low 0 (fresh_world k clients servers d b form)
+unfolding fresh_world cl.fresh_client
+fresh_low k clients servers d b form c site e =
+    subst (Site_low 0 v) (sym (site_is k clients servers c.0 site e).0)
+    (record { asks = omega arith; starts = omega arith; commands = omega arith; associations = λ a i. one a (has_map cl.fresh_association (numbers 1 servers) a i) })
+  where
+    v : World
+    v = fresh_world k clients servers d b form
+
+    one : (a : Association) → (x : ℕ) × Has x (numbers 1 servers) × (a ≡ cl.fresh_association x) → Few_at v 0 a
+    one a (x, i, q) = subst (Few_at v 0) (sym q) (record { versions = omega arith; lives = omega arith; requests = tt })

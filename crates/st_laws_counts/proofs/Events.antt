@@ -1,6 +1,6 @@
 -- What counters stand at behind each event, where they do so in a few cases.
 use Rattle.std.proofs.Common.{◌≡◌, ℕ, ◌+◌, ◌≤◌, Bool, true, false, List, [], ◌∷◌, ◌++◌, Option, Some, None, Ok, Err, refl, sym, ap, ◌∙◌, arith, if◌then◌else◌}
-use Rattle.std.specs.Prelude.{Result, length, suc, pred}
+use Rattle.std.specs.Prelude.{Result, length, pred}
 use Rattle.st_base.specs.declared.ids.ClientId.{ClientId}
 use Rattle.st_base.specs.declared.ids.FileId.{FileId}
 use Rattle.st_base.specs.declared.ids.NodeId.{NodeId}
@@ -55,7 +55,7 @@ Server_steps w s node input = sv.node_turn node (sv.server_step node.state (cloc
 pub record Takes (old site : ClientSite) (input : ClientInput) : Type 0 where
   pub node : old.node ≡ site.node
   pub starts : old.starts ≡ site.starts
-  pub asks : site.asks ≤ suc old.asks
+  pub asks : site.asks ≤ old.asks + 1
 
 -- The cases, from what stood before to what stands behind.
 pub record Cases (I O : World → Type 0) : Type 0 where

@@ -4,3 +4,5 @@ pub mod Hearing
 pub mod Stepping
 pub mod Events
 pub mod Clients
+pub mod Tallies
+pub mod Law

@@ -118,9 +118,9 @@ kept_submits n v l s os number at what =
     record {
       rises = rises_more os (outputs.Submit number at what ∷ []);
       low = λ a b c d h.
-        let m = low_more a b c d n v l s os (os ++ outputs.Submit number at what ∷ []) (rises_more os (outputs.Submit number at what ∷ [])) h in
-        let x = h.commands in let z = weigh_both of_command os (outputs.Submit number at what ∷ []) in
-        record { commands = omega (arith, x, z); versions = m.versions; lives = m.lives; requests = m.requests };
+          let m = low_more a b c d n v l s os (os ++ outputs.Submit number at what ∷ []) (rises_more os (outputs.Submit number at what ∷ [])) h in
+          let x = h.commands in let z = weigh_both of_command os (outputs.Submit number at what ∷ []) in
+          record { commands = omega (arith, x, z); versions = m.versions; lives = m.lives; requests = m.requests };
     }
 
 -- a version more, whose change is noted
@@ -129,9 +129,9 @@ kept_changes n v l s os x is =
     record {
       rises = rises_more os (outputs.Note x ∷ []);
       low = λ a b c d h.
-        let m = low_more a b c d n v l s os (os ++ outputs.Note x ∷ []) (rises_more os (outputs.Note x ∷ [])) h in
-        let y = h.versions in let z = weigh_both of_change os (outputs.Note x ∷ []) in
-        record { commands = m.commands; versions = omega (arith, y, z, is); lives = m.lives; requests = m.requests };
+          let m = low_more a b c d n v l s os (os ++ outputs.Note x ∷ []) (rises_more os (outputs.Note x ∷ [])) h in
+          let y = h.versions in let z = weigh_both of_change os (outputs.Note x ∷ []) in
+          record { commands = m.commands; versions = omega (arith, y, z, is); lives = m.lives; requests = m.requests };
     }
 
 -- a life more, whose loss was noted, with nothing of the server
@@ -140,9 +140,9 @@ kept_loses n v l s os ps r more =
     record {
       rises = r;
       low = λ a b c d h.
-        let m = low_more a b c d n v l s os ps r h in
-        let y = h.lives in
-        record { commands = m.commands; versions = omega arith; lives = omega (arith, y, more); requests = tt };
+          let m = low_more a b c d n v l s os ps r h in
+          let y = h.lives in
+          record { commands = m.commands; versions = omega arith; lives = omega (arith, y, more); requests = tt };
     }
 
 -- a request more, which is sent
@@ -151,8 +151,8 @@ kept_asks n v l s r os x f =
     record {
       rises = rises_more os (outputs.Send x ∷ []);
       low = λ a b c d h.
-        let m = low_more a b c d n v l s os (os ++ outputs.Send x ∷ []) (rises_more os (outputs.Send x ∷ [])) h in
-        let z = weigh_both of_message os (outputs.Send x ∷ []) in
-        let q : 1 + d + weigh of_message os + 1 ≡ 1 + d + weigh of_message (os ++ outputs.Send x ∷ []) = omega (arith, z) in
-        record { commands = m.commands; versions = m.versions; lives = m.lives; requests = subst (λ y. Asks_low y r) q (f (1 + d + weigh of_message os) h.requests) };
+          let m = low_more a b c d n v l s os (os ++ outputs.Send x ∷ []) (rises_more os (outputs.Send x ∷ [])) h in
+          let z = weigh_both of_message os (outputs.Send x ∷ []) in
+          let q : 1 + d + weigh of_message os + 1 ≡ 1 + d + weigh of_message (os ++ outputs.Send x ∷ []) = omega (arith, z) in
+          record { commands = m.commands; versions = m.versions; lives = m.lives; requests = subst (λ y. Asks_low y r) q (f (1 + d + weigh of_message os) h.requests) };
     }
