@@ -6,3 +6,5 @@ pub mod Events
 pub mod Clients
 pub mod Tallies
 pub mod Law
+pub mod Stables
+pub mod Servers
