@@ -5,6 +5,6 @@ pub mod Stepping
 pub mod Events
 pub mod Clients
 pub mod Tallies
-pub mod Law
 pub mod Stables
 pub mod Servers
+pub mod Law
