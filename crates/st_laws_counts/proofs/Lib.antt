@@ -8,3 +8,5 @@ pub mod Tallies
 pub mod Stables
 pub mod Servers
 pub mod Law
+pub mod Reading
+pub mod Answering

@@ -1,7 +1,7 @@
 //! How far counters may be after so many events, in every world that a run reaches.
 #![tactic(auto)]
 
-ghost use Rattle.st_laws_counts.specs.Counts.{Clients_few, Locks_few, Servers_few};
+ghost use Rattle.st_laws_counts.specs.Counts.{Clients_few, Locks_few, Reads_few, Servers_few};
 ghost use Rattle.st_laws_counts.specs.Reached.{In_every_reached};
 
 /// In every reached world no client has more asks or starts than there were events, and its counters of commands, versions, lives
@@ -19,4 +19,9 @@ pub fn servers_count_few()
 /// In every reached world the grants of a server's epoch, and the waits that may still become grants, are at most 2^29.
 pub fn locks_are_few()
     ensures { In_every_reached Locks_few }
+{}
+
+/// In every reached world no more reads were answered than there were events.
+pub fn reads_are_few()
+    ensures { In_every_reached Reads_few }
 {}
