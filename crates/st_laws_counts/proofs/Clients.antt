@@ -106,7 +106,7 @@ said_one c before site (outputs.Note n) sc own = note n
     note (notes.Lost s life) = record { clients = refl; commands = omega arith; log = omega arith; ended = more_one sc.world.ended _ 1 refl; messages = omega arith }
     note n = record { clients = refl; commands = omega arith; log = omega arith; ended = omega arith; messages = omega arith }
 
-said_all : (c : ClientId) (before : ClientState) (site : ClientSite) (os : List Output) (sc : Scene) → site_of sc.world c ≡ Some site → Said c os sc.world (ev.client_says_all c before os sc).world
+pub said_all : (c : ClientId) (before : ClientState) (site : ClientSite) (os : List Output) (sc : Scene) → site_of sc.world c ≡ Some site → Said c os sc.world (ev.client_says_all c before os sc).world
 unfolding ev.client_says_all
 said_all c before site [] sc own = record { clients = refl; commands = omega arith; log = omega arith; ended = omega arith; messages = omega arith }
 said_all c before site (o ∷ os) sc own =

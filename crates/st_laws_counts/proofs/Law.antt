@@ -1,5 +1,5 @@
 -- The laws, in every world that a run reaches.
-use Rattle.std.proofs.Common.{◌≡◌, ℕ, ◌+◌, true, List, [], ◌∷◌, Ok, Err, refl, sym, ap, ◌∙◌, subst}
+use Rattle.std.proofs.Common.{◌≡◌, ℕ, ◌+◌, true, List, [], ◌∷◌, Ok, Err, refl, sym, ap, ◌∙◌, subst, arith}
 use Rattle.std.specs.Prelude.{Result}
 use Rattle.std.specs.List.{list_all}
 use Rattle.st_base.specs.declared.config.Config.{Config}
@@ -18,8 +18,10 @@ use Rattle.st_laws.proofs.Beginning.{begun}
 use Rattle.st_laws.proofs.Everywhere.{stays}
 use Rattle.st_laws.proofs.Runs.{full}
 use Rattle.st_laws_server.specs.Pair.{terms_of}
-use Rattle.st_laws_counts.specs.Counts.{Clients_few, Few_of, Locks_few, Servers_few}
+use Rattle.st_laws_counts.specs.Counts.{Clients_few, Few_of, Locks_few, Reads_few, Servers_few}
 use Rattle.st_laws_counts.specs.Reached.{In_every_reached, IsReachedBy}
+use Rattle.st_laws_counts.proofs.Asking as asked
+use Rattle.st_laws_counts.proofs.Asking.{Reads_low}
 use Rattle.st_laws_counts.proofs.Clients.{Sites_low, cases, fresh_low}
 use Rattle.st_laws_counts.proofs.Events.{Cases, each_event}
 use Rattle.st_laws_counts.proofs.Servers as nodes
@@ -73,3 +75,9 @@ pub locks_law : In_every_reached Locks_few
 locks_law k clients servers d b form es w r s node e =
     let a = subst (AllStand (terms_of k) (clients + servers)) r.world (all_stands (terms_of k) (clients + servers) es (fresh_world k clients servers d b form) r.events (begun k clients servers d b form r.head)) in
     (a.servers s.0 node e).few.few
+
+-- Reads.
+pub reads_law : In_every_reached Reads_few
+reads_law k clients servers d b form es w r =
+    let z = (counted_reached Reads_low (λ n v h. record { low = h.low; apart = h.apart }) asked.cases (λ k clients servers d b form head. asked.fresh_low k clients servers d b form) k clients servers d b form es w r).low in
+    omega (arith, z)

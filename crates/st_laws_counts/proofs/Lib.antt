@@ -7,6 +7,7 @@ pub mod Clients
 pub mod Tallies
 pub mod Stables
 pub mod Servers
-pub mod Law
 pub mod Reading
 pub mod Answering
+pub mod Asking
+pub mod Law
