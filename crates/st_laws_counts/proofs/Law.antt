@@ -18,12 +18,14 @@ use Rattle.st_laws.proofs.Beginning.{begun}
 use Rattle.st_laws.proofs.Everywhere.{stays}
 use Rattle.st_laws.proofs.Runs.{full}
 use Rattle.st_laws_server.specs.Pair.{terms_of}
-use Rattle.st_laws_counts.specs.Counts.{Clients_few, Few_of, Locks_few, Reads_few, Servers_few}
+use Rattle.st_laws_counts.specs.Counts.{Clients_few, Few_of, Locks_few, Reads_few, Servers_few, Thefts_few}
 use Rattle.st_laws_counts.specs.Reached.{In_every_reached, IsReachedBy}
 use Rattle.st_laws_counts.proofs.Asking as asked
 use Rattle.st_laws_counts.proofs.Asking.{Reads_low}
 use Rattle.st_laws_counts.proofs.Clients.{Sites_low, cases, fresh_low}
 use Rattle.st_laws_counts.proofs.Events.{Cases, each_event}
+use Rattle.st_laws_counts.proofs.Robbing as robbed
+use Rattle.st_laws_counts.proofs.Robbing.{Thefts_low}
 use Rattle.st_laws_counts.proofs.Servers as nodes
 use Rattle.st_laws_counts.proofs.Servers.{Nodes_low}
 use Rattle.st_laws_counts.proofs.Tallies.{Events_are, events_cases}
@@ -81,3 +83,8 @@ pub reads_law : In_every_reached Reads_few
 reads_law k clients servers d b form es w r =
     let z = (counted_reached Reads_low (λ n v h. record { low = h.low; apart = h.apart }) asked.cases (λ k clients servers d b form head. asked.fresh_low k clients servers d b form) k clients servers d b form es w r).low in
     omega (arith, z)
+
+-- Thefts.
+pub thefts_law : In_every_reached Thefts_few
+thefts_law k clients servers d b form es w r =
+    (counted_reached Thefts_low (λ n v h. record { low = h.low; clients = h.clients }) robbed.cases (λ k clients servers d b form head. robbed.fresh_low k clients servers d b form) k clients servers d b form es w r).low

@@ -10,4 +10,6 @@ pub mod Servers
 pub mod Reading
 pub mod Answering
 pub mod Asking
+pub mod Thefts
+pub mod Robbing
 pub mod Law

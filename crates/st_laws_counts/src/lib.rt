@@ -1,7 +1,13 @@
 //! How far counters may be after so many events, in every world that a run reaches.
 #![tactic(auto)]
 
-ghost use Rattle.st_laws_counts.specs.Counts.{Clients_few, Locks_few, Reads_few, Servers_few};
+ghost use Rattle.st_laws_counts.specs.Counts.{
+  Clients_few,
+  Locks_few,
+  Reads_few,
+  Servers_few,
+  Thefts_few,
+};
 ghost use Rattle.st_laws_counts.specs.Reached.{In_every_reached};
 
 /// In every reached world no client has more asks or starts than there were events, and its counters of commands, versions, lives
@@ -24,4 +30,9 @@ pub fn locks_are_few()
 /// In every reached world no more reads were answered than there were events.
 pub fn reads_are_few()
     ensures { In_every_reached Reads_few }
+{}
+
+/// In every reached world there were at most sixteen thefts for each event.
+pub fn thefts_are_few()
+    ensures { In_every_reached Thefts_few }
 {}
