@@ -1,5 +1,5 @@
 -- Reads that were answered and operations that are pending are no more than events: through a client's step and behind every event.
-use Rattle.std.proofs.Common.{◌≡◌, ◌≢◌, ◌⊎◌, ℕ, zero, suc, ◌+◌, ◌≤◌, Bool, true, false, List, [], ◌∷◌, ◌++◌, ◌==◌, Option, Some, None, Ok, refl, sym, ap, ◌∙◌, subst, inl, inr, arith, if◌then◌else◌}
+use Rattle.std.proofs.Common.{◌≡◌, ◌≢◌, ◌⊎◌, ℕ, zero, suc, ◌+◌, ◌≤◌, Bool, true, false, List, [], ◌∷◌, ◌++◌, ◌==◌, Some, Ok, refl, sym, ap, ◌∙◌, subst, inl, inr, arith, if◌then◌else◌}
 use Rattle.std.specs.Prelude.{length, map, set, slice_get}
 use Rattle.std.proofs.lemmas.Bool.{eqb-true}
 use Rattle.st_base.specs.declared.config.Config.{Config}
@@ -9,7 +9,6 @@ use Rattle.st_base.specs.declared.ids.ServerId.{ServerId}
 use Rattle.st_base.specs.declared.ids.Stamp.{Stamp}
 use Rattle.st_messages.specs.declared.answer.AppAnswer.{AppAnswer}
 use Rattle.st_messages.specs.declared.answer.AppAnswer.TheVariants as answers
-use Rattle.st_messages.specs.declared.output.Output.{Output}
 use Rattle.st_messages.specs.declared.output.Output.TheVariants as outputs
 use Rattle.st_rules.specs.declared.client.ClientInput.{ClientInput}
 use Rattle.st_rules.specs.declared.client.ClientInput.TheVariants as inputs
@@ -27,10 +26,10 @@ use Rattle.st_lemmas.proofs.Lookups.{some_is}
 use Rattle.st_lemmas.proofs.Numbers.{numbered_below, numbered_has, numbered_other, numbered_own}
 use Rattle.st_lemmas.proofs.Tables.{has_map, same_or_not}
 use Rattle.st_laws_counts.proofs.Weights.{weigh, weigh_both}
-use Rattle.st_laws_counts.proofs.Events.{Beside, Cases, Client_steps, Server_steps, Takes}
+use Rattle.st_laws_counts.proofs.Events.{Cases, Client_steps, Server_steps, Takes}
 use Rattle.st_laws_counts.proofs.Clients.{Said, Same_rows, flush_rows, said_all, served_all}
 use Rattle.st_laws_counts.proofs.Tallies.{Told, of_read, told_all}
-use Rattle.st_laws_counts.proofs.Reading.{R, Read_low, r_if, r_none, r_passes}
+use Rattle.st_laws_counts.proofs.Reading.{R, r_none, r_passes}
 use Rattle.st_laws_counts.proofs.Answering.{r_finish, r_hear, r_lose, r_take}
 
 -- the server of an association

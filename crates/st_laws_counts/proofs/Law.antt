@@ -1,5 +1,5 @@
 -- The laws, in every world that a run reaches.
-use Rattle.std.proofs.Common.{◌≡◌, ℕ, ◌+◌, true, List, [], ◌∷◌, Ok, Err, refl, sym, ap, ◌∙◌, subst, arith}
+use Rattle.std.proofs.Common.{◌≡◌, ℕ, ◌+◌, true, List, [], ◌∷◌, Ok, Err, refl, sym, subst, arith}
 use Rattle.std.specs.Prelude.{Result}
 use Rattle.std.specs.List.{list_all}
 use Rattle.st_base.specs.declared.config.Config.{Config}
@@ -9,7 +9,7 @@ use Rattle.st_rules.specs.Events as ev
 use Rattle.st_rules.specs.Events.{Scene, counted, world_step}
 use Rattle.st_rules.specs.Safety.{IsHead, is_event}
 use Rattle.st_rules.specs.Run.{run, go_on}
-use Rattle.st_rules.specs.World.{World, fresh_world, node_of}
+use Rattle.st_rules.specs.World.{World, fresh_world}
 use Rattle.st_lemmas.proofs.Tables.{and_true}
 use Rattle.st_lemmas.proofs.Steps.{run_keeps, step_happens}
 use Rattle.st_assoc.specs.Assoc.{Config as Terms}
@@ -18,8 +18,8 @@ use Rattle.st_laws.proofs.Beginning.{begun}
 use Rattle.st_laws.proofs.Everywhere.{stays}
 use Rattle.st_laws.proofs.Runs.{full}
 use Rattle.st_laws_server.specs.Pair.{terms_of}
-use Rattle.st_laws_counts.specs.Counts.{Clients_few, Few_of, Locks_few, Reads_few, Servers_few, Thefts_few}
-use Rattle.st_laws_counts.specs.Reached.{In_every_reached, IsReachedBy}
+use Rattle.st_laws_counts.specs.Counts.{Clients_few, Locks_few, Reads_few, Servers_few, Thefts_few}
+use Rattle.st_laws_counts.specs.Reached.{In_every_reached}
 use Rattle.st_laws_counts.proofs.Asking as asked
 use Rattle.st_laws_counts.proofs.Asking.{Reads_low}
 use Rattle.st_laws_counts.proofs.Clients.{Sites_low, cases, fresh_low}

@@ -1,6 +1,5 @@
 -- Thefts are no more than sixteen for each event: behind every event.
-use Rattle.std.proofs.Common.{◌≡◌, ◌≢◌, ◌⊎◌, ℕ, ◌+◌, ◌*◌, ◌≤◌, true, List, [], ◌∷◌, Some, Ok, refl, sym, ap, ◌∙◌, subst, inl, inr, arith}
-use Rattle.std.specs.Prelude.{map}
+use Rattle.std.proofs.Common.{◌≡◌, ◌≢◌, ◌⊎◌, ℕ, ◌+◌, ◌*◌, ◌≤◌, [], Some, refl, sym, ap, ◌∙◌, subst, inl, inr, arith}
 use Rattle.st_base.specs.declared.config.Config.{Config}
 use Rattle.st_base.specs.declared.ids.NodeId.TheVariants as nodes
 use Rattle.st_base.specs.declared.ids.ServerId.{ServerId}
@@ -16,7 +15,7 @@ use Rattle.st_lemmas.proofs.Lookups.{some_is}
 use Rattle.st_lemmas.proofs.Numbers.{numbered_below, numbered_has, numbered_other, numbered_own}
 use Rattle.st_lemmas.proofs.Tables.{has_map, same_or_not}
 use Rattle.st_laws_counts.proofs.Clients.{flush_rows, served_all}
-use Rattle.st_laws_counts.proofs.Events.{Beside, Cases, Client_steps, Server_steps}
+use Rattle.st_laws_counts.proofs.Events.{Cases, Client_steps, Server_steps}
 use Rattle.st_laws_counts.proofs.Tallies.{told_all}
 use Rattle.st_laws_counts.proofs.Thefts.{Few_clients, Rising, step_few}
 

@@ -1,12 +1,11 @@
 -- Servers' counters are no further than events: behind every event.
-use Rattle.std.proofs.Common.{◌≡◌, ◌≢◌, ◌⊎◌, ℕ, zero, suc, ◌+◌, ◌*◌, ◌≤◌, Bool, true, false, List, [], ◌∷◌, ◌++◌, Option, Some, None, Ok, refl, sym, ap, ◌∙◌, subst, inl, inr, arith, leb-true, if◌then◌else◌}
+use Rattle.std.proofs.Common.{◌≡◌, ◌≢◌, ◌⊎◌, ℕ, zero, suc, ◌+◌, ◌*◌, ◌≤◌, Bool, true, false, List, [], ◌∷◌, ◌++◌, Some, refl, sym, ap, ◌∙◌, subst, inl, inr, arith, leb-true, if◌then◌else◌}
 use Rattle.std.specs.Prelude.{length, map, filter, flat_map, nat_le}
 use Rattle.st_base.specs.declared.config.Config.{Config}
 use Rattle.st_base.specs.declared.disk.BlockAt.{BlockAt}
 use Rattle.st_base.specs.declared.ids.NodeId.TheVariants as nodes
 use Rattle.st_base.specs.declared.ids.ServerId.{ServerId}
 use Rattle.st_rules.specs.declared.input.ServerInput.{ServerInput}
-use Rattle.st_rules.specs.Client as cl
 use Rattle.st_rules.specs.Events as ev
 use Rattle.st_rules.specs.Extents as extents
 use Rattle.st_rules.specs.Extents.{numbers}
@@ -20,9 +19,9 @@ use Rattle.st_lemmas.specs.Lists.{Has}
 use Rattle.st_lemmas.proofs.Lookups.{some_is}
 use Rattle.st_lemmas.proofs.Numbers.{numbered_below, numbered_has, numbered_other, numbered_own}
 use Rattle.st_lemmas.proofs.Tables.{and_true, has_map, same_or_not}
-use Rattle.st_laws_counts.proofs.Events.{Beside, Cases, Client_steps, Server_steps}
+use Rattle.st_laws_counts.proofs.Events.{Cases, Client_steps, Server_steps}
 use Rattle.st_laws_counts.proofs.Clients.{flush_rows, served_all}
-use Rattle.st_laws_counts.proofs.Stables.{Grows, step_grows}
+use Rattle.st_laws_counts.proofs.Stables.{step_grows}
 use Rattle.st_laws_counts.proofs.Tallies.{told_all}
 
 -- what stands of a server where n events were

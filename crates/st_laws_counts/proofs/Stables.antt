@@ -1,6 +1,6 @@
 -- The stable part of a server after a step: its epoch, the next inode number and the births, which are no more than there are blocks.
-use Rattle.std.proofs.Common.{◌≡◌, ℕ, zero, suc, ◌+◌, ◌≤◌, ◌==◌, Bool, true, false, List, [], ◌∷◌, length, refl, sym, ap, ◌∙◌, subst, arith, leb-true, if◌then◌else◌, Result, Ok, Err}
-use Rattle.std.specs.Prelude.{not, filter, map, nat_le, nat_lt, is_some, Option, Some, None}
+use Rattle.std.proofs.Common.{◌≡◌, ℕ, ◌+◌, ◌≤◌, ◌==◌, Bool, true, false, List, [], ◌∷◌, length, refl, sym, ◌∙◌, subst, arith, leb-true, if◌then◌else◌, Result, Ok, Err}
+use Rattle.std.specs.Prelude.{filter, nat_le, nat_lt, is_some, Option, Some, None}
 use Rattle.st_base.specs.declared.ids.ClientId.{ClientId}
 use Rattle.st_base.specs.declared.ids.FileId.{FileId}
 use Rattle.st_base.specs.declared.ids.GrantNo.{GrantNo}
@@ -34,7 +34,6 @@ use Rattle.st_rules.specs.Authority as authority
 use Rattle.st_rules.specs.Extents as extents
 use Rattle.st_rules.specs.Extents.{Extents, numbers}
 use Rattle.st_rules.specs.Grace as grace
-use Rattle.st_rules.specs.Keys.{page_no}
 use Rattle.st_rules.specs.Locks as locks
 use Rattle.st_rules.specs.Names as names
 use Rattle.st_rules.specs.Names.{Changed, Names}

@@ -1,5 +1,5 @@
 -- A whole step of a client raises a counter only with an output that is counted for it.
-use Rattle.std.proofs.Common.{◌≡◌, ◌⊎◌, ℕ, ◌+◌, ◌≤◌, Bool, true, false, List, [], ◌∷◌, ◌++◌, ◌==◌, refl, sym, ap, subst, inl, inr, arith, if◌then◌else◌}
+use Rattle.std.proofs.Common.{◌⊎◌, ℕ, ◌+◌, ◌≤◌, Bool, true, false, List, [], ◌∷◌, ◌++◌, ◌==◌, refl, sym, subst, inl, inr, arith, if◌then◌else◌}
 use Rattle.st_base.specs.declared.ids.Stamp.{Stamp}
 use Rattle.st_messages.specs.declared.answer.AppAnswer.{AppAnswer}
 use Rattle.st_messages.specs.declared.answer.AppAnswer.TheVariants as answers
@@ -14,7 +14,7 @@ use Rattle.st_rules.specs.ClientState.{Association, ClientState, ClientTurn, Tur
 use Rattle.st_lemmas.specs.Lists.{Has}
 use Rattle.st_lemmas.proofs.Tables.{has_append}
 use Rattle.st_laws_counts.specs.Counts.{Asks_low}
-use Rattle.st_laws_counts.proofs.Weights.{Low, Rises, asks_more, low_more, of_change, of_command, of_loss, of_message, rises_more, weigh}
+use Rattle.st_laws_counts.proofs.Weights.{Low, Rises, asks_more, of_change, of_command, of_loss, of_message, rises_more, weigh}
 use Rattle.st_laws_counts.proofs.Passing.{K, k_passes}
 use Rattle.st_laws_counts.proofs.Hearing.{k_finish, k_hear, k_lose, k_take}
 

@@ -1,22 +1,16 @@
 -- How many events were counted: no event counts another one. What a client's outputs count.
-use Rattle.std.proofs.Common.{◌≡◌, ℕ, ◌+◌, List, [], ◌∷◌, ◌++◌, Option, Some, None, Ok, refl, sym, ap, ◌∙◌, arith}
+use Rattle.std.proofs.Common.{◌≡◌, ℕ, ◌+◌, List, [], ◌∷◌, Option, Some, None, refl, ap, ◌∙◌, arith}
 use Rattle.st_base.specs.declared.ids.ClientId.{ClientId}
-use Rattle.st_messages.specs.declared.answer.AppAnswer.{AppAnswer}
-use Rattle.st_messages.specs.declared.answer.AppAnswer.TheVariants as answers
 use Rattle.st_messages.specs.declared.output.Note.{Note}
 use Rattle.st_messages.specs.declared.output.Note.TheVariants as notes
 use Rattle.st_messages.specs.declared.output.Output.{Output}
 use Rattle.st_messages.specs.declared.output.Output.TheVariants as outputs
-use Rattle.st_rules.specs.Client as cl
 use Rattle.st_rules.specs.ClientState.{ClientState}
 use Rattle.st_rules.specs.Events as ev
 use Rattle.st_rules.specs.Events.{Scene}
-use Rattle.st_rules.specs.FlatLog as log
-use Rattle.st_rules.specs.Server as sv
-use Rattle.st_rules.specs.World as world
 use Rattle.st_rules.specs.World.{Tally, World, ClientSite, all_servers, site_of}
 use Rattle.st_laws_counts.proofs.Weights.{weigh}
-use Rattle.st_laws_counts.proofs.Events.{Beside, Cases, Client_steps, Server_steps}
+use Rattle.st_laws_counts.proofs.Events.{Cases, Client_steps, Server_steps}
 use Rattle.st_laws_counts.proofs.Clients.{flush_rows, served_all}
 
 -- what an answer of a read weighs
