@@ -5,3 +5,4 @@ mod Stables
 pub mod Room
 pub mod Streams
 pub mod Turns
+pub mod Whole

@@ -3,10 +3,12 @@
 
 mod fault;
 mod frames;
+mod law;
 mod node;
 mod server;
 mod serving;
 
 pub use fault::NodeFault;
+pub use law::whole_frames_run_through;
 pub use node::Node;
 pub use serving::serve;
