@@ -1,3 +1,5 @@
 pub mod Machines
 pub mod Inputs
 pub mod Ends
+pub mod Room
+pub mod Nodes
