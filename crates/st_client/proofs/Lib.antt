@@ -1,3 +1,11 @@
+pub mod SoundLists
+pub mod SoundMessages
+pub mod SoundLocks
+pub mod SoundHears
+pub mod SoundInputs
+pub mod SoundPasses
+pub mod SoundRequests
+pub mod Sends
 pub mod Growing
 pub mod Advancing
 pub mod HearGrows
