@@ -1,20 +1,23 @@
 -- What a crash leaves of a client: its servers and its lives.
 use Rattle.std.proofs.Common.{◌≡◌, ℕ, ◌+◌, ◌<◌, Bool, true, false, ◌&&◌, List, [], ◌∷◌, length, map, drop, get_or, refl, sym, ap, ◌∙◌, arith}
 use Rattle.std.proofs.lemmas.List.{drop_more}
-use Rattle.std.specs.Prelude.{Option, Some, None, cond, find}
-use Rattle.std.specs.List.{list_all}
-use Rattle.st_lemmas.proofs.Tables.{cond_either}
+use Rattle.std.specs.Prelude.{Option, Some, None, is_some, cond, find, Result, Ok, Err, OnOk}
+use Rattle.std.specs.List.{list_all, list_any}
+use Rattle.st_lemmas.proofs.Tables.{cond_either, cond_false}
 use Rattle.st_association.specs.Associations.{has_room_at}
 use Rattle.st_base.specs.declared.config.Config.{Config}
 use Rattle.st_base.specs.declared.ids.ClientId.{ClientId}
 use Rattle.st_base.specs.declared.ids.Life.{Life}
 use Rattle.st_base.specs.declared.ids.ServerId.{ServerId}
-use Rattle.st_rules.specs.Client.{association_of, crash, crashed_association, lease_at, life_of_association, store_at}
-use Rattle.st_rules.specs.ClientPages.{empty_store}
+use Rattle.st_base.specs.declared.ids.Stamp.{Stamp}
+use Rattle.st_rules.specs.Client.{association_of, crash, crashed_association, has_dirty_with, has_write_with, is_any, lease_at, lease_end_with, life_of_association, phase_with, store_at}
+use Rattle.st_rules.specs.ClientLease.{ClientLease, end_at, phase_at}
+use Rattle.st_rules.specs.ClientPages.{Store, empty_store, is_any_write}
 use Rattle.st_rules.specs.ClientState.{Association, ClientState, is_at}
 use Rattle.st_rules.specs.Keys.{same_server}
 use Rattle.st_rules.specs.World as world
 use Rattle.st_client.specs.Nodes.{RunsAs, crashed_at, crashed_client, crashed_lives, is_low, life_in, server_at, state_of}
+use Rattle.st_client.specs.Room.{has_room}
 
 pub crashed_here : (xs : List Association) → crashed_at (map server_at xs) (map life_of_association xs) ≡ map crashed_association xs
 crashed_here [] = refl
@@ -106,3 +109,34 @@ pub both_more : {Y : Type 0} (F : List ServerId → List Life → Y) (ss : List 
 both_more F ss ls i s l n e =
     let m : i < length ls = omega (arith, n, e) in
     ap (λ xs. F xs (drop i ls)) (drop_more ss i s n) ∙ ap (λ xs. F (get_or ss i s ∷ drop (i + 1) ss) xs) (drop_more ls i l m)
+
+-- nothing is there, where a client is crashed
+pub nothing_dirty : (id : ClientId) (config : Config) (ss : List ServerId) (ls : List Life) (server : ServerId) → false ≡ has_dirty_with (crashed_client id config ss ls) server
+nothing_dirty id config ss ls server = ap (λ (st : Store). is_any st.pages.dirty) (sym (no_store server ss ls))
+
+pub nothing_out : (id : ClientId) (config : Config) (ss : List ServerId) (ls : List Life) (server : ServerId) → false ≡ has_write_with (crashed_client id config ss ls) server
+nothing_out id config ss ls server = ap (λ (st : Store). list_any is_any_write st.commands) (sym (no_store server ss ls))
+
+pub no_end : (id : ClientId) (config : Config) (ss : List ServerId) (ls : List Life) (server : ServerId) → None ≡ lease_end_with (crashed_client id config ss ls) server
+no_end id config ss ls server = ap (λ (l : Option ClientLease). end_at config l) (sym (no_lease server ss ls))
+
+pub no_phase : (id : ClientId) (config : Config) (ss : List ServerId) (ls : List Life) (server : ServerId) (now : Stamp) → None ≡ phase_with (crashed_client id config ss ls) server now
+no_phase id config ss ls server now = ap (λ (l : Option ClientLease). phase_at config l now) (sym (no_lease server ss ls))
+
+pub room_there : (id : ClientId) (config : Config) (ss : List ServerId) (ls : List Life) → length ls ≡ length ss → has_room (crashed_client id config ss ls) ≡ list_all is_low ls
+room_there id config ss ls e = low_there ss ls e
+
+-- what follows where there is a result
+pub on_ok : {A E : Type 0} (r : Result A E) (P Q : Type 0) → (P → Q) → OnOk r P → OnOk r Q
+on_ok (Ok x) P Q f h = f h
+on_ok (Err e) P Q f h = h
+
+-- a node that does not run has no state
+pub none_runs : {A : Type 0} (o : Option A) → is_some o ≡ false → o ≡ None
+none_runs None e = refl
+none_runs (Some x) e = cc
+
+-- the place that a server is not at
+pub life_next : (ss : List ServerId) (ls : List Life) (i : ℕ) (s server : ServerId) (l : Life) → i < length ss → length ls ≡ length ss → same_server (get_or ss i s) server ≡ false →
+    life_in (drop i ss) (drop i ls) server ≡ life_in (drop (i + 1) ss) (drop (i + 1) ls) server
+life_next ss ls i s server l n e f = both_more (λ xs ys. life_in xs ys server) ss ls i s l n e ∙ cond_false (same_server (get_or ss i s) server) (get_or ls i l) _ f

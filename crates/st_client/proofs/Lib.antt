@@ -16,3 +16,4 @@ pub mod AllLast
 pub mod Crashing
 pub mod Servers
 pub mod Resting
+pub mod Running

@@ -1,5 +1,5 @@
 -- A step begins where counters have room, and what it leaves rests.
-use Rattle.std.proofs.Common.{◌≡◌, ℕ, ◌+◌, ◌<◌, ◌^◌, Bool, true, false, List, [], ◌∷◌, length, map, refl, sym, ap, ◌∙◌, arith}
+use Rattle.std.proofs.Common.{◌≡◌, ℕ, ◌+◌, ◌<◌, ◌^◌, Bool, true, false, List, [], ◌∷◌, ◌++◌, length, map, refl, sym, ap, ◌∙◌, arith}
 use Rattle.std.specs.Prelude.{Option, Some, None, cond, find, nat_lt, IsTrue, ◌↔◌}
 use Rattle.std.specs.List.{list_all}
 use Rattle.std.specs.Option.{option_map}
@@ -8,8 +8,10 @@ use Rattle.st_association.specs.Associations.{ClientAssociation, IsCounted, Requ
 use Rattle.st_association.specs.Turns.{most_of}
 use Rattle.st_base.specs.declared.config.Config.{Config}
 use Rattle.st_base.specs.declared.ids.ClientId.{ClientId}
+use Rattle.st_base.specs.declared.ids.Life.{Life}
 use Rattle.st_base.specs.declared.ids.ServerId.{ServerId}
 use Rattle.st_messages.specs.declared.output.Output.{Output}
+use Rattle.st_rules.specs.Client.{association_of}
 use Rattle.st_rules.specs.ClientInvariants.{is_below}
 use Rattle.st_rules.specs.ClientState.{Association, ClientSession, ClientState, is_at}
 use Rattle.st_client.specs.Machines.{AreIn, IsIn, IsMachine, here_of}
@@ -42,6 +44,15 @@ begins id config next xs out e n r g = rw e (record { commands = omega (arith, n
 pub rests : (id : ClientId) (config : Config) (next : ℕ) (out : List Output) (xs : List ClientAssociation) → AreIn id config next out xs → AreGiven id config next xs
 rests id config next out [] i = tt
 rests id config next out (a ∷ xs) i = (record { id = i.0.id; config = i.0.config; given = i.0.counted.given }, rests id config next out xs i.1)
+
+-- one more association, of which the client has nothing
+pub given_last : (id : ClientId) (config : Config) (next : ℕ) (xs ys : List ClientAssociation) (a : ClientAssociation) (life : Life) (server : ServerId) → ys ≡ xs ++ a ∷ [] →
+    a ≡ record { id = id; config = config; here = association_of life server } → AreGiven id config next xs → AreGiven id config next ys
+given_last id config next xs ys a life server e f g = rw e (last xs g)
+  where
+    last : (zs : List ClientAssociation) → AreGiven id config next zs → AreGiven id config next (zs ++ a ∷ [])
+    last [] h = (rw f (record { id = refl; config = refl; given = refl }), tt)
+    last (z ∷ zs) h = (h.0, last zs h.1)
 
 -- the test of the counters
 room_from : (c : ClientState) → has_room c ≡ true → HasRoom c

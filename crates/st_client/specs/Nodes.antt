@@ -1,5 +1,5 @@
 -- A node between steps: what always stands of it, and what a crash leaves.
-use Rattle.std.specs.Prelude.{◌≡◌, ℕ, ◌≤◌, Bool, true, false, ◌&&◌, if◌then◌else◌, nat_le, nat_lt, ◌^◌, List, [], ◌∷◌, ◌++◌, length, map, Option, Some, None, Ok, ⊤}
+use Rattle.std.specs.Prelude.{◌≡◌, ℕ, ◌≤◌, Bool, true, false, if◌then◌else◌, nat_lt, ◌^◌, List, [], ◌∷◌, ◌++◌, length, map, Option, Some, None, is_some, Ok, ⊤}
 use Rattle.std.specs.List.{list_all}
 use Rattle.st_association.specs.Associations.{ClientAssociation}
 use Rattle.st_base.specs.Config.{check}
@@ -7,11 +7,13 @@ use Rattle.st_base.specs.declared.config.Config.{Config}
 use Rattle.st_base.specs.declared.ids.ClientId.{ClientId}
 use Rattle.st_base.specs.declared.ids.Life.{Life}
 use Rattle.st_base.specs.declared.ids.ServerId.{ServerId}
+use Rattle.st_messages.specs.Kinds.{between}
 use Rattle.st_rules.specs.declared.world.LeaseLife.{LeaseLife}
-use Rattle.st_rules.specs.Client.{association_of, life_of_association}
+use Rattle.st_rules.specs.Client.{ClientNode, association_of, life_of_association}
 use Rattle.st_rules.specs.ClientInvariants.{is_below}
 use Rattle.st_rules.specs.ClientState.{Association, ClientState}
 use Rattle.st_rules.specs.Keys.{same_server}
+use Rattle.st_client.specs.Sound.{IsSound}
 
 -- An association of this client, with these settings: the numbers of its commands were given.
 pub record IsGiven (client : ClientId) (settings : Config) (next : ℕ) (a : ClientAssociation) : Type 0 where
@@ -26,7 +28,7 @@ AreGiven id config next (a ∷ more) = IsGiven id config next a × AreGiven id c
 
 -- a server of a world
 abbrev pub is_server : ServerId → Bool
-is_server s = nat_le 1 s.0 && nat_le s.0 4
+is_server s = between 1 4 s.0
 
 -- an association of this client, with these settings
 abbrev pub association_told : ClientId → Config → Association → ClientAssociation
@@ -77,6 +79,10 @@ pub record IsKept (old new : ClientState) : Type 0 where
   pub config : new.config ≡ old.config
   pub servers : map server_at new.associations ≡ map server_at old.associations
 
+-- a node of this client
+abbrev pub node_of : ClientId → Config → List ServerId → List Life → Option ClientState → ClientNode
+node_of id config servers lives o = record { state = state_of id config servers lives o; running = is_some o }
+
 -- the client that runs is this one, with these servers, in these lives
 pub record IsRunning (client : ClientId) (settings : Config) (ss : List ServerId) (ls : List Life) (c : ClientState) : Type 0 where
   pub id : c.id ≡ client
@@ -96,3 +102,4 @@ pub record IsNode (id : ClientId) (config : Config) (servers : List ServerId) (l
   pub count : length lives ≡ length servers
   pub room : length servers ≤ capacity
   pub runs : RunsAs id config servers lives state
+  pub sound : IsSound (state_of id config servers lives state)

@@ -30,13 +30,13 @@ pub struct ClientNode {
 }
 
 impl Model for ClientNode {
-    ghost use Rattle.std.specs.Prelude.{is_some, vec_capacity};
-    ghost use Rattle.st_client.specs.Nodes.{IsNode, state_of};
+    ghost use Rattle.std.specs.Prelude.{vec_capacity};
+    ghost use Rattle.st_client.specs.Nodes.{IsNode, node_of};
     ghost use Rattle.st_rules.specs.Client as shared;
 
     ghost Value = { shared.ClientNode };
 
-    ghost view = { λ n. record { state = state_of n.id n.config n.servers.items n.lives.items n.state; running = is_some n.state } };
+    ghost view = { λ n. node_of n.id n.config n.servers.items n.lives.items n.state };
 
     ghost invariant = { λ n. IsNode n.id n.config n.servers.items n.lives.items (vec_capacity n.lives) n.state };
 }
@@ -115,6 +115,7 @@ impl ClientNode {
     pub fn lease_ends(&self) -> LeaseEnds
         ensures { (s : ServerId) → end_in result s ≡ client.lease_end_with self.now.state s }
     {
+        let _alloc = &self.alloc;
         LeaseEnds {
             ends: [
                 self.lease_end(ServerId(1)),

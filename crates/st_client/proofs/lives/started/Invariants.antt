@@ -6,7 +6,7 @@ use Rattle.st_client.proofs.lives.started.Given as goal
 
 abbrev pub invariant-loop-i : goal.invariant-loop-i
 invariant-loop-i l = record {
-  is : with_more (map started_association (crashed_at (drop l.i l.servers) (drop l.i l.lives))) l.state ≡ start (crashed_client l.id l.config l.servers l.lives);
+  is : with_more (map started_association (crashed_at (drop l.i l.servers) (drop l.i l.lives))) l.state ≡ start (crashed_client l.fn.id l.config l.servers l.lives);
   config : l.state.config ≡ l.config;
   known : list_all is_server (drop l.i l.servers) ≡ true;
   low : list_all is_low (drop l.i l.lives) ≡ true;
