@@ -1,3 +1,7 @@
+pub mod Elsewhere
+pub mod Emptied
+pub mod Unused
+pub mod Discards
 pub mod SoundLists
 pub mod SoundMessages
 pub mod SoundLocks
