@@ -17,3 +17,6 @@ pub mod InputsGrow
 pub mod PassesGrow
 pub mod HearLasts
 pub mod AllLast
+pub mod Crashing
+pub mod Servers
+pub mod Resting

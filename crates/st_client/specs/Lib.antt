@@ -3,3 +3,5 @@ pub mod Sound
 pub mod Machines
 pub mod Inputs
 pub mod Ends
+pub mod Room
+pub mod Nodes
