@@ -1,3 +1,4 @@
+pub mod NodeSteps
 pub mod Elsewhere
 pub mod Emptied
 pub mod Unused
