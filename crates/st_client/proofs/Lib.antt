@@ -1,3 +1,8 @@
+pub mod NodeSteps
+pub mod Elsewhere
+pub mod Emptied
+pub mod Unused
+pub mod Discards
 pub mod SoundLists
 pub mod SoundMessages
 pub mod SoundLocks

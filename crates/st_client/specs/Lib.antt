@@ -1,3 +1,4 @@
+pub mod Discarding
 pub mod Sound
 pub mod Machines
 pub mod Inputs
