@@ -1,5 +1,6 @@
 -- What a crash leaves of a client: its servers and its lives.
 use Rattle.std.proofs.Common.{◌≡◌, ℕ, ◌+◌, ◌<◌, Bool, true, false, ◌&&◌, List, [], ◌∷◌, length, map, drop, get_or, refl, sym, ap, ◌∙◌, arith}
+use Rattle.std.proofs.lemmas.Bool.{ne_eqb}
 use Rattle.std.proofs.lemmas.List.{drop_more}
 use Rattle.std.specs.Prelude.{Option, Some, None, is_some, cond, find, Result, Ok, Err, OnOk}
 use Rattle.std.specs.List.{list_all, list_any}
@@ -137,6 +138,6 @@ none_runs None e = refl
 none_runs (Some x) e = cc
 
 -- the place that a server is not at
-pub life_next : (ss : List ServerId) (ls : List Life) (i : ℕ) (s server : ServerId) (l : Life) → i < length ss → length ls ≡ length ss → same_server (get_or ss i s) server ≡ false →
+pub life_next : (ss : List ServerId) (ls : List Life) (i : ℕ) (s server : ServerId) (l : Life) → i < length ss → length ls ≡ length ss → ((get_or ss i s).0 ≡ server.0 → ⊥) →
     life_in (drop i ss) (drop i ls) server ≡ life_in (drop (i + 1) ss) (drop (i + 1) ls) server
-life_next ss ls i s server l n e f = both_more (λ xs ys. life_in xs ys server) ss ls i s l n e ∙ cond_false (same_server (get_or ss i s) server) (get_or ls i l) _ f
+life_next ss ls i s server l n e f = both_more (λ xs ys. life_in xs ys server) ss ls i s l n e ∙ cond_false (same_server (get_or ss i s) server) (get_or ls i l) _ (ne_eqb (get_or ss i s).0 server.0 f)

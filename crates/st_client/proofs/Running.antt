@@ -14,12 +14,12 @@ use Rattle.st_base.specs.declared.ids.Stamp.{Stamp}
 use Rattle.st_messages.specs.Kinds.{between}
 use Rattle.st_messages.specs.declared.output.Output.{Output}
 use Rattle.st_rules.specs.declared.client.ClientInput.{ClientInput}
-use Rattle.st_rules.specs.Client.{ClientNode, association_with, client_step, crash_node, lease_at, lease_end_with, life_of_association, lives, start, started_association}
+use Rattle.st_rules.specs.Client.{ClientNode, association_with, client_step, crash_node, fresh_client, lease_at, lease_end_with, life_of_association, lives, start, started_association}
 use Rattle.st_rules.specs.ClientLease.{end_at}
 use Rattle.st_rules.specs.ClientState.{Association, ClientState, ClientTurn, client_turn, is_at}
 use Rattle.st_rules.specs.Keys.{same_server}
 use Rattle.st_client.proofs.Crashing.{crashes}
-use Rattle.st_client.proofs.Sends.{crash_sound, step_sound}
+use Rattle.st_client.proofs.Sends.{crash_sound, fresh_sound, step_sound}
 use Rattle.st_client.proofs.Servers.{step_keeps}
 use Rattle.st_client.specs.declared.ends.LeaseEnds.{LeaseEnds}
 use Rattle.st_client.specs.Ends.{end_in}
@@ -39,16 +39,23 @@ runs_in id config ss ls capacity c k i f e l r h =
     record {
       checked = k;
       known = ap (list_all is_server) e ∙ known_from c.associations h.associations;
-      count = ap length l ∙ length-map life_of_association c.associations ∙ sym (length-map server_at c.associations) ∙ sym (ap length e);
+      count = ap length l ∙ length-map c.associations life_of_association ∙ sym (length-map c.associations server_at) ∙ sym (ap length e);
       room = r;
       runs = record { id = i; config = f; servers = sym e; lives = sym l };
       sound = h;
     }
 
+-- a node that was never started before
+pub fresh_in : (id : ClientId) (config : Config) (ss : List ServerId) (ls : List Life) (capacity servers : ℕ) (c : ClientState) → check config ≡ Ok tt → c ≡ fresh_client id config servers →
+    ss ≡ map server_at c.associations → ls ≡ lives c → length ss ≤ capacity → 1 ≤ id.0 → id.0 ≤ 16 → servers ≤ 4 → IsNode id config ss ls capacity (Some c)
+unfolding fresh_client
+fresh_in id config ss ls capacity servers c k e s l r one most few =
+    runs_in id config ss ls capacity c k (ap (λ (d : ClientState). d.id) e) (ap (λ (d : ClientState). d.config) e) s l r (subst IsSound (sym e) (fresh_sound id config servers one most few))
+
 -- what a step leaves fits where the lives stood before it
 pub kept_fits : (id : ClientId) (config : Config) (ss : List ServerId) (ls : List Life) (capacity : ℕ) (c s : ClientState) → IsNode id config ss ls capacity (Some c) → IsKept c s → length s.associations ≤ capacity
 kept_fits id config ss ls capacity c s n k =
-    let e = sym (length-map server_at s.associations) ∙ ap length (k.servers ∙ n.runs.servers) in
+    let e = sym (length-map s.associations server_at) ∙ ap length (k.servers ∙ n.runs.servers) in
     let r = n.room in
     omega (arith, e, r)
 
@@ -69,7 +76,7 @@ pub started_fits : (id : ClientId) (config : Config) (ss : List ServerId) (ls : 
     length ss ≤ capacity → length s.associations ≤ capacity
 unfolding start
 started_fits id config ss ls capacity s e n r =
-    let k = ap (λ (c : ClientState). length c.associations) e ∙ sym (length-map server_at (map started_association (crashed_at ss ls))) ∙ ap length (servers_started ss ls n) in
+    let k = ap (λ (c : ClientState). length c.associations) e ∙ sym (length-map (map started_association (crashed_at ss ls)) server_at) ∙ ap length (servers_started ss ls n) in
     omega (arith, k, r)
 
 pub starts_in : (id : ClientId) (config : Config) (ss : List ServerId) (ls more : List Life) (capacity room : ℕ) (s : ClientState) → check config ≡ Ok tt → s ≡ start (crashed_client id config ss ls) →

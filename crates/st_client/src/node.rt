@@ -1,9 +1,11 @@
 // A client of a world: it runs, or it is crashed.
 ghost use Rattle.std.specs.Prelude.{◌≡◌, ◌≤◌, ◌^◌, ◌++◌, true, false, IsOk, IfOk, OnOk, IsTrue, ◌↔◌};
+ghost use Rattle.std.specs.List.{list_all};
 ghost use Rattle.st_base.specs.Config as settings;
 ghost use Rattle.st_base.specs.declared.ids.ServerId.{ServerId};
+ghost use Rattle.st_client.specs.Discarding.{Discards, IsOver};
 ghost use Rattle.st_client.specs.Ends.{end_in};
-ghost use Rattle.st_client.specs.Inputs.{comes_fit, Runs, Steps};
+ghost use Rattle.st_client.specs.Inputs.{comes_fit, is_sent, Runs, Steps};
 ghost use Rattle.st_client.specs.Room.{HasRoom};
 ghost use Rattle.st_rules.specs.Client as client;
 ghost use Rattle.st_rules.specs.World as world;
@@ -218,14 +220,18 @@ impl ClientNode {
     /// # Errors
     /// `Crashed` where the node does not run; then nothing changes. `Memory` where memory runs out: then the node is crashed, in
     /// the lives from before the step.
+    ///
+    /// Where the lease of a server is over at this moment, nothing of that server is left, and nothing of it goes out.
     #[tactic(auto, unfolding(st_rules::specs::Client::node_step))]
     pub fn step(&mut self, now: Stamp, input: ClientInput) -> Result<Outputs, StepFault>
         requires time { now.0 ≤ 2 ^ 62 }
         requires fits { comes_fit input ≡ true }
         requires room { HasRoom self.old.state }
         ensures exact { Steps self.old self.new result (client.node_step self.old now input) }
+        ensures sent { IfOk result (λ out. list_all is_sent out ≡ true) }
+        ensures discarding { (s : ServerId) → IsOver s self.old.state now → IfOk result (λ out. Discards s self.old.state input self.new.state out) }
     {
-        if self.running() {
+        if self.state.is_some() {
             self.step_running(now, input)
         } else {
             Err(StepFault::Crashed)
