@@ -82,7 +82,7 @@ fn is_step(
     let Some(input) = input_of(alloc, what)? else {
         return Ok(false);
     };
-    if now.0 > 4_611_686_018_427_387_904 {
+    if now.0 > 4_611_686_018_427_387_904 || !node.has_room() {
         return Ok(false);
     }
     match node.step(now, input) {
@@ -94,7 +94,7 @@ fn is_step(
 
 /// Starts a node that does not run; whether it runs then.
 fn is_started(node: &mut ClientNode) -> Result<bool, AllocError> {
-    if node.running() {
+    if node.running() || !node.has_room() {
         return Ok(false);
     }
     node.start()?;
@@ -161,6 +161,8 @@ fn no_more_than_64_pages_are_dirty(rt: HostRuntime) -> io::Result<()> {
 fn a_crashed_node_takes_no_step(rt: HostRuntime) -> io::Result<()> {
     let mut node = fresh(rt.alloc())?;
     node.crash();
+    assert_eq!(rt; node.lives().len(), 2);
+    assert!(rt; node.has_room(), "no room");
     match node.step(Stamp(0), ClientInput::Tick) {
         Err(fault) => assert_eq!(rt; fault, StepFault::Crashed),
         Ok(_) => assert!(rt; false, "a step"),
