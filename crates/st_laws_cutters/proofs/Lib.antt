@@ -1,1 +1,4 @@
 pub mod New
+pub mod Walking
+pub mod Hearing
+pub mod Requesting
