@@ -49,6 +49,7 @@ use Rattle.st_rules.specs.ClientState as state
 use Rattle.st_rules.specs.ClientState.{Association, ClientSession, Turn, answer_each, answered, is_at, is_file, is_open_file, keep, only_at, send, with_session, with_store}
 use Rattle.st_lemmas.proofs.Lookups.{some_is}
 use Rattle.st_laws_askers.specs.Last.{Is_last}
+use Rattle.st_laws_askers.specs.Reached.{Ends}
 use Rattle.st_laws_cutters.specs.Asks.{Asks_stand, Fact, Of, Reasserts_first, Cut_named, Remove_named, Tells, first_open, open_from}
 use Rattle.st_laws_cutters.proofs.Walking as walk
 
@@ -173,13 +174,17 @@ module _ (B : ServerId → ℕ → ℕ → ℕ → Type 0) (G : ServerId → ℕ
     Told t = Of (Tells B h body) t.here.server t.here.life.0 t.here.session
 
     -- a message of this session
+    -- it ends what it fits
+    abbrev Ending : Type 0
+    Ending = (asked : Body) → state.fits body asked ≡ true → Ends body
+
     abbrev Mine : Turn → ClientSession → Type 0
     Mine t s = (h.from ≡ server_node t.here.server) × (h.life ≡ t.here.life.0) × (h.epoch ≡ s.epoch.0)
 
-    k_reply_to : (t : Turn) (s : ClientSession) (now stamp : Stamp) (q : Request) → t.here.session ≡ Some s → s.requests.asked ≡ Some q → Told t → Mine t s → cr.is_counting h.number body q ≡ true → cr.refuses_reassertion body q.body ≡ false →
+    k_reply_to : (t : Turn) (s : ClientSession) (now stamp : Stamp) (q : Request) → t.here.session ≡ Some s → s.requests.asked ≡ Some q → Told t → Mine t s → Ends body → cr.is_counting h.number body q ≡ true → cr.refuses_reassertion body q.body ≡ false →
         walk.K (Asks_stand B G) t (cr.reply_to t s now stamp body q.body)
     unfolding cr.reply_to cr.end_request cr.note_renewal cr.note_lease
-    k_reply_to t s now stamp q e a told mine counts fine x =
+    k_reply_to t s now stamp q e a told mine ends counts fine x =
         go (Rattle.st_rules.specs.ClientLease.is_renewal stamp s.lease)
       where
         r : ClientSession
@@ -195,7 +200,7 @@ module _ (B : ServerId → ℕ → ℕ → ℕ → Type 0) (G : ServerId → ℕ
         tells = subst (Of (Tells B h body) t.here.server t.here.life.0) e told
 
         served : B t.here.server t.here.life.0 s.epoch.0 s.requests.next
-        served = subst (B t.here.server t.here.life.0 s.epoch.0) (stands.last q a) (tells q a mine.0 mine.1 mine.2 counts fine)
+        served = subst (B t.here.server t.here.life.0 s.epoch.0) (stands.last q a) (tells q a mine.0 mine.1 mine.2 ends counts fine)
 
         due : due_left body s.due ≡ true → s.requests.next ≡ 1
         due d = absurd (accepts body q.body s.due (and_true (state.is_request_of h.number q) (state.fits body q.body) counts).1 (stands.first.only q a (was body d)) fine d)
@@ -211,28 +216,28 @@ module _ (B : ServerId → ℕ → ℕ → ℕ → Type 0) (G : ServerId → ℕ
         go true = e_effect (Asks_stand B G) (v true) r now body (state.file_asked s.cutting q.body) q.body refl ended
         go false = e_effect (Asks_stand B G) (v false) r now body (state.file_asked s.cutting q.body) q.body refl ended
 
-    k_counted : (t : Turn) (s : ClientSession) (now : Stamp) (stamp : Stamp) (o : Option Request) → t.here.session ≡ Some s → s.requests.asked ≡ o → Told t → Mine t s → walk.K (Asks_stand B G) t (cr.counted t s now h.number stamp body o)
+    k_counted : (t : Turn) (s : ClientSession) (now : Stamp) (stamp : Stamp) (o : Option Request) → t.here.session ≡ Some s → s.requests.asked ≡ o → Told t → Mine t s → Ending → walk.K (Asks_stand B G) t (cr.counted t s now h.number stamp body o)
     unfolding cr.counted cr.by_request cr.count_reply
-    k_counted t s now stamp None e a told mine = walk.k_none (Asks_stand B G) t
-    k_counted t s now stamp (Some q) e a told mine = if_case (cr.is_counting h.number body q) refl
+    k_counted t s now stamp None e a told mine ends = walk.k_none (Asks_stand B G) t
+    k_counted t s now stamp (Some q) e a told mine ends = if_case (cr.is_counting h.number body q) refl
       where
         refused : cr.is_counting h.number body q ≡ true → (b : Bool) → cr.refuses_reassertion body q.body ≡ b → walk.K (Asks_stand B G) t (if b then cr.condemn t s else cr.reply_to t s now stamp body q.body)
         refused c true r = walk.k_condemn (Asks_stand B G) t s e
-        refused c false r = k_reply_to t s now stamp q e a told mine c r
+        refused c false r = k_reply_to t s now stamp q e a told mine (ends q.body (and_true (state.is_request_of h.number q) (state.fits body q.body) c).1) c r
 
         if_case : (b : Bool) → cr.is_counting h.number body q ≡ b → walk.K (Asks_stand B G) t (if b then cr.count_reply t s now stamp body q.body else t)
         if_case true c = refused c (cr.refuses_reassertion body q.body) refl
         if_case false c = walk.k_none (Asks_stand B G) t
 
-    k_reply : (t : Turn) (s : ClientSession) (now : Stamp) → t.here.session ≡ Some s → Told t → Mine t s → walk.K (Asks_stand B G) t (cr.reply_of t s now h body)
+    k_reply : (t : Turn) (s : ClientSession) (now : Stamp) → t.here.session ≡ Some s → Told t → Mine t s → Ending → walk.K (Asks_stand B G) t (cr.reply_of t s now h body)
     unfolding cr.reply_of
-    k_reply t s now e told mine = k_counted t s now _ s.requests.asked e refl told mine
+    k_reply t s now e told mine ends = k_counted t s now _ s.requests.asked e refl told mine ends
 
     k_nack : (t : Turn) (s : ClientSession) (now : Stamp) (w : Why) (a b : ℕ) → body ≡ bodies.Nack w a b → t.here.session ≡ Some s → Told t → Mine t s → walk.K (Asks_stand B G) t (cr.nack t s now h w a b)
     k_nack t s now w a b is e told mine = go w is
       where
-        reply : (w : Why) → body ≡ bodies.Nack w a b → walk.K (Asks_stand B G) t (cr.reply_of t s now h (bodies.Nack w a b))
-        reply w is = subst (λ y. walk.K (Asks_stand B G) t (cr.reply_of t s now h y)) is (k_reply t s now e told mine)
+        reply : (w : Why) → Ends (bodies.Nack w a b) → body ≡ bodies.Nack w a b → walk.K (Asks_stand B G) t (cr.reply_of t s now h (bodies.Nack w a b))
+        reply w k is = subst (λ y. walk.K (Asks_stand B G) t (cr.reply_of t s now h y)) is (k_reply t s now e told mine (λ asked f. subst Ends (sym is) k))
 
         go : (w : Why) → body ≡ bodies.Nack w a b → walk.K (Asks_stand B G) t (cr.nack t s now h w a b)
         go why.Suspect is = walk.k_condemn (Asks_stand B G) t s e
@@ -241,20 +246,21 @@ module _ (B : ServerId → ℕ → ℕ → ℕ → Type 0) (G : ServerId → ℕ
         go why.Grace is = walk.k_none (Asks_stand B G) t
         go why.GraceOver is = walk.k_condemn (Asks_stand B G) t s e
         go why.Conflict is = walk.k_condemn (Asks_stand B G) t s e
-        go w is = reply w is
+        go w is = reply w tt is
 
     k_of_epoch : (t : Turn) (s : ClientSession) (now : Stamp) → t.here.session ≡ Some s → Told t → Mine t s → (b : Body) → body ≡ b → walk.K (Asks_stand B G) t (cr.of_epoch t s now h b)
     unfolding cr.of_epoch cr.grant_or_reply
     k_of_epoch t s now e told mine b is = go b is
       where
-        reply : (b : Body) → body ≡ b → walk.K (Asks_stand B G) t (cr.reply_of t s now h b)
-        reply b is = subst (λ y. walk.K (Asks_stand B G) t (cr.reply_of t s now h y)) is (k_reply t s now e told mine)
+        reply : (b : Body) → ((asked : Body) → state.fits b asked ≡ true → Ends b) → body ≡ b → walk.K (Asks_stand B G) t (cr.reply_of t s now h b)
+        reply b k is = subst (λ y. walk.K (Asks_stand B G) t (cr.reply_of t s now h y)) is (k_reply t s now e told mine (subst (λ y. (asked : Body) → state.fits y asked ≡ true → Ends y) (sym is) k))
 
         go : (b : Body) → body ≡ b → walk.K (Asks_stand B G) t (cr.of_epoch t s now h b)
         go (bodies.Nack w a b) is = k_nack t s now w a b is e told mine
-        go (bodies.Granted ino g mode) is = walk.k_if (Asks_stand B G) t (h.number == 0) _ _ (walk.k_granted (Asks_stand B G) t s ino g mode e) (reply (bodies.Granted ino g mode) is)
+        go (bodies.Granted ino g mode) is = walk.k_if (Asks_stand B G) t (h.number == 0) _ _ (walk.k_granted (Asks_stand B G) t s ino g mode e) (reply (bodies.Granted ino g mode) (λ asked f. tt) is)
         go (bodies.Demand ino g to) is = walk.k_demand (Asks_stand B G) t s ino g to e
-        go b is = reply b is
+        go bodies.Welcome is = reply bodies.Welcome (λ asked f. cc f) is
+        go b is = reply b (λ asked f. tt) is
 
     k_other : (t : Turn) (s : ClientSession) (epoch : Epoch) (b : Body) → walk.K (Asks_stand B G) t (cr.of_other_epoch t s epoch b)
     unfolding cr.of_other_epoch cr.newer_epoch cr.follow_epoch answer_each

@@ -173,7 +173,7 @@ module _ (B : ServerId → ℕ → ℕ → ℕ → Type 0) (G : ServerId → ℕ
   Stand t s = Asks_stand B G t.here.server t.here.life.0 s.epoch.0 s.requests s.cutting s.due
 
   -- what stood stands
-  stays_at : (server : ServerId) (life : ℕ) (o : Option ClientSession) → Of (Asks_stand B G) server life o → Asks_behind B G server life o
+  pub stays_at : (server : ServerId) (life : ℕ) (o : Option ClientSession) → Of (Asks_stand B G) server life o → Asks_behind B G server life o
   stays_at server life None h = tt
   stays_at server life (Some s) h = record { last = h.last; first = h.first; served = h.served; cut = h.cut; remove = λ q e. remove_more (G server) (Given_or_held G s server) (λ i g x. inl x) s.cutting q.body (h.remove q e) }
 

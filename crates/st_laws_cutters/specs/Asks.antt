@@ -16,6 +16,7 @@ use Rattle.st_rules.specs.ClientReplies.{is_counting, refuses_reassertion}
 use Rattle.st_rules.specs.ClientState.{Association, ClientSession, Requests, reasserts}
 use Rattle.st_rules.specs.Keys.{server_node}
 use Rattle.st_laws_askers.specs.Last.{Is_last}
+use Rattle.st_laws_askers.specs.Reached.{Ends}
 
 -- the first number that was not ended: of the outstanding request, or the next one
 abbrev pub open_from : ℕ → Option Request → ℕ
@@ -63,7 +64,7 @@ pub record Asks_stand (B : ServerId → ℕ → ℕ → ℕ → Type 0) (G : Ser
 -- what a message that is heard says of the request that it ends: all up to it were served
 abbrev pub Tells : (ServerId → ℕ → ℕ → ℕ → Type 0) → Header → Body → Fact
 Tells B h body server life epoch r cutting due =
-    (q : Request) → r.asked ≡ Some q → h.from ≡ server_node server → h.life ≡ life → h.epoch ≡ epoch →
+    (q : Request) → r.asked ≡ Some q → h.from ≡ server_node server → h.life ≡ life → h.epoch ≡ epoch → Ends body →
     is_counting h.number body q ≡ true → refuses_reassertion body q.body ≡ false → B server life epoch (q.number + 1)
 
 -- a session has an exclusive lock on a file, under this grant
