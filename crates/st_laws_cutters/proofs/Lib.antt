@@ -4,3 +4,4 @@ pub mod Hearing
 pub mod Requesting
 pub mod Step
 pub mod World
+pub mod Named

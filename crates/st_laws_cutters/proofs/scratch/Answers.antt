@@ -1,5 +1,5 @@
 use Rattle.std.proofs.Common.{refl}
-use Rattle.st_laws_cutters.proofs.World.{stand_again}
+use Rattle.st_laws_cutters.proofs.Named.{law}
 use Rattle.st_laws_cutters.proofs.scratch.Goals as goal
 
 pub returns : goal.returns
