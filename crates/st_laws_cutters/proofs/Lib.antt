@@ -5,3 +5,5 @@ pub mod Requesting
 pub mod Step
 pub mod World
 pub mod Named
+pub mod Cutting
+pub mod Seen

@@ -1,3 +1,4 @@
 pub mod Asks
 pub mod World
 pub mod Named
+pub mod Cut
