@@ -53,7 +53,8 @@ use Rattle.st_lemmas.proofs.Tables.{has_append, has_map_in}
 use Rattle.st_rules.specs.Server.{server_step}
 use Rattle.st_rules.specs.Events.{world_step}
 use Rattle.st_laws_dates.specs.Dates.{message_in, messages}
-use Rattle.st_laws_cutters.specs.Cut.{Cut_by, Cut_in}
+use Rattle.st_laws_server.proofs.Delivery.{all_parts}
+use Rattle.st_laws_cutters.specs.Cut.{Cut_by, Cut_in, Unmoved}
 use Rattle.st_laws_cutters.proofs.Cutting.{step_cuts, tick_cuts}
 
 -- what is observed of cuts
@@ -72,7 +73,7 @@ one_more P os o k h index f p i = go (has_append os (o ∷ []) (seen.CutAt index
     go (inr (inr j)) = absurd j
 
 module _ (P : FileId → PageNo → Type 0) where
-  K : Scene → Type 0
+  abbrev pub K : Scene → Type 0
   K sc = Known P sc.seen
 
   -- Nothing that a client does is a cut.
@@ -118,11 +119,10 @@ module _ (P : FileId → PageNo → Type 0) where
       go (fates.Gone cause) y r = r
 
   quiet : (v : World) → K (ev.quiet v)
-  unfolding K
   quiet v = none P
 
   client_takes : (w : World) (c : ClientId) (input : ClientInput) (site : ClientSite) → K (ev.client_takes w c input site)
-  unfolding ev.client_takes ev.client_took K
+  unfolding ev.client_takes ev.client_took
   client_takes w c input site = go (cl.node_step site.node (clock_of w (nodes.Client c)) input)
     where
       go : (r : Result cl.NodeTurn StepRefusal) → K (ev.client_took w c site r)
@@ -136,7 +136,7 @@ module _ (P : FileId → PageNo → Type 0) where
 
   -- A server's step.
   server_one : (s : ServerId) (o : Output) (sc : Scene) → ((f : FileId) (p : PageNo) → outputs.Note (notes.CutDone f p) ≡ o → P f p) → K sc → K (ev.server_says sc s o)
-  unfolding ev.server_says ev.server_notes ev.cuts ev.sends K
+  unfolding ev.server_says ev.server_notes ev.cuts ev.sends
   server_one s (outputs.Send m) sc c h = one_more P sc.seen _ (λ i f p e. cc e) h
   server_one s (outputs.Note x) sc c h = note x c
     where
@@ -155,20 +155,25 @@ module _ (P : FileId → PageNo → Type 0) where
   server_all s [] sc c h = h
   server_all s (o ∷ os) sc c h = server_all s os (ev.server_says sc s o) (λ f p i. c f p (inr i)) (server_one s o sc (λ f p e. c f p (inl e)) h)
 
+-- each cut that is observed is of a server, in a step that leaves the clients and the clocks
+abbrev Cut_there : World → Scene → Type 0
+Cut_there w sc = Known (λ f p. Cut_in w f p × Unmoved w sc.world) sc.seen
+
 -- Every event.
 module _ (w : World) where
   at_server : (s : ServerId) (input : ServerInput) (o : Option ServerNode) → node_of w s ≡ o →
-      ((n : ServerNode) → o ≡ Some n → n.running ≡ true → (f : FileId) (p : PageNo) → Has (outputs.Note (notes.CutDone f p)) (server_step n.state (clock_of w (nodes.Server s)) input).out → Cut_in w f p) → K (λ f p. Cut_in w f p) (ev.at_server w s input o)
-  unfolding ev.at_server ev.server_takes ev.server_took server.node_step K
-  at_server s input None e k = quiet (λ f p. Cut_in w f p) w
+      ((n : ServerNode) → o ≡ Some n → n.running ≡ true → (f : FileId) (p : PageNo) → Has (outputs.Note (notes.CutDone f p)) (server_step n.state (clock_of w (nodes.Server s)) input).out → Cut_in w f p) → Cut_there w (ev.at_server w s input o)
+  unfolding ev.at_server ev.server_takes ev.server_took server.node_step
+  at_server s input None e k = quiet _ w
   at_server s input (Some node) e k = go node.running refl
     where
       t : server.Turn
       t = server.server_step node.state (clock_of w (nodes.Server s)) input
 
-      go : (x : Bool) → node.running ≡ x → K (λ f p. Cut_in w f p) (ev.server_took w s (if x then Ok (server.node_turn node t) else Err Crashed))
-      go false r = quiet (λ f p. Cut_in w f p) w
-      go true r = server_all (λ f p. Cut_in w f p) s t.out (ev.quiet (ev.with_node s (server.node_turn node t).node w)) (k node refl r) (none (λ f p. Cut_in w f p))
+      go : (x : Bool) → node.running ≡ x → Cut_there w (ev.server_took w s (if x then Ok (server.node_turn node t) else Err Crashed))
+      go false r = quiet _ w
+      go true r = server_all (λ f p. Cut_in w f p × Unmoved w (ev.server_says_all s t.out (ev.quiet (ev.with_node s (server.node_turn node t).node w))).world) s t.out (ev.quiet (ev.with_node s (server.node_turn node t).node w))
+          (λ f p h. (k node refl r f p h, let y = all_parts s t.out (ev.quiet (ev.with_node s (server.node_turn node t).node w)) in record { clients = y.clients; clocks = y.clocks })) (none _)
 
   module _ (ids : (s : ServerId) (n : ServerNode) → node_of w s ≡ Some n → n.state.id ≡ s) where
     by_message : (s : ServerId) (m : Message) → Has m (messages w) → (n : ServerNode) → node_of w s ≡ Some n → n.running ≡ true → (f : FileId) (p : PageNo) →
@@ -177,55 +182,54 @@ module _ (w : World) where
         let c = step_cuts n.state (clock_of w (nodes.Server s)) m f p h in
         record { node = n; there = ap (node_of w) (c.server ∙ ids s n at) ∙ at; running = run; message = m; among = among; by = c }
 
-    happens : (e : Event) → K (λ f p. Cut_in w f p) (ev.happens w e)
-    unfolding ev.happens ev.ticks ev.asks_at ev.delivers ev.delivers_to ev.loses_message ev.advances ev.marks ev.effects ev.reports_of ev.tells ev.tells_client ev.tells_site ev.crashes ev.crashes_client ev.crashes_server ev.starts ev.starts_client ev.starts_server K
-    happens (events.Tick (nodes.Client c)) = at_client (λ f p. Cut_in w f p) w c _ (site_of w c)
+    happens : (e : Event) → Cut_there w (ev.happens w e)
+    unfolding ev.happens ev.ticks ev.asks_at ev.delivers ev.delivers_to ev.loses_message ev.advances ev.marks ev.effects ev.reports_of ev.tells ev.tells_client ev.tells_site ev.crashes ev.crashes_client ev.crashes_server ev.starts ev.starts_client ev.starts_server
+    happens (events.Tick (nodes.Client c)) = at_client _ w c _ (site_of w c)
     happens (events.Tick (nodes.Server s)) = at_server s serving.Tick (node_of w s) refl (λ n e run f p h. absurd (tick_cuts n.state (clock_of w (nodes.Server s)) f p h))
     happens (events.App c ask) = go (site_of w c)
       where
-        go : (x : Option ClientSite) → K (λ f p. Cut_in w f p) (ev.asks_at w c ask x)
-        go None = quiet (λ f p. Cut_in w f p) w
-        go (Some site) = client_takes (λ f p. Cut_in w f p) w c _ (ev.asked_once_more site)
+        go : (x : Option ClientSite) → Cut_there w (ev.asks_at w c ask x)
+        go None = quiet _ w
+        go (Some site) = client_takes _ w c _ (ev.asked_once_more site)
     happens (events.Deliver k) = go (world.message_of w k) refl
       where
-        to : (m : Message) → Has m (messages w) → (n : NodeId) → K (λ f p. Cut_in w f p) (ev.delivers_to w m n)
-        to m h (nodes.Client c) = at_client (λ f p. Cut_in w f p) w c _ (site_of w c)
+        to : (m : Message) → Has m (messages w) → (n : NodeId) → Cut_there w (ev.delivers_to w m n)
+        to m h (nodes.Client c) = at_client _ w c _ (site_of w c)
         to m h (nodes.Server s) = at_server s (serving.Control m) (node_of w s) refl (λ n e. by_message s m h n e)
 
-        go : (m : Option SentMessage) → world.message_of w k ≡ m → K (λ f p. Cut_in w f p) (ev.delivers w m)
-        go None q = quiet (λ f p. Cut_in w f p) w
+        go : (m : Option SentMessage) → world.message_of w k ≡ m → Cut_there w (ev.delivers w m)
+        go None q = quiet _ w
         go (Some m) q = to m.message (has_map_in message_in w.net.messages m (numbered_has w.net.messages k m q)) (world.receiver_of m)
-    happens (events.Lose k) = quiet (λ f p. Cut_in w f p) (ev.loses_message w k (world.message_of w k))
-    happens (events.Cut from to) = quiet (λ f p. Cut_in w f p) (ev.with_cut from to w)
-    happens (events.Heal from to) = quiet (λ f p. Cut_in w f p) (ev.without_cut from to w)
-    happens (events.Advance steps) = marks (λ f p. Cut_in w f p) 1 w.log _
-    happens (events.Effect k) = marks (λ f p. Cut_in w f p) 1 w.log _
+    happens (events.Lose k) = quiet _ (ev.loses_message w k (world.message_of w k))
+    happens (events.Cut from to) = quiet _ (ev.with_cut from to w)
+    happens (events.Heal from to) = quiet _ (ev.without_cut from to w)
+    happens (events.Advance steps) = marks _ 1 w.log _
+    happens (events.Effect k) = marks _ 1 w.log _
     happens (events.Report k ok) = go (issued_of w k)
       where
         v : World
         v = ev.with_disks (ev.disks_after w.disks (disks.done w.disks k ok)) w
 
-        same : (x : IssuedCommand) (site : ClientSite) (b : Bool) → K (λ f p. Cut_in w f p) (if b then ev.client_takes v x.client (ev.end_told v k ok x) site else ev.quiet v)
-        same x site true = client_takes (λ f p. Cut_in w f p) v x.client (ev.end_told v k ok x) site
-        same x site false = quiet (λ f p. Cut_in w f p) v
+        same : (x : IssuedCommand) (site : ClientSite) (b : Bool) → Cut_there w (if b then ev.client_takes v x.client (ev.end_told v k ok x) site else ev.quiet v)
+        same x site true = client_takes _ v x.client (ev.end_told v k ok x) site
+        same x site false = quiet _ v
 
-        told : (x : IssuedCommand) (s : Option ClientSite) → K (λ f p. Cut_in w f p) (ev.tells_client v k ok x s)
-        told x None = quiet (λ f p. Cut_in w f p) v
+        told : (x : IssuedCommand) (s : Option ClientSite) → Cut_there w (ev.tells_client v k ok x s)
+        told x None = quiet _ v
         told x (Some site) = same x site (ev.is_same_instance x site)
 
-        go : (x : Option IssuedCommand) → K (λ f p. Cut_in w f p) (ev.tells v k ok x)
-        go None = quiet (λ f p. Cut_in w f p) v
+        go : (x : Option IssuedCommand) → Cut_there w (ev.tells v k ok x)
+        go None = quiet _ v
         go (Some x) = told x (site_of v x.client)
     happens (events.Crash (nodes.Client c)) = go (site_of w c)
       where
-        go : (x : Option ClientSite) → K (λ f p. Cut_in w f p) (ev.crashes_client w c x)
-        go None = quiet (λ f p. Cut_in w f p) w
-        go (Some site) = marks (λ f p. Cut_in w f p) 1 w.log (ev.log_crashed w c)
-    happens (events.Crash (nodes.Server s)) = quiet (λ f p. Cut_in w f p) (ev.crashes_server w s (node_of w s))
-    happens (events.Start (nodes.Client c)) = quiet (λ f p. Cut_in w f p) (ev.starts_client w c (site_of w c))
-    happens (events.Start (nodes.Server s)) = quiet (λ f p. Cut_in w f p) (ev.starts_server w s (node_of w s))
+        go : (x : Option ClientSite) → Cut_there w (ev.crashes_client w c x)
+        go None = quiet _ w
+        go (Some site) = marks _ 1 w.log (ev.log_crashed w c)
+    happens (events.Crash (nodes.Server s)) = quiet _ (ev.crashes_server w s (node_of w s))
+    happens (events.Start (nodes.Client c)) = quiet _ (ev.starts_client w c (site_of w c))
+    happens (events.Start (nodes.Server s)) = quiet _ (ev.starts_server w s (node_of w s))
 
 -- Each cut that a step logs is of a server because of a message.
-pub cuts_known : (w : World) (e : Event) (sc : Scene) → ((s : ServerId) (n : ServerNode) → node_of w s ≡ Some n → n.state.id ≡ s) → world_step w e ≡ Ok sc → (index : ℕ) (f : FileId) (p : PageNo) → Has (seen.CutAt index f p) sc.seen → Cut_in (ev.counted w) f p
-unfolding K
-cuts_known w e sc ids h index f p i = let z = step_happens w e sc h in happens (ev.counted w) ids e index f p (subst (λ (x : Scene). Has (seen.CutAt index f p) x.seen) z.1 i)
+pub cuts_known : (w : World) (e : Event) (sc : Scene) → ((s : ServerId) (n : ServerNode) → node_of w s ≡ Some n → n.state.id ≡ s) → world_step w e ≡ Ok sc → (index : ℕ) (f : FileId) (p : PageNo) → Has (seen.CutAt index f p) sc.seen → Cut_in (ev.counted w) f p × Unmoved (ev.counted w) sc.world
+cuts_known w e sc ids h index f p i = let z = step_happens w e sc h in subst (λ (x : Scene). Cut_there (ev.counted w) x) (sym z.1) (happens (ev.counted w) ids e) index f p i

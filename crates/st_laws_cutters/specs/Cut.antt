@@ -52,3 +52,8 @@ pub record Cut_in (w : World) (f : FileId) (p : PageNo) : Type 0 where
   pub message : Message
   pub among : Has message (messages w)
   pub by : Cut_by node.state message f p
+
+-- the clients and the clocks of a world are those of another one
+pub record Unmoved (w v : World) : Type 0 where
+  pub clients : v.clients ≡ w.clients
+  pub clocks : v.clocks ≡ w.clocks
