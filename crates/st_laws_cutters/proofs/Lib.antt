@@ -7,3 +7,4 @@ pub mod World
 pub mod Named
 pub mod Cutting
 pub mod Seen
+pub mod Standing

@@ -2,3 +2,4 @@ pub mod Asks
 pub mod World
 pub mod Named
 pub mod Cut
+pub mod Law

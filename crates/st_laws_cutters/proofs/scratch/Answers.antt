@@ -1,5 +1,5 @@
 use Rattle.std.proofs.Common.{refl}
-use Rattle.st_laws_cutters.proofs.Seen.{cuts_known}
+use Rattle.st_laws_cutters.proofs.Standing.{own_session}
 use Rattle.st_laws_cutters.proofs.scratch.Goals as goal
 
 pub returns : goal.returns
