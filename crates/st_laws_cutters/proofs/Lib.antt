@@ -8,3 +8,5 @@ pub mod Named
 pub mod Cutting
 pub mod Seen
 pub mod Standing
+pub mod Asked
+pub mod Law

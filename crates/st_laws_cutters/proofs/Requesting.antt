@@ -63,7 +63,7 @@ clash : {A : Type 0} {b : Bool} → b ≡ true → b ≡ false → A
 clash x y = cc
 
 -- what is removed was given in one more way
-remove_more : (P Q : ℕ → GrantNo → Type 0) → ((ino : ℕ) (g : GrantNo) → P ino g → Q ino g) → (cutting : Option ℕ) (b : Body) → Remove_named P cutting b → Remove_named Q cutting b
+pub remove_more : (P Q : ℕ → GrantNo → Type 0) → ((ino : ℕ) (g : GrantNo) → P ino g → Q ino g) → (cutting : Option ℕ) (b : Body) → Remove_named P cutting b → Remove_named Q cutting b
 remove_more P Q f o (bodies.Name (ops.Remove dir x g)) r = λ l. let z = r l in (z.0, z.1, f z.0 g z.2)
 remove_more P Q f o b r = tt
 

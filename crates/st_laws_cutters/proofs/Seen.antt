@@ -78,7 +78,7 @@ module _ (P : FileId → PageNo → Type 0) where
 
   -- Nothing that a client does is a cut.
   client_one : (c : ClientId) (before : ClientState) (o : Output) (sc : Scene) → K sc → K (ev.client_says sc c before o)
-  unfolding K ev.client_says ev.sends ev.submits ev.answers_with ev.client_notes ev.accepts ev.patches ev.loses
+  unfolding ev.client_says ev.sends ev.submits ev.answers_with ev.client_notes ev.accepts ev.patches ev.loses
   client_one c before (outputs.Send m) sc h = one_more P sc.seen _ (λ i f p e. cc e) h
   client_one c before (outputs.Answer op a) sc h = one_more P sc.seen _ (λ i f p e. cc e) h
   client_one c before (outputs.Submit number at what) sc h = go (site_of sc.world c)

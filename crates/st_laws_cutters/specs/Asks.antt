@@ -82,6 +82,3 @@ Given_or_held G s server ino g = G server ino g ⊎ Has_exclusive s ino g
 abbrev pub Asks_behind : (ServerId → ℕ → ℕ → ℕ → Type 0) → (ServerId → ℕ → GrantNo → Type 0) → ServerId → ℕ → Option ClientSession → Type 0
 Asks_behind B G server life None = Unit {0}
 Asks_behind B G server life (Some s) = Asks_stand B (Given_or_held G s) server life s.epoch.0 s.requests s.cutting s.due
-
-abbrev pub True_now : Type 0
-True_now = (n : ℕ) → n ≡ n

@@ -1,16 +1,13 @@
 -- Each cut that a step logs is asked, over whole runs.
 use Rattle.std.specs.Prelude.{◌≡◌, ℕ, List, Some}
 use Rattle.st_rules.specs.Safety.{Promise, Step}
-use Rattle.st_rules.specs.History.{Traced}
 use Rattle.st_rules.specs.Server.{ServerNode}
 use Rattle.st_rules.specs.World.{World, node_of, server}
 use Rattle.st_assoc.specs.Assoc.{Config}
 use Rattle.st_laws.specs.World.{AllStand}
-use Rattle.st_laws_askers.proofs.Replies.{Replies_hold}
-use Rattle.st_laws_cuts.specs.Cuts.{Cuts_hold}
 use Rattle.st_laws_reads.specs.Left.{Cuts_asked}
 use Rattle.st_laws_cutters.specs.Named.{Given}
-use Rattle.st_laws_cutters.specs.World.{All_ask, Gifts}
+use Rattle.st_laws_cutters.specs.World.{Gifts}
 
 -- behind a step
 abbrev pub Cuts_are_asked : Promise
