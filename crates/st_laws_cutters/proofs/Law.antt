@@ -141,7 +141,7 @@ module _ (k : Config) (count : ℕ) (past : List Step) (t : Traced) (e : Event) 
 
   asked : (index : ℕ) (f : FileId) (p : PageNo) → Has (seen.CutAt index f p) sc.seen → Cut_asked sc.world f p
   asked index f p i d site a run j e2 lasts alone held =
-      is_asked k count past t h.cuts h.all h.asks f p (known.0) d site (record { there = ap (λ xs. numbered xs (client d).0) (sym known.1.clients) ∙ run.there; runs = run.runs }) a j e2
+      is_asked k count past t h.cuts h.all h.asks f p (record { node = known.0.node; there = known.0.there; running = known.0.running; message = known.0.message; among = known.0.among; by = known.0.by }) d site (record { there = ap (λ xs. numbered xs (client d).0) (sym known.1.clients) ∙ run.there; runs = run.runs }) a j e2
       (subst (λ w. Rattle.st_laws_client.specs.Shown.Lasts site.node.state.config.lease w a.session) clock lasts) held
     where
       known : Cut_in (ev.counted t.world) f p × Rattle.st_laws_cutters.specs.Cut.Unmoved (ev.counted t.world) sc.world
@@ -164,6 +164,7 @@ fresh_asks k clients servers disks blocks form G c site e =
     (λ a i. let z = has_map cl.fresh_association (numbers 1 servers) a i in empty _ (G c) a (ap (λ (y : Association). y.session) z.2))
 
 pub law : In_every_run Cuts_are_asked
+unfolding fresh_world
 law k clients servers disks blocks form es head events =
     throughout_events (clients + servers) Cuts_are_asked (Hold (terms_of k) (clients + servers)) (λ past t e sc r h taken. one (terms_of k) (clients + servers) past t e sc r h taken) es events []
     (traced (fresh_world k clients servers disks blocks form))

@@ -10,3 +10,4 @@ pub mod Seen
 pub mod Standing
 pub mod Asked
 pub mod Law
+pub mod Runs

@@ -278,7 +278,6 @@ module _ (F : Fact) where
       go None = k_none t
       go (Some s) = k_if t (cl.is_over t s now) _ t (λ h. tt) (k_none t)
 
-
   -- Grants and demands.
   pub k_granted : (t : Turn) (s : ClientSession) (ino : ℕ) (g : GrantNo) (mode : Mode) → t.here.session ≡ Some s → K t (cr.granted t s ino g mode)
   unfolding cr.granted cr.grant cr.grant_new cr.accept_grant cr.decline

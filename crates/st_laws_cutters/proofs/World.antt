@@ -57,6 +57,7 @@ use Rattle.std.proofs.lemmas.Bool.{eqb-true}
 use Rattle.st_lemmas.proofs.Tables.{and_both, and_true}
 use Rattle.st_base.specs.declared.ids.GrantNo.{GrantNo}
 use Rattle.st_laws_askers.proofs.Served.{Refused, Served, served}
+
 set_cases : {A : Type 0} (xs : List A) (n m : ℕ) (y z x : A) → numbered xs n ≡ Some y → numbered (with_numbered n z xs) m ≡ Some x → ((m ≡ n) × (x ≡ z)) ⊎ ((m ≢ n) × (numbered xs m ≡ Some x))
 set_cases {A} xs n m y z x at h = go (same_or_not m n)
   where

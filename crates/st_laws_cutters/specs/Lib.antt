@@ -3,3 +3,4 @@ pub mod World
 pub mod Named
 pub mod Cut
 pub mod Law
+pub mod Runs
