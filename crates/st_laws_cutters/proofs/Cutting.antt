@@ -1,10 +1,9 @@
 -- Why a server cuts a file: the rules of a server, walked for the cuts that they note.
-use Rattle.std.proofs.Common.{◌≡◌, ℕ, ◌+◌, ◌≤◌, ◌<◌, ◌≢◌, ◌⊎◌, Bool, true, false, List, [], ◌∷◌, ◌==◌, refl, sym, ap, ◌∙◌, subst, inl, inr, arith, if◌then◌else◌}
-use Rattle.std.specs.Prelude.{not, ◌&&◌, Option, Some, None, Result as Res, Ok, Err, find, length, nat_le, nat_lt, option_map}
-use Rattle.std.proofs.lemmas.Bool.{eq-eqb, eqb-true, le-leb, leb-true, ltb-false, ltb-true}
+use Rattle.std.proofs.Common.{◌≡◌, ℕ, ◌⊎◌, Bool, true, false, List, [], ◌∷◌, ◌==◌, refl, sym, ap, ◌∙◌, subst, inl, inr, if◌then◌else◌}
+use Rattle.std.specs.Prelude.{not, Option, Some, None, Result as Res, Ok, Err, option_map}
+use Rattle.std.proofs.lemmas.Bool.{eq-eqb, eqb-true}
 use Rattle.st_base.specs.declared.ids.ClientId.{ClientId}
 use Rattle.st_base.specs.declared.ids.Epoch.{Epoch}
-use Rattle.st_base.specs.declared.ids.ServerId.{ServerId}
 use Rattle.st_base.specs.declared.ids.GrantNo.{GrantNo}
 use Rattle.st_base.specs.declared.ids.Life.{Life}
 use Rattle.st_base.specs.declared.ids.PageNo.{PageNo}
@@ -18,26 +17,19 @@ use Rattle.st_messages.specs.declared.message.Body.{Body}
 use Rattle.st_messages.specs.declared.message.Body.TheVariants as bd
 use Rattle.st_messages.specs.declared.message.NameOp.{NameOp}
 use Rattle.st_messages.specs.declared.message.NameOp.TheVariants.{Lookup, Create, Mkdir, Remove, Rename, List as ListFrom}
-use Rattle.st_messages.specs.declared.output.Note.{Note}
 use Rattle.st_messages.specs.declared.output.Note.TheVariants as notes
 use Rattle.st_messages.specs.declared.output.Output.{Output}
 use Rattle.st_messages.specs.declared.output.Output.TheVariants as outputs
 use Rattle.st_rules.specs.declared.input.ServerInput.{ServerInput}
 use Rattle.st_rules.specs.declared.input.ServerInput.TheVariants.{Tick, Control}
 use Rattle.st_rules.specs.declared.authority.AcceptRefusal.{AcceptRefusal}
-use Rattle.st_rules.specs.declared.authority.AcceptRefusal.TheVariants as refusals
-use Rattle.st_rules.specs.declared.extents.AllocateRefusal.TheVariants as wants
 use Rattle.st_rules.specs.declared.locks.AcquireRefusal.{AcquireRefusal}
-use Rattle.st_rules.specs.declared.locks.InstallRefusal.{InstallRefusal}
 use Rattle.st_rules.specs.declared.names.EntryRefusal.{EntryRefusal}
 use Rattle.st_rules.specs.declared.sessions.Hello.{Hello}
 use Rattle.st_rules.specs.declared.sessions.Hello.TheVariants as hellos
 use Rattle.st_rules.specs.declared.sessions.Session.{Session}
-use Rattle.st_rules.specs.declared.sessions.SessionState.{SessionState}
-use Rattle.st_rules.specs.declared.sessions.SessionState.TheVariants as states
 use Rattle.st_rules.specs.declared.sessions.Taken.{Taken}
 use Rattle.st_rules.specs.declared.sessions.Taken.TheVariants as takes
-use Rattle.st_rules.specs.ClientState.{is_refusal}
 use Rattle.st_rules.specs.Extents as extents
 use Rattle.st_rules.specs.Names as names
 use Rattle.st_rules.specs.Locks as locks
@@ -45,13 +37,12 @@ use Rattle.st_rules.specs.Locks.{Locks}
 use Rattle.st_rules.specs.Sessions as sessions
 use Rattle.st_rules.specs.Authority as authority
 use Rattle.st_rules.specs.Grace as grace
-use Rattle.st_rules.specs.Keys.{client, server_node}
+use Rattle.st_rules.specs.Keys.{server_node}
 use Rattle.st_rules.specs.Server as sv
 use Rattle.st_rules.specs.Server.{ServerState, Turn, Replied, turn, with_locks, with_sessions, with_authority, with_names, sender, life_in, note, reply, say, tell, steal_at, steal_from, steal, steal_each, thefts, suspect_client, greet_as, greet_by, greet, refuse_in_grace, hello, demand_seen, see_demand, refuse_epoch, reassert_by, reassert_new, reassert_again, reassert, rule, keep_and_reply, keep, serve, request_by, request, of_epoch, by_body, refuse_suspect, by_suspicion, receive_from, receive, take_input, suspect_unless, suspect_each, suspecting, suspecting_on, tell_granted, grant_by, grant_waiting, granting, tell_demanded, demand_by, demanding, server_step}
 use Rattle.st_lemmas.specs.Lists.{Has}
-use Rattle.st_lemmas.proofs.Lookups.{or_false, some_is}
-use Rattle.st_lemmas.proofs.Puts.{find_put_by, find_put_other}
-use Rattle.st_lemmas.proofs.Tables.{and_both, and_true, find_gone, find_kept, find_map, found_at, has_append, same_or_not}
+use Rattle.st_lemmas.proofs.Lookups.{some_is}
+use Rattle.st_lemmas.proofs.Tables.{and_true, find_gone, find_kept, find_map, has_append}
 use Rattle.st_laws_askers.proofs.Served.{Fresh_state, Found, found_for, fresh_state}
 use Rattle.st_laws_cutters.specs.Cut.{Asks_cut, Cut_by}
 use Rattle.st_base.specs.declared.ids.FileId.{FileId}

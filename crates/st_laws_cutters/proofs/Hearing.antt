@@ -1,18 +1,13 @@
 -- What a message that is heard leaves of the requests of a session.
-use Rattle.std.proofs.Common.{◌≡◌, ℕ, ◌+◌, Bool, true, false, ◌==◌, List, [], ◌∷◌, Option, Some, None, Ok, Err, refl, sym, ap, ◌∙◌, subst, if◌then◌else◌}
-use Rattle.st_base.specs.declared.disk.Tag.{Tag}
+use Rattle.std.proofs.Common.{◌≡◌, ℕ, Bool, true, false, ◌==◌, List, Option, Some, None, refl, sym, subst, if◌then◌else◌}
 use Rattle.st_base.specs.declared.ids.Epoch.{Epoch}
-use Rattle.st_base.specs.declared.ids.FileId.{FileId}
 use Rattle.st_base.specs.declared.ids.GrantNo.{GrantNo}
 use Rattle.st_base.specs.declared.ids.PageNo.{PageNo}
 use Rattle.st_base.specs.declared.ids.ServerId.{ServerId}
 use Rattle.st_base.specs.declared.ids.Stamp.{Stamp}
 use Rattle.st_base.specs.declared.mode.Mode.{Mode}
-use Rattle.st_base.specs.declared.mode.Mode.TheVariants as modes
 use Rattle.st_base.specs.declared.rows.ExtentRow.{ExtentRow}
 use Rattle.st_messages.specs.declared.answer.AppAnswer.TheVariants as answers
-use Rattle.st_messages.specs.declared.ask.Ask.{Ask}
-use Rattle.st_messages.specs.declared.ask.Ask.TheVariants as asks
 use Rattle.st_messages.specs.declared.message.Body.{Body}
 use Rattle.st_messages.specs.declared.message.Body.TheVariants as bodies
 use Rattle.st_messages.specs.declared.message.Header.{Header}
@@ -20,37 +15,17 @@ use Rattle.st_messages.specs.declared.message.NameReply.{NameReply}
 use Rattle.st_messages.specs.declared.message.NameReply.TheVariants.{Ino, Listed, Refused}
 use Rattle.st_messages.specs.declared.message.Why.{Why}
 use Rattle.st_messages.specs.declared.message.Why.TheVariants as why
-use Rattle.st_messages.specs.declared.output.Note.{Note}
-use Rattle.st_rules.specs.declared.client.Asked.{Asked}
-use Rattle.st_rules.specs.declared.client.Asked.TheVariants.{Reduce, NotHeld, Stale}
-use Rattle.st_rules.specs.declared.client.Ended.{Ended}
-use Rattle.st_rules.specs.declared.client.Ended.TheVariants as ends
 use Rattle.st_rules.specs.declared.client.HeldLock.{HeldLock}
-use Rattle.st_rules.specs.declared.client.IoKind.{IoKind}
-use Rattle.st_rules.specs.declared.client.IoKind.TheVariants as io
-use Rattle.st_rules.specs.declared.client.KnownExtent.{KnownExtent}
-use Rattle.st_rules.specs.declared.client.Mapping.{Mapping}
-use Rattle.st_rules.specs.declared.client.Operation.{Operation}
-use Rattle.st_rules.specs.declared.client.PageCommand.{PageCommand}
-use Rattle.st_rules.specs.declared.client.Release.{Release}
 use Rattle.st_rules.specs.declared.client.Request.{Request}
-use Rattle.st_rules.specs.declared.pages.DirtyPage.{DirtyPage}
-use Rattle.st_rules.specs.declared.client.WriteRefusal.TheVariants as refusals
-use Rattle.st_rules.specs.Client as cl
 use Rattle.st_rules.specs.Keys.{server_node}
 use Rattle.st_lemmas.proofs.Tables.{and_true}
 use Rattle.std.proofs.lemmas.Bool.{eqb-true}
 use Rattle.st_rules.specs.ClientLocks as locks
-use Rattle.st_rules.specs.ClientPages as pages
-use Rattle.st_rules.specs.ClientPages.{Pages, Store}
-use Rattle.st_rules.specs.ClientPasses as cp
 use Rattle.st_rules.specs.ClientReplies as cr
 use Rattle.st_rules.specs.ClientState as state
 use Rattle.st_rules.specs.ClientState.{Association, ClientSession, Turn, answer_each, answered, is_at, is_file, is_open_file, keep, only_at, send, with_session, with_store}
-use Rattle.st_lemmas.proofs.Lookups.{some_is}
-use Rattle.st_laws_askers.specs.Last.{Is_last}
 use Rattle.st_laws_askers.specs.Reached.{Ends}
-use Rattle.st_laws_cutters.specs.Asks.{Asks_stand, Fact, Of, Reasserts_first, Cut_named, Remove_named, Tells, first_open, open_from}
+use Rattle.st_laws_cutters.specs.Asks.{Asks_stand, Fact, Of, Tells}
 use Rattle.st_laws_cutters.proofs.Walking as walk
 
 -- by the reply: whether a reassertion is due behind it

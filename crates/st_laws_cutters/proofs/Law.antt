@@ -1,5 +1,5 @@
 -- Cuts are asked: at the start, behind every event, and over whole runs.
-use Rattle.std.proofs.Common.{◌≡◌, ◌≢◌, ◌⊎◌, ℕ, ◌+◌, Bool, true, false, List, [], ◌∷◌, ◌++◌, Option, Some, None, Ok, refl, sym, ap, ◌∙◌, subst, inl, inr}
+use Rattle.std.proofs.Common.{◌≡◌, ◌⊎◌, ℕ, ◌+◌, Bool, true, false, List, [], ◌∷◌, ◌++◌, Option, Some, None, Ok, refl, sym, ap, ◌∙◌, subst, inl, inr}
 use Rattle.st_base.specs.declared.config.Config as base
 use Rattle.st_base.specs.declared.ids.ClientId.{ClientId}
 use Rattle.st_base.specs.declared.ids.FileId.{FileId}
@@ -9,7 +9,6 @@ use Rattle.st_base.specs.declared.ids.PageNo.{PageNo}
 use Rattle.st_base.specs.declared.ids.ServerId.{ServerId}
 use Rattle.st_messages.specs.declared.event.Event.{Event}
 use Rattle.st_rules.specs.declared.observation.Observation.TheVariants as seen
-use Rattle.st_rules.specs.declared.client.Request.{Request}
 use Rattle.st_rules.specs.Client as cl
 use Rattle.st_rules.specs.ClientState.{Association, ClientSession}
 use Rattle.st_rules.specs.Events as ev
@@ -17,9 +16,8 @@ use Rattle.st_rules.specs.Events.{Scene, world_step}
 use Rattle.st_rules.specs.Extents.{numbers}
 use Rattle.st_rules.specs.History.{Traced, traced, traced_after}
 use Rattle.st_rules.specs.Keys.{client}
-use Rattle.st_rules.specs.Safety.{IsHead, Step, is_event, step}
-use Rattle.st_rules.specs.Server.{ServerNode}
-use Rattle.st_rules.specs.World.{World, ClientSite, clock_of, fresh_world, node_of, numbered, server, site_of}
+use Rattle.st_rules.specs.Safety.{Step, is_event, step}
+use Rattle.st_rules.specs.World.{World, ClientSite, clock_of, fresh_world, numbered, site_of}
 use Rattle.st_assoc.specs.Assoc.{Config, In, Msg}
 use Rattle.st_assoc.specs.Assoc as net
 use Rattle.st_assoc.proofs.Timing.{grows}
@@ -43,7 +41,6 @@ use Rattle.st_laws_askers.proofs.Replies as replies
 use Rattle.st_laws_askers.proofs.Replies.{Replies_hold}
 use Rattle.st_laws_cuts.specs.Cuts.{Cuts_hold}
 use Rattle.st_laws_cuts.proofs.Law as cutting
-use Rattle.st_laws_reads.specs.Law.{Running}
 use Rattle.st_laws_reads.specs.Left.{Cut_asked}
 use Rattle.st_laws_cutters.specs.Asks.{Asks_behind, Asks_stand, Has_exclusive, Of}
 use Rattle.st_laws_cutters.specs.Cut.{Cut_in}

@@ -1,6 +1,6 @@
 -- A grant's number names its file: each move of the association machine keeps it, and so it stands in every state that can be reached.
-use Rattle.std.proofs.Common.{◌≡◌, ◌≢◌, ℕ, ◌≤◌, ◌<◌, ◌⊎◌, List, [], ◌∷◌, refl, sym, ap, ◌∙◌, subst, inl, inr, arith}
-use Rattle.st_assoc.specs.Assoc.{Config, Config_ok, Lock, Body, Msg, Row, Assoc, World, In, msg, no_lock, Move, Moves, Stays, Goes_on, Reached, At_first, Then, Works, Begins_at, Hello, Plain, Released, Reassert, Welcome, Ack, Reasserted, Granted, Demand, Other_epoch, Greets, Asks, Loses, Crashes, Begins, Installs, Asked_of_none, Asked, Declines, Repeats, Again, Sweeps, Reduces, Reasserts, Welcomes, Welcomes_again, Acks, Refuses, Accepts, Steals, Grants, Grants_again, Demands, Releases, Stops}
+use Rattle.std.proofs.Common.{◌≡◌, ℕ, ◌≤◌, ◌<◌, ◌⊎◌, List, ◌∷◌, refl, sym, ap, ◌∙◌, subst, inl, inr, arith}
+use Rattle.st_assoc.specs.Assoc.{Config, Config_ok, Lock, Body, Msg, Row, Assoc, World, In, msg, Move, Moves, Stays, Goes_on, Reached, At_first, Then, Works, Begins_at, Hello, Plain, Released, Reassert, Welcome, Ack, Reasserted, Granted, Demand, Other_epoch, Greets, Asks, Loses, Crashes, Begins, Installs, Asked_of_none, Asked, Declines, Repeats, Again, Sweeps, Reduces, Reasserts, Welcomes, Welcomes_again, Acks, Refuses, Accepts, Steals, Grants, Grants_again, Demands, Releases, Stops}
 use Rattle.st_assoc.proofs.Lists.{in_cons, swept, upd_all}
 use Rattle.st_assoc.proofs.Timing.{grows}
 use Rattle.st_assoc.proofs.Locks.{Locks}

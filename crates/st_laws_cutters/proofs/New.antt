@@ -1,5 +1,5 @@
 -- A reassertion that comes in grace finds no ended session of its life: in grace no session was ended.
-use Rattle.std.proofs.Common.{◌≡◌, ℕ, ◌+◌, true, List, [], ◌∷◌, ◌++◌, Option, Some, None, refl, sym, ap, ◌∙◌, subst}
+use Rattle.std.proofs.Common.{◌≡◌, ℕ, ◌+◌, true, [], Option, Some, None, refl, sym, ap, ◌∙◌, subst}
 use Rattle.st_base.specs.declared.ids.NodeId.{NodeId}
 use Rattle.st_base.specs.declared.ids.NodeId.TheVariants as nodes
 use Rattle.st_base.specs.declared.ids.ServerId.{ServerId}
@@ -13,17 +13,16 @@ use Rattle.st_rules.specs.declared.sessions.Session.{Session}
 use Rattle.st_rules.specs.declared.world.SentMessage.{SentMessage}
 use Rattle.st_rules.specs.Admissible as admissible
 use Rattle.st_rules.specs.Events.{counted}
-use Rattle.st_rules.specs.Keys.{client}
 use Rattle.st_rules.specs.Server.{ServerNode, thefts, turn}
 use Rattle.st_rules.specs.Sessions as sessions
 use Rattle.st_rules.specs.World.{World, clock_of, is_running, message_of, node_of, receiver_of, server}
 use Rattle.st_rules.specs.World.{fresh_world}
-use Rattle.st_rules.specs.History.{Traced, traced}
+use Rattle.st_rules.specs.History.{traced}
 use Rattle.st_assoc.specs.Assoc.{Config}
 use Rattle.st_lemmas.proofs.Lookups.{some_is}
 use Rattle.st_lemmas.proofs.Steps.{step_happens}
 use Rattle.st_laws_server.specs.Pair.{Served, client_in, terms_of}
-use Rattle.st_laws_server.specs.View.{Not_ended, Ready, Sound, Stands_at}
+use Rattle.st_laws_server.specs.View.{Not_ended, Sound, Stands_at}
 use Rattle.st_laws_server.proofs.Thefts.{thefts_go}
 use Rattle.st_laws.specs.Law.{In_every_run}
 use Rattle.st_laws.specs.World.{AllStand, Server_stands}

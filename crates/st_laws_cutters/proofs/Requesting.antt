@@ -1,56 +1,31 @@
 -- What the requests that a client sends at the end of a step leave of its session.
-use Rattle.std.proofs.Common.{◌≡◌, ℕ, ◌+◌, Bool, true, false, ◌==◌, List, [], ◌∷◌, Option, Some, None, Ok, Err, refl, sym, ap, ◌∙◌, subst, ◌≤◌, inl, inr, arith, if◌then◌else◌}
-use Rattle.st_base.specs.declared.disk.Tag.{Tag}
-use Rattle.st_base.specs.declared.ids.Epoch.{Epoch}
-use Rattle.st_base.specs.declared.ids.FileId.{FileId}
+use Rattle.std.proofs.Common.{◌≡◌, ℕ, ◌+◌, Bool, true, false, List, [], ◌∷◌, Option, Some, None, refl, sym, ap, ◌∙◌, subst, ◌≤◌, inl, inr, arith, if◌then◌else◌}
 use Rattle.st_base.specs.declared.ids.GrantNo.{GrantNo}
 use Rattle.st_base.specs.declared.ids.PageNo.{PageNo}
 use Rattle.st_base.specs.declared.ids.ServerId.{ServerId}
 use Rattle.st_base.specs.declared.ids.Stamp.{Stamp}
 use Rattle.st_base.specs.declared.mode.Mode.{Mode}
 use Rattle.st_base.specs.declared.mode.Mode.TheVariants as modes
-use Rattle.st_base.specs.declared.rows.ExtentRow.{ExtentRow}
-use Rattle.st_messages.specs.declared.answer.AppAnswer.TheVariants as answers
 use Rattle.st_messages.specs.declared.ask.Ask.{Ask}
 use Rattle.st_messages.specs.declared.ask.Ask.TheVariants as asks
 use Rattle.st_messages.specs.declared.message.Body.{Body}
 use Rattle.st_messages.specs.declared.message.Body.TheVariants as bodies
-use Rattle.st_messages.specs.declared.message.Header.{Header}
-use Rattle.st_messages.specs.declared.message.NameReply.{NameReply}
-use Rattle.st_messages.specs.declared.message.NameReply.TheVariants.{Ino, Listed, Refused}
-use Rattle.st_messages.specs.declared.message.Why.{Why}
-use Rattle.st_messages.specs.declared.message.Why.TheVariants as why
-use Rattle.st_messages.specs.declared.output.Note.{Note}
-use Rattle.st_rules.specs.declared.client.Asked.{Asked}
-use Rattle.st_rules.specs.declared.client.Asked.TheVariants.{Reduce, NotHeld, Stale}
-use Rattle.st_rules.specs.declared.client.Ended.{Ended}
-use Rattle.st_rules.specs.declared.client.Ended.TheVariants as ends
 use Rattle.st_rules.specs.declared.client.HeldLock.{HeldLock}
-use Rattle.st_rules.specs.declared.client.IoKind.{IoKind}
-use Rattle.st_rules.specs.declared.client.IoKind.TheVariants as io
-use Rattle.st_rules.specs.declared.client.KnownExtent.{KnownExtent}
-use Rattle.st_rules.specs.declared.client.Mapping.{Mapping}
 use Rattle.st_rules.specs.declared.client.Operation.{Operation}
-use Rattle.st_rules.specs.declared.client.PageCommand.{PageCommand}
 use Rattle.st_rules.specs.declared.client.Release.{Release}
 use Rattle.st_rules.specs.declared.client.Request.{Request}
-use Rattle.st_rules.specs.declared.pages.DirtyPage.{DirtyPage}
-use Rattle.st_rules.specs.declared.client.WriteRefusal.TheVariants as refusals
-use Rattle.st_rules.specs.Client as cl
 use Rattle.st_rules.specs.ClientLocks as locks
 use Rattle.st_rules.specs.ClientPages as pages
 use Rattle.st_rules.specs.ClientPages.{Pages, Store}
 use Rattle.st_rules.specs.ClientPasses as cp
-use Rattle.st_rules.specs.ClientReplies as cr
 use Rattle.st_rules.specs.ClientState as state
 use Rattle.st_rules.specs.ClientState.{Association, ClientSession, Turn, answer_each, answered, is_at, is_file, is_open_file, keep, only_at, send, with_session, with_store}
 use Rattle.st_lemmas.proofs.Lookups.{some_is}
 use Rattle.st_base.specs.declared.names.NameAsk.{NameAsk}
 use Rattle.st_base.specs.declared.names.NameAsk.TheVariants as names
 use Rattle.st_messages.specs.declared.message.NameOp.TheVariants as ops
-use Rattle.st_laws_askers.specs.Last.{Is_last}
 use Rattle.st_base.specs.Mode.{covers}
-use Rattle.st_laws_cutters.specs.Asks.{Asks_behind, Asks_stand, Cut_named, Fact, Given_or_held, Has_exclusive, Of, Reasserts_first, Remove_named, first_open, open_from}
+use Rattle.st_laws_cutters.specs.Asks.{Asks_behind, Asks_stand, Cut_named, Fact, Given_or_held, Has_exclusive, Of, Remove_named, open_from}
 use Rattle.st_laws_cutters.proofs.Walking as walk
 
 some_none : {A : Type 0} (q : Request) → ◌≡◌ {A = Option Request} (Some q) None → A

@@ -1,7 +1,5 @@
 -- Reads return the last writes throughout a run, and writes carry the content: each cut is asked.
-use Rattle.std.proofs.Common.{◌≡◌, ℕ, List, [], ◌∷◌, ◌++◌}
-use Rattle.st_base.specs.declared.config.Config.{Config}
-use Rattle.st_messages.specs.declared.event.Event.{Event}
+use Rattle.std.proofs.Common.{List, [], ◌∷◌, ◌++◌}
 use Rattle.st_rules.specs.History.{traced}
 use Rattle.st_rules.specs.Safety.{Promise, ReadsReturnLastWrites, Step, Throughout, steps}
 use Rattle.st_rules.specs.World.{fresh_world}

@@ -1,5 +1,5 @@
 -- A client that runs under a lease that lasts, at a server of a world in which all stands.
-use Rattle.std.proofs.Common.{◌≡◌, ◌≢◌, ◌⊎◌, ℕ, ◌≤◌, ◌<◌, Bool, true, false, Option, Some, None, refl, sym, ap, ◌∙◌, subst, inl, inr, arith}
+use Rattle.std.proofs.Common.{◌≡◌, ◌≢◌, ◌⊎◌, ℕ, ◌≤◌, Bool, true, false, Some, refl, sym, ap, ◌∙◌, subst, inl, inr, arith}
 use Rattle.st_base.specs.declared.ids.GrantNo.{GrantNo}
 use Rattle.st_base.specs.declared.ids.NodeId.TheVariants as nodes
 use Rattle.st_base.specs.Mode.{number_of}
@@ -10,7 +10,7 @@ use Rattle.st_rules.specs.Keys.{client, server_node}
 use Rattle.st_rules.specs.Locks.{row_of}
 use Rattle.st_rules.specs.Server.{ServerNode}
 use Rattle.st_rules.specs.Sessions as sessions
-use Rattle.st_rules.specs.World.{World, ClientSite, clock_of, node_of, server, site_of}
+use Rattle.st_rules.specs.World.{World, ClientSite, clock_of, node_of, server}
 use Rattle.st_assoc.specs.Assoc as net
 use Rattle.st_assoc.specs.Assoc.{Alive, Assoc, Body, Config, Hello, Plain, Released, Reassert, Welcome, Ack, Reasserted, Granted, Demand, Other_epoch, msg, of_session, renews}
 use Rattle.st_assoc.proofs.Claims.{inside}
@@ -26,7 +26,7 @@ use Rattle.st_laws.specs.Stands.{Standing}
 use Rattle.st_laws.specs.World.{AllStand, Server_stands}
 use Rattle.st_laws.proofs.Pairs.{only_here, own_view}
 use Rattle.st_laws_reads.specs.Law.{Running}
-use Rattle.st_laws_reads.proofs.Alone.{Living, living}
+use Rattle.st_laws_reads.proofs.Alone.{living}
 use Rattle.st_laws_cutters.specs.Asks.{Has_exclusive}
 use Rattle.st_laws_cutters.specs.Named.{Given, Named}
 use Rattle.st_laws_cutters.proofs.Named.{reached}

@@ -1,11 +1,10 @@
 -- A client's step, at all its servers: what stands of the requests of each session.
-use Rattle.std.proofs.Common.{◌≡◌, ◌⊎◌, ℕ, Bool, true, false, ◌==◌, List, [], ◌∷◌, ◌++◌, refl, sym, ap, ◌∙◌, subst, inl, inr, if◌then◌else◌}
+use Rattle.std.proofs.Common.{◌≡◌, ◌⊎◌, ℕ, Bool, true, false, ◌==◌, List, [], ◌∷◌, refl, sym, ap, ◌∙◌, subst, inl, inr, if◌then◌else◌}
 use Rattle.std.proofs.lemmas.Bool.{eqb-true}
 use Rattle.st_base.specs.declared.ids.GrantNo.{GrantNo}
 use Rattle.st_base.specs.declared.ids.ServerId.{ServerId}
 use Rattle.st_base.specs.declared.ids.Stamp.{Stamp}
 use Rattle.st_messages.specs.declared.answer.AppAnswer.TheVariants as answers
-use Rattle.st_messages.specs.declared.message.Message.{Message}
 use Rattle.st_rules.specs.declared.client.ClientInput.{ClientInput}
 use Rattle.st_rules.specs.declared.client.ClientInput.TheVariants as inputs
 use Rattle.st_rules.specs.Client as cl

@@ -1,6 +1,6 @@
 -- Every event keeps what stands of the requests of all sessions.
-use Rattle.std.proofs.Common.{◌≡◌, ◌≢◌, ℕ, ◌+◌, ◌≤◌, ◌⊎◌, Bool, true, false, List, [], ◌∷◌, ◌++◌, Option, Some, None, Result, Ok, Err, refl, sym, ap, ◌∙◌, subst, inl, inr, arith, if◌then◌else◌}
-use Rattle.std.specs.Prelude.{map, zero, suc, set, slice_get}
+use Rattle.std.proofs.Common.{◌≡◌, ◌≢◌, ℕ, ◌+◌, ◌≤◌, ◌⊎◌, Bool, true, false, List, [], Option, Some, None, Ok, Err, refl, sym, ap, ◌∙◌, subst, inl, inr, arith, if◌then◌else◌}
+use Rattle.std.specs.Prelude.{map}
 use Rattle.st_base.specs.declared.ids.ClientId.{ClientId}
 use Rattle.st_base.specs.declared.ids.ServerId.{ServerId}
 use Rattle.st_base.specs.declared.ids.Stamp.{Stamp}
@@ -10,7 +10,6 @@ use Rattle.st_messages.specs.declared.ask.Ask.{Ask}
 use Rattle.st_messages.specs.declared.message.Message.{Message}
 use Rattle.st_messages.specs.declared.event.Event.{Event}
 use Rattle.st_messages.specs.declared.event.Event.TheVariants as events
-use Rattle.st_messages.specs.declared.output.Output.TheVariants as outputs
 use Rattle.st_rules.specs.declared.client.ClientInput.{ClientInput}
 use Rattle.st_rules.specs.declared.client.ClientInput.TheVariants as inputs
 use Rattle.st_rules.specs.declared.input.ServerInput.{ServerInput}
@@ -23,29 +22,24 @@ use Rattle.st_rules.specs.Client as cl
 use Rattle.st_rules.specs.ClientState.{ClientTurn}
 use Rattle.st_rules.specs.Events as ev
 use Rattle.st_rules.specs.Events.{Scene, world_step, client_says, client_says_all, server_says, server_says_all}
-use Rattle.st_rules.specs.History.{Traced, traced, traced_after}
-use Rattle.st_rules.specs.declared.observation.WorldRefusal.{WorldRefusal}
+use Rattle.st_rules.specs.History.{Traced}
 use Rattle.st_rules.specs.Sessions as sessions
 use Rattle.st_rules.specs.Server as server
 use Rattle.st_rules.specs.Server.{ServerNode}
 use Rattle.st_rules.specs.World as world
 use Rattle.st_rules.specs.World.{World, ClientSite, fresh_world, site_of, node_of, numbered, with_numbered, clock_of}
-use Rattle.st_rules.specs.Safety as safety
-use Rattle.st_rules.specs.Safety.{Step, Throughout, step, steps}
+use Rattle.st_rules.specs.Safety.{Step, steps}
 use Rattle.st_lemmas.specs.Lists.{Has}
 use Rattle.st_lemmas.proofs.Lookups.{some_is}
 use Rattle.st_lemmas.proofs.Numbers.{numbered_below, numbered_has, numbered_other, numbered_own}
 use Rattle.st_lemmas.proofs.Tables.{has_map, has_map_in, same_or_not}
-use Rattle.st_laws_dates.specs.Dates.{Dated, message_in, messages}
+use Rattle.st_laws_dates.specs.Dates.{message_in, messages}
 use Rattle.st_laws_dates.proofs.Said.{Alike, Said, client_said, flushed, server_said}
-use Rattle.st_laws_dates.proofs.Steps.{has_numbered}
 use Rattle.st_lemmas.proofs.Steps.{step_happens}
-use Rattle.st_laws_dates.proofs.Hearing.{Held, step_held}
-use Rattle.st_laws_dates.proofs.Law as dates
 use Rattle.st_laws_askers.specs.Reached.{At_message, At_receiver, At_server, Ends, Input_new, Is_behind, New_owed, Refusal, Says}
 use Rattle.st_laws_askers.proofs.Replies.{Replies_hold}
-use Rattle.st_laws_cuts.specs.Cuts.{Counts, Cuts_hold, Given, Numbers, Numbered, Placed, Same_body, view}
-use Rattle.st_laws_cutters.specs.Asks.{Asks_behind, Asks_stand, Given_or_held, Of, Tells}
+use Rattle.st_laws_cuts.specs.Cuts.{Cuts_hold, Numbers, Numbered, Same_body, view}
+use Rattle.st_laws_cutters.specs.Asks.{Asks_behind, Asks_stand, Of, Tells}
 use Rattle.st_laws_cutters.specs.World.{All_ask, All_asked, Gifts, Is_served, Served_to}
 use Rattle.st_laws_cutters.proofs.Requesting.{stays_at}
 use Rattle.st_laws_cutters.proofs.Step.{Tells_each, step_stands}
@@ -56,7 +50,7 @@ use Rattle.st_rules.specs.declared.client.Request.{Request}
 use Rattle.std.proofs.lemmas.Bool.{eqb-true}
 use Rattle.st_lemmas.proofs.Tables.{and_both, and_true}
 use Rattle.st_base.specs.declared.ids.GrantNo.{GrantNo}
-use Rattle.st_laws_askers.proofs.Served.{Refused, Served, served}
+use Rattle.st_laws_askers.proofs.Served.{Served, served}
 
 set_cases : {A : Type 0} (xs : List A) (n m : ℕ) (y z x : A) → numbered xs n ≡ Some y → numbered (with_numbered n z xs) m ≡ Some x → ((m ≡ n) × (x ≡ z)) ⊎ ((m ≢ n) × (numbered xs m ≡ Some x))
 set_cases {A} xs n m y z x at h = go (same_or_not m n)

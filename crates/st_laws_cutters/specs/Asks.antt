@@ -3,7 +3,6 @@ use Rattle.std.specs.Prelude.{◌≡◌, ℕ, ◌+◌, ◌≤◌, Bool, true, fa
 use Rattle.std.proofs.Common.{◌⊎◌}
 use Rattle.st_base.specs.declared.ids.GrantNo.{GrantNo}
 use Rattle.st_base.specs.declared.ids.ServerId.{ServerId}
-use Rattle.st_base.specs.declared.mode.Mode.{Mode}
 use Rattle.st_base.specs.declared.mode.Mode.TheVariants as modes
 use Rattle.st_messages.specs.declared.message.Body.{Body}
 use Rattle.st_messages.specs.declared.message.Body.TheVariants as bodies
@@ -13,7 +12,7 @@ use Rattle.st_rules.specs.declared.client.HeldLock.{HeldLock}
 use Rattle.st_rules.specs.declared.client.Request.{Request}
 use Rattle.st_rules.specs.ClientLocks.{lock_of}
 use Rattle.st_rules.specs.ClientReplies.{is_counting, refuses_reassertion}
-use Rattle.st_rules.specs.ClientState.{Association, ClientSession, Requests, reasserts}
+use Rattle.st_rules.specs.ClientState.{ClientSession, Requests, reasserts}
 use Rattle.st_rules.specs.Keys.{server_node}
 use Rattle.st_laws_askers.specs.Last.{Is_last}
 use Rattle.st_laws_askers.specs.Reached.{Ends}

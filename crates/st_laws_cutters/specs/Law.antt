@@ -1,6 +1,6 @@
 -- Each cut that a step logs is asked, over whole runs.
-use Rattle.std.specs.Prelude.{◌≡◌, ℕ, List, Some}
-use Rattle.st_rules.specs.Safety.{Promise, Step}
+use Rattle.std.specs.Prelude.{◌≡◌, ℕ, Some}
+use Rattle.st_rules.specs.Safety.{Promise}
 use Rattle.st_rules.specs.Server.{ServerNode}
 use Rattle.st_rules.specs.World.{World, node_of, server}
 use Rattle.st_assoc.specs.Assoc.{Config}

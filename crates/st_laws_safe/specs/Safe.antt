@@ -39,7 +39,7 @@ pub record IsPromisedButReads : Type 0 where
   pub clients : OldMessagesChangeNoClient
   pub servers : OldMessagesChangeNoServer
 
--- A run is safe in which each step has what is left owed to the law of reads.
+-- A run is safe in which each step has what is left owed to the law of reads, where a client takes an input.
 abbrev pub Safe_from_what_reads_owe : Type 0
 Safe_from_what_reads_owe =
     (k : Config) (clients servers disks blocks form : ℕ) (es : List Event) → IsHead k clients servers disks blocks form →
