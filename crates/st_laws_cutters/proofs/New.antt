@@ -30,7 +30,8 @@ use Rattle.st_laws.proofs.Beginning.{begun}
 use Rattle.st_laws.proofs.Everywhere.{first_none, running_node, stays}
 use Rattle.st_laws.proofs.Fold.{not_false, not_stands, second_none}
 use Rattle.st_laws.proofs.Runs.{full, throughout_events}
-use Rattle.st_laws_askers.specs.Reached.{At_message, At_receiver, At_server, Finds_new, New_owed, Reassertions_new}
+use Rattle.st_laws_askers.specs.Reached.{At_message, At_receiver, At_server, Finds_new, New_owed, Reassertions_new, Replies_after}
+use Rattle.st_laws_askers.proofs.Replies as askers
 
 module _ (k : Config) (count : ℕ) (w : World) (a : AllStand k count w) where
   -- a session that stands is not ended
@@ -87,3 +88,7 @@ law k clients servers disks blocks form es head events =
     (λ past t e sc h s taken.
     (new_owed (terms_of k) (clients + servers) t.world s e (step_happens t.world e sc taken).0, stays (terms_of k) (clients + servers) t.world e sc s (full (clients + servers) t.world e s.nodes h) taken)) es events []
     (traced (fresh_world k clients servers disks blocks form)) (begun k clients servers disks blocks form head)
+
+-- and so replies are reached in every run
+pub replies : In_every_run Replies_after
+replies k clients servers disks blocks form es head events = askers.law k clients servers disks blocks form es head (law k clients servers disks blocks form es head events)

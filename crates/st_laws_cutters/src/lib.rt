@@ -2,7 +2,7 @@
 #![tactic(auto)]
 
 ghost use Rattle.st_laws.specs.Law.{In_every_run};
-ghost use Rattle.st_laws_askers.specs.Reached.{Reassertions_new};
+ghost use Rattle.st_laws_askers.specs.Reached.{Reassertions_new, Replies_after};
 ghost use Rattle.st_laws_cutters.specs.Law.{Cuts_are_asked};
 ghost use Rattle.st_laws_cutters.specs.Named.{Numbers_name_files};
 ghost use Rattle.st_laws_cutters.specs.Runs.{In_runs_taken};
@@ -12,6 +12,12 @@ ghost use Rattle.st_rules.specs.Safety.{ReadsReturnLastWrites};
 /// In every run each reassertion that comes to a server in its grace finds no ended session of its life.
 pub fn reassertions_are_new()
     ensures { In_every_run Reassertions_new }
+{}
+
+/// In every run each message of a server that ends a request is of an earlier epoch, or the server's session of its life reached its number,
+/// or it answers a reassertion, with a refusal or under a number beyond the first.
+pub fn replies_are_reached()
+    ensures { In_every_run Replies_after }
 {}
 
 /// In every state that the machine of a server and its clients can reach, a grant's number was given to a client on one file, and each
