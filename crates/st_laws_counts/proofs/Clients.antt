@@ -327,7 +327,7 @@ cases n =
       beside = λ w v b h. same_clients n n w v (omega arith) b.clients (grown_of w v b) h;
       done = λ w h. same_clients n (n + 1) w w (omega arith) refl (grown_same w) h;
       advance = λ w steps es fit l h.
-        same_clients n (n + 1) w (ev.with_log es (ev.with_clocks steps w)) (omega arith) refl (record { commands = omega arith; log = omega (arith, l); ended = omega arith; messages = omega arith }) h;
+          same_clients n (n + 1) w (ev.with_log es (ev.with_clocks steps w)) (omega arith) refl (record { commands = omega arith; log = omega (arith, l); ended = omega arith; messages = omega arith }) h;
       client = λ w c input old site there is r h. took n w c input old site there is h;
       server = λ w s input node there r h.
           let t = Server_steps w s node input in
