@@ -26,7 +26,7 @@ use Rattle.st_lemmas.proofs.Lookups.{some_is}
 use Rattle.st_lemmas.proofs.Numbers.{numbered_below, numbered_has, numbered_other, numbered_own}
 use Rattle.st_lemmas.proofs.Tables.{has_map, same_or_not}
 use Rattle.st_laws_counts.proofs.Weights.{weigh, weigh_both}
-use Rattle.st_laws_counts.proofs.Events.{Any, Cases, Client_steps, Server_steps, Takes}
+use Rattle.st_laws_counts.proofs.Events.{Cases, Client_steps, Server_steps, Takes}
 use Rattle.st_laws_counts.proofs.Clients.{Said, Same_rows, flush_rows, said_all, served_all}
 use Rattle.st_laws_counts.proofs.Tallies.{Told, of_read, told_all}
 use Rattle.st_laws_counts.proofs.Reading.{R, r_none, r_passes}
@@ -234,13 +234,12 @@ map_again : (f : Association → Association) → ((a : Association) → (f a).s
 map_again f h [] = refl
 map_again f h (a ∷ al) = ap (λ s. s ∷ map server_at (map f al)) (h a) ∙ ap (λ l. a.server ∷ l) (map_again f h al)
 
-pub cases : (n : ℕ) → Cases Any (Reads_low n) (Reads_low (n + 1))
+pub cases : (n : ℕ) → Cases (Reads_low n) (Reads_low (n + 1))
 unfolding ev.server_took cl.crash cl.start
 cases n =
     record {
       beside = λ w v b h. kept n n w v (omega arith) b.clients (ap (λ (t : Tally). t.reads) b.tally) h;
       done = λ w h. kept n (n + 1) w w (omega arith) refl refl h;
-      advance = λ w steps es fit l h. kept n (n + 1) w (ev.with_log es (ev.with_clocks steps w)) (omega arith) refl refl h;
       client = λ w c input old site there is r h. took n w c input old site there is h;
       server = λ w s input node there r h.
           let t = Server_steps w s node input in

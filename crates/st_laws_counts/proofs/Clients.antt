@@ -32,7 +32,7 @@ use Rattle.st_laws_causes.proofs.Law.{site_is}
 use Rattle.st_laws_counts.specs.Counts.{Asks_low, Few_at}
 use Rattle.st_laws_counts.proofs.Weights.{asks_more, of_change, of_command, of_loss, of_message, weigh}
 use Rattle.st_laws_counts.proofs.Stepping.{All_low, Low_at, step_low}
-use Rattle.st_laws_counts.proofs.Events.{Any, Beside, Cases, Client_steps, Server_steps, Takes, Same_time, time_then}
+use Rattle.st_laws_counts.proofs.Events.{Beside, Cases, Client_steps, Server_steps, Takes}
 
 -- What stands of a client where n events were.
 pub record Site_low (n : ℕ) (w : World) (site : ClientSite) : Type 0 where
@@ -114,7 +114,6 @@ said_all c before site (o ∷ os) sc own =
 
 -- flush steps change no other row
 pub record Same_rows (w v : World) : Type 0 where
-  pub time : Same_time w v
   pub clients : v.clients ≡ w.clients
   pub servers : v.servers ≡ w.servers
   pub tally : v.tally ≡ w.tally
@@ -124,7 +123,7 @@ pub record Same_rows (w v : World) : Type 0 where
   pub net : v.net ≡ w.net
 
 same_rows : (w : World) → Same_rows w w
-same_rows w = record { time = record { config = refl; form = refl; clocks = refl; drift = refl; disks = refl; blocks = refl }; clients = refl; servers = refl; tally = refl; commands = refl; log = refl; ended = refl; net = refl }
+same_rows w = record { clients = refl; servers = refl; tally = refl; commands = refl; log = refl; ended = refl; net = refl }
 
 pub flush_rows : (c : ClientId) (s : ClientState) (ss : List ServerId) (w : World) → Same_rows w (ev.flushes c s ss w)
 unfolding ev.flushes
@@ -133,7 +132,7 @@ flush_rows c s (x ∷ ss) w = go (in_phase (cl.lease_end_with s x) (cl.phase_wit
   where
     under : (o : Option Stamp) → Same_rows w (ev.flushed_under w c x o)
     under None = same_rows w
-    under (Some e) = record { time = record { config = refl; form = refl; clocks = refl; drift = refl; disks = refl; blocks = refl }; clients = refl; servers = refl; tally = refl; commands = refl; log = refl; ended = refl; net = refl }
+    under (Some e) = record { clients = refl; servers = refl; tally = refl; commands = refl; log = refl; ended = refl; net = refl }
 
     in_phase : (o : Option Stamp) (p : Option Phase) → Same_rows w (ev.flushed_in w c x o p)
     in_phase o (Some phases.Flush) = under o
@@ -144,7 +143,7 @@ flush_rows c s (x ∷ ss) w = go (in_phase (cl.lease_end_with s x) (cl.phase_wit
     in_phase o None = same_rows w
 
     go : Same_rows w (ev.flushed_at w c x s) → Same_rows (ev.flushed_at w c x s) (ev.flushes c s ss (ev.flushed_at w c x s)) → Same_rows w (ev.flushes c s ss (ev.flushed_at w c x s))
-    go a b = record { time = time_then w (ev.flushed_at w c x s) (ev.flushes c s ss (ev.flushed_at w c x s)) a.time b.time; clients = b.clients ∙ a.clients; servers = b.servers ∙ a.servers; tally = b.tally ∙ a.tally; commands = b.commands ∙ a.commands; log = b.log ∙ a.log; ended = b.ended ∙ a.ended; net = b.net ∙ a.net }
+    go a b = record { clients = b.clients ∙ a.clients; servers = b.servers ∙ a.servers; tally = b.tally ∙ a.tally; commands = b.commands ∙ a.commands; log = b.log ∙ a.log; ended = b.ended ∙ a.ended; net = b.net ∙ a.net }
 
 -- A client's step.
 took : (n : ℕ) (w : World) (c : ClientId) (input : ClientInput) (old site : ClientSite) → site_of w c ≡ Some old → Takes old site input → Sites_low n w → Sites_low (n + 1) (ev.client_took w c site (Ok (Client_steps w c site input))).world
@@ -227,7 +226,6 @@ of_theft o = 0
 
 -- what a server's outputs add to the world: messages, cuts and thefts
 pub record Served (os : List Output) (w v : World) : Type 0 where
-  pub time : Same_time w v
   pub clients : v.clients ≡ w.clients
   pub servers : v.servers ≡ w.servers
   pub events : v.tally.events ≡ w.tally.events
@@ -244,21 +242,21 @@ one_grown xs x = let z = length_more xs x in omega (arith, z)
 served_one : (s : ServerId) (o : Output) (sc : Scene) → Served (o ∷ []) sc.world (ev.server_says sc s o).world
 unfolding ev.server_says ev.server_notes ev.cuts ev.sends log.cut
 served_one s (outputs.Send m) sc =
-    record { time = record { config = refl; form = refl; clocks = refl; drift = refl; disks = refl; blocks = refl }; clients = refl; servers = refl; events = refl; reads = refl; stolen = omega arith; grown = record { commands = omega arith; log = omega arith; ended = omega arith; messages = one_grown sc.world.net.messages _ } }
+    record { clients = refl; servers = refl; events = refl; reads = refl; stolen = omega arith; grown = record { commands = omega arith; log = omega arith; ended = omega arith; messages = one_grown sc.world.net.messages _ } }
 served_one s (outputs.Note n) sc = note n
   where
     note : (n : Note) → Served (outputs.Note n ∷ []) sc.world (ev.server_notes sc s n).world
     note (notes.CutDone f p) =
-        record { time = record { config = refl; form = refl; clocks = refl; drift = refl; disks = refl; blocks = refl }; clients = refl; servers = refl; events = refl; reads = refl; stolen = omega arith; grown = record { commands = omega arith; log = one_grown sc.world.log _; ended = omega arith; messages = omega arith } }
+        record { clients = refl; servers = refl; events = refl; reads = refl; stolen = omega arith; grown = record { commands = omega arith; log = one_grown sc.world.log _; ended = omega arith; messages = omega arith } }
     note (notes.Stolen c life) =
-        record { time = record { config = refl; form = refl; clocks = refl; drift = refl; disks = refl; blocks = refl }; clients = refl; servers = refl; events = refl; reads = refl; stolen = omega arith; grown = record { commands = omega arith; log = omega arith; ended = omega arith; messages = omega arith } }
-    note n = record { time = record { config = refl; form = refl; clocks = refl; drift = refl; disks = refl; blocks = refl }; clients = refl; servers = refl; events = refl; reads = refl; stolen = omega arith; grown = grown_same sc.world }
-served_one s (outputs.Answer op a) sc = record { time = record { config = refl; form = refl; clocks = refl; drift = refl; disks = refl; blocks = refl }; clients = refl; servers = refl; events = refl; reads = refl; stolen = omega arith; grown = grown_same sc.world }
-served_one s (outputs.Submit number at what) sc = record { time = record { config = refl; form = refl; clocks = refl; drift = refl; disks = refl; blocks = refl }; clients = refl; servers = refl; events = refl; reads = refl; stolen = omega arith; grown = grown_same sc.world }
+        record { clients = refl; servers = refl; events = refl; reads = refl; stolen = omega arith; grown = record { commands = omega arith; log = omega arith; ended = omega arith; messages = omega arith } }
+    note n = record { clients = refl; servers = refl; events = refl; reads = refl; stolen = omega arith; grown = grown_same sc.world }
+served_one s (outputs.Answer op a) sc = record { clients = refl; servers = refl; events = refl; reads = refl; stolen = omega arith; grown = grown_same sc.world }
+served_one s (outputs.Submit number at what) sc = record { clients = refl; servers = refl; events = refl; reads = refl; stolen = omega arith; grown = grown_same sc.world }
 
 pub served_all : (s : ServerId) (os : List Output) (sc : Scene) → Served os sc.world (ev.server_says_all s os sc).world
 unfolding ev.server_says_all
-served_all s [] sc = record { time = record { config = refl; form = refl; clocks = refl; drift = refl; disks = refl; blocks = refl }; clients = refl; servers = refl; events = refl; reads = refl; stolen = omega arith; grown = grown_same sc.world }
+served_all s [] sc = record { clients = refl; servers = refl; events = refl; reads = refl; stolen = omega arith; grown = grown_same sc.world }
 served_all s (o ∷ os) sc =
     let x = served_one s o sc in
     let y = served_all s os (ev.server_says sc s o) in
@@ -266,7 +264,6 @@ served_all s (o ∷ os) sc =
     let d = x.grown.commands in let e = x.grown.log in let f = x.grown.ended in let g = x.grown.messages in
     let h = y.grown.commands in let i = y.grown.log in let j = y.grown.ended in let l = y.grown.messages in
     record {
-      time = time_then sc.world (ev.server_says sc s o).world (ev.server_says_all s os (ev.server_says sc s o)).world x.time y.time;
       clients = y.clients ∙ x.clients;
       servers = y.servers ∙ x.servers;
       events = y.events ∙ x.events;
@@ -320,14 +317,12 @@ started n w c site there h =
 grown_of : (w v : World) → Beside w v → Grown w v
 grown_of w v b = record { commands = b.commands; log = b.log; ended = b.ended; messages = b.messages }
 
-pub cases : (n : ℕ) → Cases Any (Sites_low n) (Sites_low (n + 1))
+pub cases : (n : ℕ) → Cases (Sites_low n) (Sites_low (n + 1))
 unfolding ev.server_took
 cases n =
     record {
       beside = λ w v b h. same_clients n n w v (omega arith) b.clients (grown_of w v b) h;
       done = λ w h. same_clients n (n + 1) w w (omega arith) refl (grown_same w) h;
-      advance = λ w steps es fit l h.
-          same_clients n (n + 1) w (ev.with_log es (ev.with_clocks steps w)) (omega arith) refl (record { commands = omega arith; log = omega (arith, l); ended = omega arith; messages = omega arith }) h;
       client = λ w c input old site there is r h. took n w c input old site there is h;
       server = λ w s input node there r h.
           let t = Server_steps w s node input in

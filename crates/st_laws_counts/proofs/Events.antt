@@ -1,8 +1,6 @@
 -- What counters stand at behind each event, where they do so in a few cases.
 use Rattle.std.proofs.Common.{◌≡◌, ℕ, ◌+◌, ◌≤◌, Bool, true, false, List, [], ◌∷◌, Option, Some, None, Ok, Err, refl, ◌∙◌, arith, if◌then◌else◌}
 use Rattle.std.specs.Prelude.{length, pred}
-use Rattle.st_base.specs.declared.disk.Command.{Command}
-use Rattle.st_base.specs.declared.disk.Command.TheVariants as commands
 use Rattle.st_base.specs.declared.ids.ClientId.{ClientId}
 use Rattle.st_base.specs.declared.ids.FileId.{FileId}
 use Rattle.st_base.specs.declared.ids.NodeId.{NodeId}
@@ -14,10 +12,6 @@ use Rattle.st_messages.specs.declared.event.Event.TheVariants as events
 use Rattle.st_messages.specs.declared.message.Message.{Message}
 use Rattle.st_rules.specs.declared.client.ClientInput.{ClientInput}
 use Rattle.st_rules.specs.declared.client.ClientInput.TheVariants as inputs
-use Rattle.st_rules.specs.declared.disks.CommandRefusal.TheVariants as refusals
-use Rattle.st_rules.specs.declared.disks.DiskCommand.{DiskCommand}
-use Rattle.st_rules.specs.declared.disks.Report.{Report}
-use Rattle.st_rules.specs.declared.disks.Report.TheVariants as reports
 use Rattle.st_rules.specs.declared.input.ServerInput.{ServerInput}
 use Rattle.st_rules.specs.declared.log.Cause.{Cause}
 use Rattle.st_rules.specs.declared.log.LogEntry.{LogEntry}
@@ -39,21 +33,8 @@ use Rattle.st_rules.specs.World.{World, ClientSite, clock_of, issued_of, node_of
 use Rattle.st_lemmas.proofs.Marks.{length_drop, length_harden}
 use Rattle.st_lemmas.proofs.Numbers.{set_length}
 
--- The settings, the clocks, their drift and how many blocks the disks have are the same.
-pub record Same_time (w v : World) : Type 0 where
-  pub config : v.config ≡ w.config
-  pub form : v.form ≡ w.form
-  pub clocks : v.clocks ≡ w.clocks
-  pub drift : v.drift ≡ w.drift
-  pub disks : v.disks.disks ≡ w.disks.disks
-  pub blocks : v.disks.blocks ≡ w.disks.blocks
-
-pub time_then : (u v w : World) → Same_time u v → Same_time v w → Same_time u w
-time_then u v w a b = record { config = b.config ∙ a.config; form = b.form ∙ a.form; clocks = b.clocks ∙ a.clocks; drift = b.drift ∙ a.drift; disks = b.disks ∙ a.disks; blocks = b.blocks ∙ a.blocks }
-
 -- No nodes and no counts change, and the rows of the world do not get fewer.
 pub record Beside (w v : World) : Type 0 where
-  pub time : Same_time w v
   pub clients : v.clients ≡ w.clients
   pub servers : v.servers ≡ w.servers
   pub tally : v.tally ≡ w.tally
@@ -75,15 +56,10 @@ pub record Takes (old site : ClientSite) (input : ClientInput) : Type 0 where
   pub starts : old.starts ≡ site.starts
   pub asks : site.asks ≤ old.asks + 1
 
--- any advance
-abbrev pub Any : List ℕ → Type 0
-Any steps = Unit {0}
-
--- The cases, from what stood before to what stands behind; and which advances there are.
-pub record Cases (Fits : List ℕ → Type 0) (I O : World → Type 0) : Type 0 where
+-- The cases, from what stood before to what stands behind.
+pub record Cases (I O : World → Type 0) : Type 0 where
   pub beside : (w v : World) → Beside w v → I w → I v
   pub done : (w : World) → I w → O w
-  pub advance : (w : World) (steps : List ℕ) (es : List LogEntry) → Fits steps → length es ≡ length w.log → I w → O (ev.with_log es (ev.with_clocks steps w))
   pub client : (w : World) (c : ClientId) (input : ClientInput) (old site : ClientSite) → site_of w c ≡ Some old → Takes old site input → site.node.running ≡ true → I w → O (ev.client_took w c site (Ok (Client_steps w c site input))).world
   pub server : (w : World) (s : ServerId) (input : ServerInput) (node : ServerNode) → node_of w s ≡ Some node → node.running ≡ true → I w → O (ev.server_took w s (Ok (Server_steps w s node input))).world
   pub crash : (w : World) (c : ClientId) (site : ClientSite) (es : List LogEntry) → site_of w c ≡ Some site → length es ≡ length w.log → I w → O (ev.with_log es (ev.with_site c (ev.stopped_site site) (ev.with_crashed_lives site w)))
@@ -110,69 +86,28 @@ hard_length es (Some x) = go (log.entry_at es x.index)
     go None = refl
     go (Some e) = length_harden 1 x.index e.of es
 
--- effects and reports leave as many blocks
-record Same_disks (d e : Disks) : Type 0 where
-  pub disks : e.disks ≡ d.disks
-  pub blocks : e.blocks ≡ d.blocks
-
-effect_same : (d : Disks) (n : ℕ) → Same_disks d (ev.disks_after d (disks.effect d n))
-unfolding disks.effect disks.effect_at disks.effect_reported disks.effect_once disks.effect_of
-effect_same d n = at (disks.command d n)
-  where
-    what : (c : DiskCommand) (w : Command) → Same_disks d (disks.effect_of d n c w)
-    what c (commands.Read b) = record { disks = refl; blocks = refl }
-    what c (commands.Write b tag bytes) = record { disks = refl; blocks = refl }
-
-    once : (c : DiskCommand) (b : Bool) → Same_disks d (ev.disks_after d (if b then Err (refusals.Twice n) else Ok (disks.effect_of d n c c.what)))
-    once c true = record { disks = refl; blocks = refl }
-    once c false = what c c.what
-
-    reported : (c : DiskCommand) (r : Report) → Same_disks d (ev.disks_after d (disks.effect_reported d n c r))
-    reported c reports.Open = once c c.effected
-    reported c reports.Succeeded = record { disks = refl; blocks = refl }
-    reported c reports.Failed = record { disks = refl; blocks = refl }
-
-    at : (o : Option DiskCommand) → Same_disks d (ev.disks_after d (disks.effect_at d n o))
-    at None = record { disks = refl; blocks = refl }
-    at (Some c) = reported c c.report
-
-done_same : (d : Disks) (n : ℕ) (ok : Bool) → Same_disks d (ev.disks_after d (disks.done d n ok))
-unfolding disks.done disks.done_at disks.done_unreported disks.done_once
-done_same d n ok = at (disks.command d n)
-  where
-    once : (c : DiskCommand) (b : Bool) → Same_disks d (ev.disks_after d (if b then Err (refusals.NotEffected n) else Ok (disks.with_command n (disks.reported ok c) d)))
-    once c true = record { disks = refl; blocks = refl }
-    once c false = record { disks = refl; blocks = refl }
-
-    reported : (c : DiskCommand) (r : Report) → Same_disks d (ev.disks_after d (disks.done_unreported d n ok c r))
-    reported c reports.Open = once c (disks.lacks_effect ok c)
-    reported c reports.Succeeded = record { disks = refl; blocks = refl }
-    reported c reports.Failed = record { disks = refl; blocks = refl }
-
-    at : (o : Option DiskCommand) → Same_disks d (ev.disks_after d (disks.done_at d n ok o))
-    at None = record { disks = refl; blocks = refl }
-    at (Some c) = reported c c.report
-
 no_fewer : (m n : ℕ) → m ≡ n → n ≤ m
 no_fewer m n e = omega (arith, e)
 
--- worlds that differ in the fates of entries, the disks, or what is lost or cut in the network
+-- worlds that differ in their clocks, the fates of entries, the disks, or what is lost or cut in the network
 beside_log : (w : World) (es : List LogEntry) → length es ≡ length w.log → Beside w (ev.with_log es w)
-beside_log w es e = record { time = record { config = refl; form = refl; clocks = refl; drift = refl; disks = refl; blocks = refl }; clients = refl; servers = refl; tally = refl; commands = omega arith; log = no_fewer (length es) (length w.log) e; ended = omega arith; messages = omega arith }
+beside_log w es e = record { clients = refl; servers = refl; tally = refl; commands = omega arith; log = no_fewer (length es) (length w.log) e; ended = omega arith; messages = omega arith }
 
-beside_disks : (d : Disks) (w : World) → Same_disks w.disks d → Beside w (ev.with_disks d w)
-beside_disks d w is = record { time = record { config = refl; form = refl; clocks = refl; drift = refl; disks = is.disks; blocks = is.blocks }; clients = refl; servers = refl; tally = refl; commands = omega arith; log = omega arith; ended = omega arith; messages = omega arith }
+beside_clocks : (steps : List ℕ) (w : World) → Beside w (ev.with_clocks steps w)
+beside_clocks steps w = record { clients = refl; servers = refl; tally = refl; commands = omega arith; log = omega arith; ended = omega arith; messages = omega arith }
+
+beside_disks : (d : Disks) (w : World) → Beside w (ev.with_disks d w)
+beside_disks d w = record { clients = refl; servers = refl; tally = refl; commands = omega arith; log = omega arith; ended = omega arith; messages = omega arith }
 
 beside_cut : (from to : NodeId) (w : World) → Beside w (ev.with_cut from to w)
-beside_cut from to w = record { time = record { config = refl; form = refl; clocks = refl; drift = refl; disks = refl; blocks = refl }; clients = refl; servers = refl; tally = refl; commands = omega arith; log = omega arith; ended = omega arith; messages = omega arith }
+beside_cut from to w = record { clients = refl; servers = refl; tally = refl; commands = omega arith; log = omega arith; ended = omega arith; messages = omega arith }
 
 beside_heal : (from to : NodeId) (w : World) → Beside w (ev.without_cut from to w)
-beside_heal from to w = record { time = record { config = refl; form = refl; clocks = refl; drift = refl; disks = refl; blocks = refl }; clients = refl; servers = refl; tally = refl; commands = omega arith; log = omega arith; ended = omega arith; messages = omega arith }
+beside_heal from to w = record { clients = refl; servers = refl; tally = refl; commands = omega arith; log = omega arith; ended = omega arith; messages = omega arith }
 
 beside_lost : (n : ℕ) (m : SentMessage) (w : World) → Beside w (ev.with_lost n m w)
 beside_lost n m w =
     record {
-      time = record { config = refl; form = refl; clocks = refl; drift = refl; disks = refl; blocks = refl };
       clients = refl;
       servers = refl;
       tally = refl;
@@ -182,7 +117,7 @@ beside_lost n m w =
       messages = no_fewer (length (with_numbered n (record m { lost = true }) w.net.messages)) (length w.net.messages) (set_length w.net.messages (pred n) (record m { lost = true }));
     }
 
-module _ (Fits : List ℕ → Type 0) (I O : World → Type 0) (k : Cases Fits I O) where
+module _ (I O : World → Type 0) (k : Cases I O) where
   takes : (w : World) (c : ClientId) (input : ClientInput) (old site : ClientSite) → site_of w c ≡ Some old → Takes old site input → I w → (site.node.running ≡ false → O w) → O (ev.client_takes w c input site).world
   unfolding cl.node_step ev.client_takes ev.client_took
   takes w c input old site there same h off = go site.node.running refl
@@ -209,16 +144,16 @@ module _ (Fits : List ℕ → Type 0) (I O : World → Type 0) (k : Cases Fits I
   besides w v b h = k.done v (k.beside w v b h)
 
   -- every event
-  pub each_event : (w : World) (e : Event) → ((steps : List ℕ) → e ≡ events.Advance steps → Fits steps) → I w → O (ev.happens w e).world
+  pub each_event : (w : World) (e : Event) → I w → O (ev.happens w e).world
   unfolding ev.happens ev.ticks ev.asks_at ev.delivers ev.delivers_to ev.loses_message ev.marks ev.effects ev.advances ev.reports_of ev.tells ev.tells_client ev.tells_site ev.crashes ev.crashes_client ev.crashes_server ev.starts ev.starts_client ev.starts_server ev.log_crashed
-  each_event w (events.Tick (nodes.Client c)) fit h = at_client w c _ (site_of w c) refl h
-  each_event w (events.Tick (nodes.Server s)) fit h = at_server w s _ (node_of w s) refl h
-  each_event w (events.App c ask) fit h = go (site_of w c) refl
+  each_event w (events.Tick (nodes.Client c)) h = at_client w c _ (site_of w c) refl h
+  each_event w (events.Tick (nodes.Server s)) h = at_server w s _ (node_of w s) refl h
+  each_event w (events.App c ask) h = go (site_of w c) refl
     where
       go : (o : Option ClientSite) → site_of w c ≡ o → O (ev.asks_at w c ask o).world
       go None e = k.done w h
       go (Some site) e = takes w c (inputs.App (site.asks + 1) ask) site (ev.asked_once_more site) e (record { node = refl; starts = refl; asks = omega arith }) h (λ r. k.done w h)
-  each_event w (events.Deliver n) fit h = go (world.message_of w n)
+  each_event w (events.Deliver n) h = go (world.message_of w n)
     where
       to : (m : Message) (x : NodeId) → O (ev.delivers_to w m x).world
       to m (nodes.Client c) = at_client w c _ (site_of w c) refl h
@@ -227,25 +162,28 @@ module _ (Fits : List ℕ → Type 0) (I O : World → Type 0) (k : Cases Fits I
       go : (m : Option SentMessage) → O (ev.delivers w m).world
       go None = k.done w h
       go (Some m) = to m.message (world.receiver_of m)
-  each_event w (events.Lose n) fit h = go (world.message_of w n)
+  each_event w (events.Lose n) h = go (world.message_of w n)
     where
       go : (m : Option SentMessage) → O (ev.loses_message w n m)
       go None = k.done w h
       go (Some m) = besides w (ev.with_lost n m w) (beside_lost n m w) h
-  each_event w (events.Cut from to) fit h = besides w (ev.with_cut from to w) (beside_cut from to w) h
-  each_event w (events.Heal from to) fit h = besides w (ev.without_cut from to w) (beside_heal from to w) h
-  each_event w (events.Advance steps) fit h = k.advance w steps (ev.log_ended_all w.commands (ev.lives_reached w steps) w.log) (fit steps refl) (ended_length w.commands (ev.lives_reached w steps) w.log) h
-  each_event w (events.Effect n) fit h =
+  each_event w (events.Cut from to) h = besides w (ev.with_cut from to w) (beside_cut from to w) h
+  each_event w (events.Heal from to) h = besides w (ev.without_cut from to w) (beside_heal from to w) h
+  each_event w (events.Advance steps) h =
+      let v = ev.with_clocks steps w in
+      let es = ev.log_ended_all w.commands (ev.lives_reached w steps) w.log in
+      besides v (ev.with_log es v) (beside_log v es (ended_length w.commands (ev.lives_reached w steps) w.log)) (k.beside w v (beside_clocks steps w) h)
+  each_event w (events.Effect n) h =
       let v = ev.with_disks (ev.disks_after w.disks (disks.effect w.disks n)) w in
       let es = ev.log_hard w.log (ev.carried_by (issued_of w n)) in
-      besides v (ev.with_log es v) (beside_log v es (hard_length w.log (ev.carried_by (issued_of w n)))) (k.beside w v (beside_disks (ev.disks_after w.disks (disks.effect w.disks n)) w (effect_same w.disks n)) h)
-  each_event w (events.Report n ok) fit h = go (issued_of w n)
+      besides v (ev.with_log es v) (beside_log v es (hard_length w.log (ev.carried_by (issued_of w n)))) (k.beside w v (beside_disks _ w) h)
+  each_event w (events.Report n ok) h = go (issued_of w n)
     where
       v : World
       v = ev.with_disks (ev.disks_after w.disks (disks.done w.disks n ok)) w
 
       g : I v
-      g = k.beside w v (beside_disks (ev.disks_after w.disks (disks.done w.disks n ok)) w (done_same w.disks n ok)) h
+      g = k.beside w v (beside_disks _ w) h
 
       same : (x : IssuedCommand) (site : ClientSite) → site_of v x.client ≡ Some site → (b : Bool) → O (if b then ev.client_takes v x.client (ev.end_told v n ok x) site else ev.quiet v).world
       same x site e true = takes v x.client (ev.end_told v n ok x) site site e (record { node = refl; starts = refl; asks = omega arith }) g (λ r. k.done v g)
@@ -258,22 +196,22 @@ module _ (Fits : List ℕ → Type 0) (I O : World → Type 0) (k : Cases Fits I
       go : (o : Option IssuedCommand) → O (ev.tells v n ok o).world
       go None = k.done v g
       go (Some x) = told x (site_of v x.client) refl
-  each_event w (events.Crash (nodes.Client c)) fit h = go (site_of w c) refl
+  each_event w (events.Crash (nodes.Client c)) h = go (site_of w c) refl
     where
       go : (o : Option ClientSite) → site_of w c ≡ o → O (ev.crashes_client w c o).world
       go None e = k.done w h
       go (Some site) e = k.crash w c site (ev.log_crashed w c) e (dropped_length w.log _ _) h
-  each_event w (events.Crash (nodes.Server s)) fit h = go (node_of w s) refl
+  each_event w (events.Crash (nodes.Server s)) h = go (node_of w s) refl
     where
       go : (o : Option ServerNode) → node_of w s ≡ o → O (ev.crashes_server w s o)
       go None e = k.done w h
       go (Some node) e = k.stop w s node e h
-  each_event w (events.Start (nodes.Client c)) fit h = go (site_of w c) refl
+  each_event w (events.Start (nodes.Client c)) h = go (site_of w c) refl
     where
       go : (o : Option ClientSite) → site_of w c ≡ o → O (ev.starts_client w c o)
       go None e = k.done w h
       go (Some site) e = k.start w c site e h
-  each_event w (events.Start (nodes.Server s)) fit h = go (node_of w s) refl
+  each_event w (events.Start (nodes.Server s)) h = go (node_of w s) refl
     where
       go : (o : Option ServerNode) → node_of w s ≡ o → O (ev.starts_server w s o)
       go None e = k.done w h

@@ -23,7 +23,7 @@ use Rattle.st_laws_counts.specs.Reached.{In_every_reached}
 use Rattle.st_laws_counts.proofs.Asking as asked
 use Rattle.st_laws_counts.proofs.Asking.{Reads_low}
 use Rattle.st_laws_counts.proofs.Clients.{Sites_low, cases, fresh_low}
-use Rattle.st_laws_counts.proofs.Events.{Any, Cases, each_event}
+use Rattle.st_laws_counts.proofs.Events.{Cases, each_event}
 use Rattle.st_laws_counts.proofs.Robbing as robbed
 use Rattle.st_laws_counts.proofs.Robbing.{Thefts_low}
 use Rattle.st_laws_counts.proofs.Servers as nodes
@@ -41,15 +41,15 @@ abbrev pub At_events : (ℕ → World → Type 0) → World → Type 0
 At_events fact w = fact w.tally.events w
 
 -- where each event leads from so many to one more
-pub counted_reached : (fact : ℕ → World → Type 0) → ((n : ℕ) (w : World) → fact n w → fact n (counted w)) → ((n : ℕ) → Cases Any (fact n) (fact (n + 1))) →
+pub counted_reached : (fact : ℕ → World → Type 0) → ((n : ℕ) (w : World) → fact n w → fact n (counted w)) → ((n : ℕ) → Cases (fact n) (fact (n + 1))) →
     ((k : Config) (clients servers d b form : ℕ) → IsHead k clients servers d b form → fact 0 (fresh_world k clients servers d b form)) → In_every_reached (At_events fact)
 unfolding fresh_world
 counted_reached fact more each fresh =
     every_reached (At_events fact) fresh
     (λ w e h.
     let v = (ev.happens (counted w) e).world in
-    subst (λ n. fact n v) (sym (each_event Any (Events_are (w.tally.events + 1)) (Events_are (w.tally.events + 1)) (events_cases (w.tally.events + 1)) (counted w) e (λ steps q. tt) refl))
-    (each_event Any (fact w.tally.events) (fact (w.tally.events + 1)) (each w.tally.events) (counted w) e (λ steps q. tt) (more w.tally.events w h)))
+    subst (λ n. fact n v) (sym (each_event (Events_are (w.tally.events + 1)) (Events_are (w.tally.events + 1)) (events_cases (w.tally.events + 1)) (counted w) e refl))
+    (each_event (fact w.tally.events) (fact (w.tally.events + 1)) (each w.tally.events) (counted w) e (more w.tally.events w h)))
 
 -- Clients.
 pub clients_law : In_every_reached Clients_few

@@ -15,7 +15,7 @@ use Rattle.st_lemmas.proofs.Lookups.{some_is}
 use Rattle.st_lemmas.proofs.Numbers.{numbered_below, numbered_has, numbered_other, numbered_own}
 use Rattle.st_lemmas.proofs.Tables.{has_map, same_or_not}
 use Rattle.st_laws_counts.proofs.Clients.{flush_rows, served_all}
-use Rattle.st_laws_counts.proofs.Events.{Any, Cases, Client_steps, Server_steps}
+use Rattle.st_laws_counts.proofs.Events.{Cases, Client_steps, Server_steps}
 use Rattle.st_laws_counts.proofs.Tallies.{told_all}
 use Rattle.st_laws_counts.proofs.Thefts.{Few_clients, Rising, step_few}
 
@@ -54,13 +54,12 @@ started : (node : ServerNode) (now : Stamp) → Few_clients (sv.start_node node 
 unfolding sv.start sv.begin_epoch
 started node now = empty (sv.start node.state now) refl refl refl
 
-pub cases : (n : ℕ) → Cases Any (Thefts_low n) (Thefts_low (n + 1))
+pub cases : (n : ℕ) → Cases (Thefts_low n) (Thefts_low (n + 1))
 unfolding ev.client_took ev.server_took
 cases n =
     record {
       beside = λ w v b h. later n n w v (omega arith) b.servers (ap (λ (t : Tally). t.stolen) b.tally) h;
       done = λ w h. later n (n + 1) w w (omega arith) refl refl h;
-      advance = λ w steps es fit l h. record { low = let a = h.low in omega (arith, a); clients = h.clients };
       client = λ w c input old site there is r h.
           let t = Client_steps w c site input in
           let sc = ev.client_says_all c site.node.state t.out (ev.quiet (ev.with_site c (ev.at_node t.node site) w)) in

@@ -19,7 +19,7 @@ use Rattle.st_lemmas.specs.Lists.{Has}
 use Rattle.st_lemmas.proofs.Lookups.{some_is}
 use Rattle.st_lemmas.proofs.Numbers.{numbered_below, numbered_has, numbered_other, numbered_own}
 use Rattle.st_lemmas.proofs.Tables.{and_true, has_map, same_or_not}
-use Rattle.st_laws_counts.proofs.Events.{Any, Cases, Client_steps, Server_steps}
+use Rattle.st_laws_counts.proofs.Events.{Cases, Client_steps, Server_steps}
 use Rattle.st_laws_counts.proofs.Clients.{flush_rows, served_all}
 use Rattle.st_laws_counts.proofs.Stables.{step_grows}
 use Rattle.st_laws_counts.proofs.Tallies.{told_all}
@@ -59,13 +59,12 @@ stepped n w s input node h =
     let x = h.epochs in let y = h.inodes in let z = h.births in let a = ap (λ (e : Rattle.st_base.specs.declared.ids.Epoch.Epoch). e.0) g.epoch in let b = g.inodes in let c = g.births in
     record { epochs = omega (arith, x, a); inodes = omega (arith, y, b); births = omega (arith, z, c); blocks = subst (λ (bs : List BlockAt). length bs ≤ 32768) (sym g.blocks) h.blocks }
 
-pub cases : (n : ℕ) → Cases Any (Nodes_low n) (Nodes_low (n + 1))
+pub cases : (n : ℕ) → Cases (Nodes_low n) (Nodes_low (n + 1))
 unfolding ev.client_took ev.server_took sv.crash sv.start sv.begin_epoch
 cases n =
     record {
       beside = λ w v b h. same_nodes n w v b.servers h;
       done = λ w h. later_nodes n w h;
-      advance = λ w steps es fit l h s node e. later n node (h s node e);
       client = λ w c input old site there is r h.
           let t = Client_steps w c site input in
           let sc = ev.client_says_all c site.node.state t.out (ev.quiet (ev.with_site c (ev.at_node t.node site) w)) in
