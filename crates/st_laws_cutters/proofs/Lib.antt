@@ -1,0 +1,13 @@
+pub mod New
+pub mod Walking
+pub mod Hearing
+pub mod Requesting
+pub mod Step
+pub mod World
+pub mod Named
+pub mod Cutting
+pub mod Seen
+pub mod Standing
+pub mod Asked
+pub mod Law
+pub mod Runs
