@@ -1,15 +1,12 @@
 -- A write that a client's step submits is the only one of its page that may have its effect.
-use Rattle.std.proofs.Common.{◌≡◌, ◌≢◌, ℕ, zero, suc, ◌+◌, ◌%◌, ◌<◌, ◌≤◌, ◌⊎◌, Bool, true, false, List, [], ◌∷◌, ◌++◌, Option, Some, None, Ok, refl, sym, ap, ◌∙◌, subst, inl, inr, arith}
+use Rattle.std.proofs.Common.{◌≡◌, ◌≢◌, ℕ, suc, ◌≤◌, ◌⊎◌, Bool, true, false, List, [], ◌∷◌, ◌++◌, Option, Some, None, refl, sym, ap, ◌∙◌, subst, inl, inr, arith}
 use Rattle.std.specs.Prelude.{find, length, map, option_map, pred}
 use Rattle.std.proofs.lemmas.Bool.{leb-true, ne_eqb}
 use Rattle.st_base.specs.declared.disk.BlockAt.{BlockAt}
 use Rattle.st_base.specs.declared.disk.Command.TheVariants as commands
 use Rattle.st_base.specs.declared.disk.Tag.{Tag}
-use Rattle.st_base.specs.declared.ids.ClientId.{ClientId}
 use Rattle.st_base.specs.declared.ids.FileId.{FileId}
-use Rattle.st_base.specs.declared.ids.Life.{Life}
 use Rattle.st_base.specs.declared.ids.NodeId.TheVariants as nodes
-use Rattle.st_base.specs.declared.ids.PageNo.{PageNo}
 use Rattle.st_base.specs.declared.ids.ServerId.{ServerId}
 use Rattle.st_base.specs.declared.ids.Stamp.{Stamp}
 use Rattle.st_messages.specs.declared.ask.Ask.{Ask}
@@ -17,13 +14,12 @@ use Rattle.st_messages.specs.declared.output.Output.{Output}
 use Rattle.st_messages.specs.declared.output.Output.TheVariants as outputs
 use Rattle.st_rules.specs.declared.client.ClientInput.{ClientInput}
 use Rattle.st_rules.specs.declared.disks.DiskCommand.{DiskCommand}
-use Rattle.st_rules.specs.declared.disks.Report.TheVariants as reports
 use Rattle.st_rules.specs.declared.world.IssuedCommand.{IssuedCommand}
 use Rattle.st_rules.specs.declared.world.LeaseLife.{LeaseLife}
 use Rattle.st_rules.specs.Admissible as adm
 use Rattle.st_rules.specs.Client as cl
 use Rattle.st_rules.specs.ClientLease as lease
-use Rattle.st_rules.specs.ClientState.{Association, ClientSession, ClientState, is_at}
+use Rattle.st_rules.specs.ClientState.{Association, ClientSession, is_at}
 use Rattle.st_rules.specs.Disks as disks
 use Rattle.st_rules.specs.Disks.{Disks}
 use Rattle.st_rules.specs.Events as ev
@@ -34,13 +30,12 @@ use Rattle.st_rules.specs.World as world
 use Rattle.st_rules.specs.World.{World, ClientSite, clock_of, end_or_present, ended_of, is_life_of, lease_end_of, life_with, numbered, present_end, server_of_disk, site_of, with_numbered}
 use Rattle.st_assoc.specs.Assoc.{Config}
 use Rattle.st_lemmas.specs.Lists.{Has}
-use Rattle.st_lemmas.proofs.Lookups.{some_is}
 use Rattle.st_lemmas.proofs.Numbers.{numbered_below, numbered_has, numbered_other, numbered_own}
 use Rattle.st_lemmas.proofs.Tables.{same_or_not}
 use Rattle.st_views.specs.Halves.{held_in}
 use Rattle.st_laws_client.specs.Shown.{Lasts}
-use Rattle.st_laws_pages.specs.Flush.{Cared, FlushHold, Is_its, Node_cared}
-use Rattle.st_laws_pages.specs.Lives.{Is_known, LivesHold, Node_holds, Once, Stepped, ended_rows, rows_lost, server_number}
+use Rattle.st_laws_pages.specs.Flush.{Cared, FlushHold, Node_cared}
+use Rattle.st_laws_pages.specs.Lives.{Is_known, LivesHold, Node_holds, Once, Stepped, ended_rows, server_number}
 use Rattle.st_laws_pages.specs.Losses.{Fit, is_ended}
 use Rattle.st_laws_pages.specs.Owed.{Timely_in}
 use Rattle.st_laws_pages.specs.Pages.{same_place}
@@ -51,11 +46,9 @@ use Rattle.st_laws_pages.proofs.Lasting.{Flushed, flush_parts, no_option}
 use Rattle.st_laws_pages.proofs.Law.{same_place_is}
 use Rattle.st_laws_pages.proofs.Lives.{find_back, find_front}
 use Rattle.st_laws_pages.proofs.LifeSteps.{steps_so}
-use Rattle.st_laws_pages.proofs.Turning.{Said, client_lives, says_lives}
+use Rattle.st_laws_pages.proofs.Turning.{Said, says_lives}
 use Rattle.st_laws_causes.proofs.Placed.{Placed}
-use Rattle.st_laws.specs.World.{There}
 use Rattle.st_laws_copies.specs.Law.{Stands_at}
-use Rattle.st_laws_reads.specs.Law.{Running}
 use Rattle.st_laws_reads.specs.World.{CopiesHold}
 use Rattle.st_laws_reads.proofs.Alone.{while_at}
 use Rattle.st_laws_reads.proofs.Takings.{there_at}
@@ -64,8 +57,8 @@ use Rattle.st_laws_writes.proofs.Joining.{Is_new, all_say, flushes_disks, pair_b
 use Rattle.st_laws_writes.proofs.Listing.{write_said}
 use Rattle.st_laws_writes.proofs.Walking.{After_step, Ended_by, Listed_at, Step_keeps, step_keeps}
 use Rattle.st_laws_open.specs.Open.{Of_life}
-use Rattle.st_laws_living.specs.Living.{Open_write, Writes_hold}
-use Rattle.st_laws_living.proofs.Cases.{Own_write, living_own, timely_end}
+use Rattle.st_laws_living.specs.Living.{Writes_hold}
+use Rattle.st_laws_living.proofs.Cases.{living_own, timely_end}
 use Rattle.st_laws_living.proofs.Growing.{Grows, Submitted, grows_all, says_both, submitted}
 use Rattle.st_laws_living.proofs.Lasting.{step_lasts}
 

@@ -6,7 +6,6 @@ use Rattle.std.proofs.lemmas.Bool.{leb-false}
 use Rattle.st_base.specs.declared.disk.BlockAt.{BlockAt}
 use Rattle.st_base.specs.declared.disk.Tag.{Tag}
 use Rattle.st_base.specs.declared.ids.ClientId.{ClientId}
-use Rattle.st_base.specs.declared.ids.Life.{Life}
 use Rattle.st_base.specs.declared.ids.NodeId.TheVariants as nodes
 use Rattle.st_base.specs.declared.ids.ServerId.{ServerId}
 use Rattle.st_base.specs.declared.ids.Stamp.{Stamp}
@@ -16,7 +15,6 @@ use Rattle.st_rules.specs.declared.world.LeaseLife.{LeaseLife}
 use Rattle.st_rules.specs.Admissible as adm
 use Rattle.st_rules.specs.Client as cl
 use Rattle.st_rules.specs.ClientLease as lease
-use Rattle.st_rules.specs.ClientPages.{dirty_of}
 use Rattle.st_rules.specs.ClientState.{Association, ClientSession, is_at}
 use Rattle.st_rules.specs.Events as ev
 use Rattle.st_rules.specs.Keys.{client, server_node}
@@ -33,7 +31,7 @@ use Rattle.st_laws_client.specs.Shown.{Lasts}
 use Rattle.st_laws_server.specs.Pair.{client_in, stamp_number}
 use Rattle.st_laws_pages.specs.Lives.{Is_known}
 use Rattle.st_laws_pages.specs.World.{Living, Timely}
-use Rattle.st_laws_pages.proofs.Associations.{found_has, own_found}
+use Rattle.st_laws_pages.proofs.Associations.{own_found}
 use Rattle.st_laws_pages.proofs.Effects.{stands_not}
 use Rattle.st_laws_pages.proofs.Lasting.{no_option}
 use Rattle.st_laws_pages.proofs.Living.{row_is}

@@ -1,7 +1,6 @@
 -- A client's crash: the lives that it ends stand still, where a write of them is not reported, and those that stood still do so on.
-use Rattle.std.proofs.Common.{◌≡◌, ℕ, ◌≤◌, ◌⊎◌, Bool, true, false, List, Option, Some, None, refl, sym, ap, ◌∙◌, subst, inl, inr, arith}
+use Rattle.std.proofs.Common.{◌≡◌, ℕ, ◌≤◌, ◌⊎◌, true, List, Option, Some, None, refl, sym, ap, ◌∙◌, subst, inl, inr, arith}
 use Rattle.std.specs.Prelude.{option_map}
-use Rattle.st_base.specs.declared.config.Config as base
 use Rattle.st_base.specs.declared.disk.BlockAt.{BlockAt}
 use Rattle.st_base.specs.declared.disk.Tag.{Tag}
 use Rattle.st_base.specs.declared.ids.NodeId.TheVariants as nodes
@@ -24,13 +23,13 @@ use Rattle.st_assoc.specs.Assoc.{Config}
 use Rattle.st_lemmas.specs.Lists.{Has}
 use Rattle.st_views.specs.Halves.{held_in}
 use Rattle.st_laws_client.specs.Shown.{Lasts}
-use Rattle.st_laws.specs.World.{AllStand, Server_stands}
+use Rattle.st_laws.specs.World.{AllStand}
 use Rattle.st_laws_copies.specs.Law.{Client_copies, Stands_at}
 use Rattle.st_laws_reads.proofs.Alone.{while_at}
 use Rattle.st_laws_writes.specs.Writes.{Is_listed, Listed_since, Open_hold}
 use Rattle.st_laws_elders.specs.Elders.{Stood_life}
-use Rattle.st_laws_elders.proofs.Falling.{Own_row, V, after, before_at, came, dirty_any, falls, own_row, stands, there_too}
-use Rattle.st_laws_living.specs.Living.{Open_crashed, Open_write, Over_or_still, Writes_hold, writer}
+use Rattle.st_laws_elders.proofs.Falling.{Own_row, V, after, before_at, came, dirty_any, falls, own_row, there_too}
+use Rattle.st_laws_living.specs.Living.{Open_write, Over_or_still, Writes_hold, writer}
 use Rattle.st_laws_living.proofs.Still.{still_on}
 use Rattle.st_laws_living.proofs.Tracked.{site_kept}
 

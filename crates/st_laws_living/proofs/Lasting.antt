@@ -1,6 +1,5 @@
 -- Behind a step of a client each of its leases lasts.
-use Rattle.std.proofs.Common.{◌≡◌, ℕ, ◌<◌, ◌≤◌, Bool, true, false, List, [], ◌∷◌, Option, Some, None, refl, sym, ap, ◌∙◌, subst, inl, inr, arith}
-use Rattle.std.specs.Prelude.{nat_le}
+use Rattle.std.proofs.Common.{◌≡◌, false, [], Option, Some, None, refl, sym, ◌∙◌, subst, arith}
 use Rattle.std.proofs.lemmas.Bool.{leb-false}
 use Rattle.st_base.specs.declared.config.Config.{Config}
 use Rattle.st_base.specs.declared.ids.ClientId.{ClientId}
@@ -9,7 +8,7 @@ use Rattle.st_rules.specs.declared.client.ClientInput.{ClientInput}
 use Rattle.st_rules.specs.Client as cl
 use Rattle.st_rules.specs.ClientLease as lease
 use Rattle.st_rules.specs.ClientPasses as cp
-use Rattle.st_rules.specs.ClientState.{Association, ClientSession, ClientState, ClientTurn, at_each, client_turn}
+use Rattle.st_rules.specs.ClientState.{Association, ClientSession, ClientState, ClientTurn, client_turn}
 use Rattle.st_lemmas.specs.Lists.{Has}
 use Rattle.st_laws_client.specs.Shown.{Lasts}
 use Rattle.st_laws_pages.specs.Lives.{Pairwise}

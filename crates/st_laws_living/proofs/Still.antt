@@ -1,43 +1,37 @@
 -- Lives that a crash ended, of which a write is not reported, stand still up to their lease ends, through each event at which no client
 -- crashes.
-use Rattle.std.proofs.Common.{◌≡◌, ℕ, ◌≤◌, ◌<◌, ◌⊎◌, Bool, true, false, List, Option, Some, None, Ok, refl, sym, ap, ◌∙◌, subst, inl, inr, arith}
+use Rattle.std.proofs.Common.{◌≡◌, ℕ, ◌≤◌, ◌⊎◌, true, false, List, Some, None, Ok, sym, ap, ◌∙◌, subst, inl, inr, arith}
 use Rattle.std.specs.Prelude.{length}
 use Rattle.st_base.specs.declared.ids.ClientId.{ClientId}
-use Rattle.st_base.specs.declared.ids.FileId.{FileId}
 use Rattle.st_base.specs.declared.ids.NodeId.TheVariants as nodes
-use Rattle.st_base.specs.declared.ids.PageNo.{PageNo}
 use Rattle.st_base.specs.declared.ids.Stamp.{Stamp}
 use Rattle.st_messages.specs.declared.event.Event.{Event}
 use Rattle.st_messages.specs.declared.event.Event.TheVariants as events
 use Rattle.st_rules.specs.declared.client.ClientInput.{ClientInput}
 use Rattle.st_rules.specs.declared.log.LogOwner.{LogOwner}
-use Rattle.st_rules.specs.declared.world.Carried.{Carried}
 use Rattle.st_rules.specs.declared.world.LeaseLife.{LeaseLife}
 use Rattle.st_rules.specs.Admissible as adm
 use Rattle.st_rules.specs.Client as cl
-use Rattle.st_rules.specs.Disks.{Disks}
 use Rattle.st_rules.specs.Events as ev
 use Rattle.st_rules.specs.Events.{Scene, client_says_all, counted, world_step}
-use Rattle.st_rules.specs.FlatLog as log
 use Rattle.st_rules.specs.Server.{ServerNode}
 use Rattle.st_rules.specs.World as world
 use Rattle.st_rules.specs.World.{World, ClientSite, Net, Tally, clock_of, ended_of, node_of, numbered, server, site_of}
 use Rattle.st_assoc.specs.Assoc.{Config}
 use Rattle.st_lemmas.proofs.Steps.{step_happens}
-use Rattle.st_laws_pages.proofs.Each.{Besides, Stepped_node}
+use Rattle.st_laws_pages.proofs.Each.{Stepped_node}
 use Rattle.st_laws_pages.proofs.Lasting.{flush_parts}
 use Rattle.st_laws_pages.proofs.Moves.{clock_up}
 use Rattle.st_laws_pages.proofs.Turning.{says_lives}
 use Rattle.st_laws.specs.World.{AllStand, Is_full, Server_stands}
 use Rattle.st_laws_server.specs.Pair.{stamp_number}
-use Rattle.st_laws_elders.specs.Elders.{Of_crashed, Stood_life}
+use Rattle.st_laws_elders.specs.Elders.{Stood_life}
 use Rattle.st_laws_elders.specs.Frozen.{Frozen_life, Is_over}
 use Rattle.st_laws_elders.specs.Paths.{Came_from, Followed, pairs_of}
 use Rattle.st_laws_elders.proofs.Calm.{each_event}
 use Rattle.st_laws_elders.proofs.Stepping.{clock_there, follows, site_there}
 use Rattle.st_laws_elders.proofs.Walks.{paths_keep}
-use Rattle.st_laws_pages.specs.Lives.{LivesHold}
-use Rattle.st_laws_living.specs.Living.{Open_crashed, Open_tracked, Open_write, Over_or_still, Writes_hold, writer}
+use Rattle.st_laws_living.specs.Living.{Open_tracked, Over_or_still, Writes_hold, writer}
 use Rattle.st_laws_living.proofs.Tracked.{tracked}
 
 -- A client's clock goes on.

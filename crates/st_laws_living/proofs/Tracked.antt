@@ -14,7 +14,6 @@ use Rattle.st_messages.specs.declared.output.Note.TheVariants as notes
 use Rattle.st_messages.specs.declared.output.Output.{Output}
 use Rattle.st_messages.specs.declared.output.Output.TheVariants as outputs
 use Rattle.st_rules.specs.declared.client.ClientInput.{ClientInput}
-use Rattle.st_rules.specs.declared.log.LogEntry.{LogEntry}
 use Rattle.st_rules.specs.declared.log.LogOwner.{LogOwner}
 use Rattle.st_rules.specs.declared.world.Carried.{Carried}
 use Rattle.st_rules.specs.declared.world.IssuedCommand.{IssuedCommand}
@@ -33,32 +32,19 @@ use Rattle.st_lemmas.specs.Lists.{Has}
 use Rattle.st_lemmas.proofs.Numbers.{length_more, numbered_below, numbered_own}
 use Rattle.st_laws.proofs.Everywhere.{numbered_is}
 use Rattle.st_laws.proofs.Pairs.{length_set}
-use Rattle.st_laws_pages.specs.Fates.{Pending_all}
 use Rattle.st_laws_pages.specs.Lives.{All_known, ended_rows, LivesHold, Node_holds, owner_of, Stepped}
-use Rattle.st_laws_pages.specs.Losses.{Fit}
-use Rattle.st_laws_pages.specs.Notes.{Is_changed_at, Notes_all}
-use Rattle.st_laws_pages.proofs.Associations.{own_found}
-use Rattle.st_laws_pages.proofs.Dirtying.{notes_map}
 use Rattle.st_laws_pages.proofs.Each.{Besides, Stepped_node}
-use Rattle.st_laws_pages.proofs.FateLaw.{pending_fewer, pending_hard}
-use Rattle.st_laws_pages.proofs.Fates.{pending_map}
-use Rattle.st_laws_pages.proofs.FateSteps.{pending_more, says_pending}
 use Rattle.st_laws_pages.proofs.Lasting.{Flushed, flush_parts}
 use Rattle.st_laws_pages.proofs.LifeSteps.{advance_lives, owners_hard, same_owners, start_lives, steps_so}
 use Rattle.st_laws_pages.proofs.Lives.{find_back, find_front}
 use Rattle.st_laws_pages.proofs.Living.{row_is}
-use Rattle.st_laws_pages.proofs.Noting.{step_notes}
 use Rattle.st_laws_pages.proofs.Turning.{Said, client_lives, known_owner, owners_more, says_lives}
 use Rattle.st_base.specs.declared.disk.BlockAt.{BlockAt}
 use Rattle.st_base.specs.declared.disk.Tag.{Tag}
-use Rattle.st_rules.specs.declared.disks.DiskCommand.{DiskCommand}
 use Rattle.st_rules.specs.Disks as disks
-use Rattle.st_base.specs.declared.disk.Command.TheVariants as commands
-use Rattle.st_rules.specs.ClientState.{client_turn}
-use Rattle.st_laws_pages.specs.Fates.{Pending_all}
 use Rattle.st_laws_elders.specs.Elders.{Of_crashed}
-use Rattle.st_laws_writes.proofs.Joining.{Counted, Is_new, all_say, flushes_disks}
-use Rattle.st_laws_living.specs.Living.{Open_crashed, Open_tracked, Open_write, writer}
+use Rattle.st_laws_writes.proofs.Joining.{Is_new, all_say, flushes_disks}
+use Rattle.st_laws_living.specs.Living.{Open_tracked, Open_write, writer}
 use Rattle.st_laws_living.proofs.Events.{Goes_on, each_event}
 
 -- a lease that is lost is no crash
