@@ -64,13 +64,15 @@ use Rattle.st_laws_elders.proofs.Law.{alone, events_keep, first}
 use Rattle.st_laws_living.specs.Living.{Writes_hold}
 use Rattle.st_laws_living.proofs.Falling.{writes_fall}
 use Rattle.st_laws_living.proofs.Still.{writes_go_on}
-use Rattle.st_laws_submits.specs.Left.{In_runs_left_too, Pages_left}
+use Rattle.st_laws_cutters.proofs.Seen.{cuts_known}
+use Rattle.st_laws_submits.specs.Left.{In_runs_left_too, No_elder_writes, Pages_left}
 use Rattle.st_laws_submits.specs.Rest.{In_runs_of_rest, Is_rest, Taken_rest}
 use Rattle.st_laws_submits.proofs.Zeros.{left as left_of, left_stopped}
 use Rattle.st_laws_submits.specs.Submits.{Last_in}
 use Rattle.st_laws_submits.proofs.Client as client_step
 use Rattle.st_laws_submits.proofs.Cutting.{server_gives}
 use Rattle.st_laws_submits.proofs.Others.{last_still, others_last}
+use Rattle.st_laws_submits.proofs.Rows.{uncut_by}
 use Rattle.st_laws_submits.proofs.Taking.{Gives, owed_of, taken_in}
 use Rattle.st_laws_causes.proofs.Placed.{places_at}
 
@@ -146,19 +148,19 @@ module _ (past : List Step) (k : Config) (count : ℕ) (t : Traced) (s : Pages_s
 
   -- One step.
   module _ (e : Event) (sc : Scene) (in_range : is_event count e ≡ true) (took : world_step w e ≡ Ok sc) (places : Places_after past (step t e sc)) (left : Is_left past (step t e sc)) (left_too : Pages_left past (step t e sc)) where
-    abbrev st : Step
+    abbrev pub st : Step
     st = step t e sc
 
-    is_full : Is_full w e
+    pub is_full : Is_full w e
     is_full = full count w e s.stood.all.nodes in_range
 
-    elders_now : Elders_alone (counted w)
+    pub elders_now : Elders_alone (counted w)
     elders_now = counted_alone w (alone past k count w s.elders s.stood.stand.both.flush)
 
-    owed : Taken_owed (counted w) e (taken (counted w) e)
+    pub owed : Taken_owed (counted w) e (taken (counted w) e)
     owed = all_owed (counted w) e (taken (counted w) e) elders_now left.taken
 
-    behind : Kept past st × Stood k count (past ++ st ∷ []) (traced_after e t sc)
+    pub behind : Kept past st × Stood k count (past ++ st ∷ []) (traced_after e t sc)
     behind = reads.next k count past t e sc in_range took s.stood places (record { taken = owed; cuts = left.cuts })
 
     elders_v : Elders_hold k count sc.world
@@ -173,27 +175,27 @@ module _ (past : List Step) (k : Config) (count : ℕ) (t : Traced) (s : Pages_s
     alone_v : Elders_alone sc.world
     alone_v = alone (past ++ st ∷ []) k count sc.world elders_v behind.1.stand.both.flush
 
-    is : sc ≡ happens (counted w) e
+    pub is : sc ≡ happens (counted w) e
     is = (step_happens w e sc took).1
 
-    free : taken (counted w) e ≡ None → Others_owed (counted w) e
+    pub free : taken (counted w) e ≡ None → Others_owed (counted w) e
     free q =
         others_owed k count (counted w) sc behind.1.all (clear_step w e sc took s.stood.clear) left.cuts s.stood.waits e (waits_owed k count w s.stood.all e (step_happens w e sc took).0) is
         (subst (Taken_owed (counted w) e) q owed)
 
-    all_there : (xs : List Association) → All_there w xs → All_there (counted w) xs
+    pub all_there : (xs : List Association) → All_there w xs → All_there (counted w) xs
     all_there [] h = record {}
     all_there (a ∷ xs) h = record { one = record { node = h.one.node; is = h.one.is }; rest = all_there xs h.rest }
 
-    copies_more : CopiesHold (known (past ++ st ∷ [])) w
+    pub copies_more : CopiesHold (known (past ++ st ∷ [])) w
     copies_more = more_known past st w s.stood.copies
 
     -- of a client that takes an input
     module _ (x : Taking) (q : taken (counted w) e ≡ Some x) where
-      there : Takes (counted w) sc x
+      pub there : Takes (counted w) sc x
       there = subst (λ (z : Scene). Takes (counted w) z x) (sym is) (takes_event (counted w) e x q)
 
-      due : Taking_owed (known (past ++ st ∷ [])) x
+      pub due : Taking_owed (known (past ++ st ∷ [])) x
       due =
           record {
             numbered = numbered_there past st (counted w) e x refl (λ c site f. let z = s.stood.stand.asks c site f in record { count = z.count; keys = z.keys }) q;
@@ -238,11 +240,17 @@ module _ (past : List Step) (k : Config) (count : ℕ) (t : Traced) (s : Pages_s
             subst (λ (z : Scene). Last_in z.world z.world.log) (sym is)
             (others_last (known past) (counted w) e (λ c site f. let y = s.stood.copies c site f in record { servers = all_there site.node.state.associations y.servers; runs = y.runs; rests = y.rests }) q (free q) (last_still w (counted w) refl refl refl s.last))
 
+    uncut : (f : FileId) (p : PageNo) → (index : ℕ) × Has (seen.CutAt index f p) (happens (counted w) e).seen → No_elder_writes w f
+    uncut f p i =
+        let j = subst (λ (z : Scene). Has (seen.CutAt i.0 f p) z.seen) (sym is) i.1 in
+        let c = (cuts_known w e sc (λ v n at. (s.stood.waits v n at).id) took i.0 f p j).0 in
+        uncut_by k count w s.writes f p c (λ n y at tag bytes l. (s.pages.pages.carry n y at tag bytes l).server) (left_too.cuts i.0 f p j c)
+
     pages_v : PagesHold sc.world
     pages_v =
         pages_law w e sc took
         (owed_of (counted w) e gives
-        (server_gives (known past) k count w s.writes s.open_ s.stood.copies s.pages e free (λ f p i. left_too.cuts i.0 f p (subst (λ (z : Scene). Has (seen.CutAt i.0 f p) z.seen) (sym is) i.1))))
+        (server_gives (known past) k count w s.writes s.open_ s.stood.copies s.pages e free uncut))
         s.stood.all.fates.lives s.pages
 
     pub next : Kept past st × Pages_stand k count (past ++ st ∷ []) (traced_after e t sc)
