@@ -3,7 +3,7 @@
 
 ghost use Rattle.st_laws.specs.Law.{In_every_run};
 ghost use Rattle.st_laws_askers.specs.Reached.{Reassertions_new, Replies_after};
-ghost use Rattle.st_laws_cutters.specs.Law.{Cuts_are_asked};
+ghost use Rattle.st_laws_cutters.specs.Law.{Cuts_are_asked, True_now};
 ghost use Rattle.st_laws_cutters.specs.Named.{Numbers_name_files};
 ghost use Rattle.st_laws_cutters.specs.Runs.{In_runs_taken};
 ghost use Rattle.st_laws_reads.specs.Carry.{WritesCarryTheContent};
@@ -37,4 +37,9 @@ pub fn cuts_are_asked()
 pub fn runs_read_beside_cuts()
     ensures reads { In_runs_taken ReadsReturnLastWrites }
     ensures carries { In_runs_taken WritesCarryTheContent }
+{}
+
+/// Scratch.
+pub fn scratch()
+    ensures { True_now }
 {}
