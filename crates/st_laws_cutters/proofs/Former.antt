@@ -1,9 +1,8 @@
 -- The messages of a life to which its client does not come back cut no file that was not being cut.
-use Rattle.std.proofs.Common.{◌≡◌, ◌≢◌, ◌⊎◌, ℕ, ◌+◌, ◌≤◌, ◌<◌, zero, suc, true, List, Option, Some, None, refl, sym, ap, ◌∙◌, subst, inl, inr, arith}
+use Rattle.std.proofs.Common.{◌≡◌, ◌≢◌, ◌⊎◌, ℕ, ◌≤◌, ◌<◌, zero, suc, true, List, Option, Some, None, refl, sym, ap, ◌∙◌, subst, inl, inr, arith}
 use Rattle.st_base.specs.declared.ids.ClientId.{ClientId}
 use Rattle.st_base.specs.declared.ids.FileId.{FileId}
 use Rattle.st_base.specs.declared.ids.GrantNo.{GrantNo}
-use Rattle.st_base.specs.declared.ids.NodeId.TheVariants as nodes
 use Rattle.st_base.specs.declared.ids.PageNo.{PageNo}
 use Rattle.st_base.specs.declared.ids.ServerId.{ServerId}
 use Rattle.st_base.specs.Mode.{number_of}
@@ -19,9 +18,9 @@ use Rattle.st_rules.specs.ClientState.{Association, ClientSession}
 use Rattle.st_rules.specs.History.{Traced}
 use Rattle.st_rules.specs.Keys.{client, page_no, server_node}
 use Rattle.st_rules.specs.Safety.{Step}
-use Rattle.st_rules.specs.Server.{ServerNode, sender}
+use Rattle.st_rules.specs.Server.{ServerNode}
 use Rattle.st_rules.specs.Sessions as sessions
-use Rattle.st_rules.specs.World.{World, ClientSite, clock_of, node_of, server, site_of}
+use Rattle.st_rules.specs.World.{World, ClientSite, node_of}
 use Rattle.st_assoc.specs.Assoc.{Config}
 use Rattle.st_assoc.proofs.World.{invariant}
 use Rattle.st_assoc.specs.Assoc as net
@@ -29,18 +28,18 @@ use Rattle.st_lemmas.specs.Lists.{Has}
 use Rattle.st_lemmas.proofs.Tables.{same_or_not}
 use Rattle.st_views.specs.Halves.{epoch_in}
 use Rattle.st_laws_dates.specs.Dates.{messages}
-use Rattle.st_laws.specs.World.{AllStand, Server_stands}
+use Rattle.st_laws.specs.World.{AllStand}
 use Rattle.st_laws_server.specs.Stands.{pairs}
 use Rattle.st_laws_reads.specs.Clear.{Cuts, cuts_from}
 use Rattle.st_laws_reads.specs.Law.{Running}
 use Rattle.st_laws_askers.specs.Reached.{Is_behind, Reached}
 use Rattle.st_laws_cuts.specs.Cuts.{Cuts_hold, Numbers, Numbered, Same_body, view}
 use Rattle.st_laws_cutters.specs.Asks.{Asks_stand, Cut_named, Of, Remove_named, first_open, open_from}
-use Rattle.st_laws_cutters.specs.Cut.{Asks_cut, Cut_by, Cut_in}
+use Rattle.st_laws_cutters.specs.Cut.{Asks_cut, Cut_in}
 use Rattle.st_laws_cutters.specs.Former.{Besides, Elsewhere, Goes, Harmless, Is_past, Life_harmless, Node_goes, Past, Sent_by, Unnumbered}
 use Rattle.st_laws_cutters.specs.Law.{gifts}
 use Rattle.st_laws_cutters.specs.Named.{Given}
-use Rattle.st_laws_cutters.specs.World.{All_ask, Is_served, Served_to}
+use Rattle.st_laws_cutters.specs.World.{All_ask, Is_served}
 use Rattle.st_laws_cutters.proofs.Standing.{given_row, named, whole}
 
 -- a session that reached a number reached those below it

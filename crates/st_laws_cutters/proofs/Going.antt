@@ -17,13 +17,12 @@ use Rattle.st_rules.specs.declared.input.ServerInput.TheVariants as serving
 use Rattle.st_rules.specs.declared.node.StepRefusal.TheVariants.{Crashed}
 use Rattle.st_rules.specs.declared.world.IssuedCommand.{IssuedCommand}
 use Rattle.st_rules.specs.declared.world.SentMessage.{SentMessage}
-use Rattle.st_rules.specs.Keys.{client, server_node}
+use Rattle.st_rules.specs.Keys.{server_node}
 use Rattle.st_rules.specs.Client as cl
 use Rattle.st_rules.specs.ClientState.{ClientTurn}
 use Rattle.st_rules.specs.Events as ev
 use Rattle.st_rules.specs.Events.{Scene, world_step, client_says, client_says_all, server_says, server_says_all}
 use Rattle.st_rules.specs.History.{Traced}
-use Rattle.st_rules.specs.Sessions as sessions
 use Rattle.st_rules.specs.Server as server
 use Rattle.st_rules.specs.Server.{ServerNode}
 use Rattle.st_rules.specs.World as world
@@ -32,29 +31,17 @@ use Rattle.st_rules.specs.Safety.{Step, steps}
 use Rattle.st_lemmas.specs.Lists.{Has}
 use Rattle.st_lemmas.proofs.Lookups.{some_is}
 use Rattle.st_lemmas.proofs.Numbers.{numbered_below, numbered_has, numbered_other, numbered_own}
-use Rattle.st_lemmas.proofs.Tables.{has_map, has_map_in, same_or_not}
+use Rattle.st_lemmas.proofs.Tables.{has_map_in, same_or_not}
 use Rattle.st_laws_dates.specs.Dates.{message_in, messages}
 use Rattle.st_laws_dates.proofs.Said.{Alike, Said, client_said, flushed, server_said}
 use Rattle.st_lemmas.proofs.Steps.{step_happens}
-use Rattle.st_laws_askers.specs.Reached.{At_message, At_receiver, At_server, Ends, Input_new, Is_behind, New_owed, Refusal, Says}
+use Rattle.st_laws_askers.specs.Reached.{At_message, At_receiver, At_server, Input_new, New_owed}
 use Rattle.st_laws_askers.proofs.Replies.{Replies_hold}
-use Rattle.st_laws_cuts.specs.Cuts.{Cuts_hold, Numbers, Numbered, Same_body, view}
-use Rattle.st_laws_cutters.specs.Asks.{Asks_behind, Asks_stand, Of, Tells}
 use Rattle.st_laws_cutters.specs.Former.{Goes, Node_goes, Sent_by}
 use Rattle.st_laws_cutters.proofs.Lives.{Held, step_held}
-use Rattle.st_laws_cutters.specs.World.{All_ask, All_asked, Gifts, Is_served, Served_to}
-use Rattle.st_laws_cutters.proofs.Requesting.{stays_at}
-use Rattle.st_laws_cutters.proofs.Step.{Tells_each, step_stands}
-use Rattle.st_rules.specs.ClientState.{Association, ClientSession, ClientState, is_refusal, is_request_of, fits, reasserts}
-use Rattle.st_rules.specs.ClientReplies.{refuses_reassertion}
-use Rattle.st_messages.specs.declared.message.Body.TheVariants as bodies
-use Rattle.st_rules.specs.declared.client.Request.{Request}
-use Rattle.std.proofs.lemmas.Bool.{eqb-true}
-use Rattle.st_lemmas.proofs.Tables.{and_both, and_true}
-use Rattle.st_base.specs.declared.ids.GrantNo.{GrantNo}
+use Rattle.st_rules.specs.ClientState.{Association}
 use Rattle.st_laws_askers.proofs.Served.{Served, served}
 use Rattle.st_laws_dates.proofs.Steps.{has_numbered}
-
 use Rattle.std.proofs.Common.{◌∷◌}
 use Rattle.st_messages.specs.declared.output.Output.TheVariants as outputs
 
@@ -166,8 +153,15 @@ module _ (past : List Step) (t : Traced) (r : Replies_hold past t) where
       sent run m (inr h) =
           let o = held.outs m h in let z = o.living in
           inr (inr (record {
-            client = c; site = old; there = at; running = ap (λ (n : cl.ClientNode). n.running) (sym same) ∙ run; from = o.from; at = z.0;
-            among = subst (λ (n : cl.ClientNode). Has z.0 n.state.associations) same z.1; to = o.to ∙ ap server_node (sym z.2); life = z.3;
+            client = c;
+            site = old;
+            there = at;
+            running = ap (λ (n : cl.ClientNode). n.running) (sym same) ∙ run;
+            from = o.from;
+            at = z.0;
+            among = subst (λ (n : cl.ClientNode). Has z.0 n.state.associations) same z.1;
+            to = o.to ∙ ap server_node (sym z.2);
+            life = z.3;
           }))
 
       taken : site.node.running ≡ true → Goes t.world last
@@ -344,7 +338,6 @@ module _ (past : List Step) (t : Traced) (r : Replies_hold past t) where
   happens (events.Crash (nodes.Server s)) f = crashes_server s
   happens (events.Start (nodes.Client c)) f = starts_client c
   happens (events.Start (nodes.Server s)) f = starts_server s
-
 
   -- an event of a run
   pub event_goes : (e : Event) (sc : Scene) → New_owed (ev.counted t.world) e → world_step t.world e ≡ Ok sc → Goes t.world sc.world

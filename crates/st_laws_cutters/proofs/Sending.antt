@@ -182,7 +182,8 @@ module _ (ms : List Message) (c : ClientId) (now : Stamp) (Lv : ServerId → ℕ
         record {
           id_ = p.id_;
           server_ = p.server_;
-          life_ = p.life_; lives = p.lives;
+          life_ = p.life_;
+          lives = p.lives;
           dated = p.dated;
           outs = outs_more t.out _ p.outs (λ m e. subst Asks_now (is m e) (record { from = ap (λ (x : ClientId). x.0) p.id_; stamp = f; calm = calm; server = s; to = ap server_node p.server_; living = subst (Lv s) (ap (λ (y : Life). y.0) (sym p.life_)) p.lives }));
         }

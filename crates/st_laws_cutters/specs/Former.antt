@@ -12,6 +12,7 @@ use Rattle.st_rules.specs.ClientState.{Association}
 use Rattle.st_rules.specs.Keys.{server_node}
 use Rattle.st_rules.specs.Server.{ServerNode}
 use Rattle.st_rules.specs.Sessions.{session_of}
+use Rattle.st_rules.specs.Safety.{Promise}
 use Rattle.st_rules.specs.World.{ClientSite, World, node_of, site_of}
 use Rattle.st_lemmas.specs.Lists.{Has}
 use Rattle.st_laws_askers.specs.Reached.{Is_behind}
@@ -62,3 +63,7 @@ pub record Sent_by (w : World) (m : Message) : Type 0 where
 pub record Goes (w v : World) : Type 0 where
   pub nodes : (s : ServerId) (p : ServerNode) → node_of v s ≡ Some p → (n : ServerNode) × (node_of w s ≡ Some n) × Node_goes n p
   pub messages : (m : Message) → Has m (messages v) → Has m (messages w) ⊎ (((s : ServerId) × (m.header.from ≡ server_node s)) ⊎ Sent_by w m)
+
+-- at a step
+abbrev pub Goes_between : Promise
+Goes_between past x = Goes x.before.world x.after.world

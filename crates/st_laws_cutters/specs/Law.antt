@@ -16,6 +16,3 @@ Cuts_are_asked past x = Cuts_asked x
 -- what the machine of a server was given to a client
 abbrev pub gifts : (k : Config) (count : ℕ) (w : World) → AllStand k count w → Gifts
 gifts k count w all c s ino g = (node : ServerNode) (at : node_of w (server s.0) ≡ Some node) → Given ((all.servers s.0 node at).ghosts c.0).net ino g.0
-
-abbrev pub True_now : Type 0
-True_now = (n : ℕ) → n ≡ n
