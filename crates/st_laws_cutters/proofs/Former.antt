@@ -150,7 +150,7 @@ elsewhere_more G H f ino (bodies.Name (ops.Remove dir name g)) (inl e) = inl e
 elsewhere_more G H f ino (bodies.Name (ops.Remove dir name g)) (inr e) = inr (e.0, f e.0 g e.1, e.2)
 elsewhere_more G H f ino b e = tt
 
-harmless_stays : (G H : ℕ → GrantNo → Type 0) → ((i : ℕ) (g : GrantNo) → G i g → H i g) → (w v : World) → Goes w v → (c : ClientId) (s : ServerId) (ino : ℕ) (m : Message) → Harmless G w c s ino m → Harmless H v c s ino m
+pub harmless_stays : (G H : ℕ → GrantNo → Type 0) → ((i : ℕ) (g : GrantNo) → G i g → H i g) → (w v : World) → Goes w v → (c : ClientId) (s : ServerId) (ino : ℕ) (m : Message) → Harmless G w c s ino m → Harmless H v c s ino m
 harmless_stays G H f w v g c s ino m (Unnumbered e) = Unnumbered e
 harmless_stays G H f w v g c s ino m (Past e) = Past (λ p at. let z = g.nodes s p at in past_stays c z.0 p m z.2 (e z.0 z.1))
 harmless_stays G H f w v g c s ino m (Besides e) = Besides (elsewhere_more G H f ino m.body e)

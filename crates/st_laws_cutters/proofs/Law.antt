@@ -75,7 +75,7 @@ path_grows k (Stepped_on {u} {v} {w} p s) c m h = go (s.each c) (path_grows k p 
 path_grows k (Worked_on p s) c m h = moves_grow (s.each c) m (path_grows k p c m h)
 
 -- What was given stays given.
-gifts_stay : (k : Config) (count : ℕ) (w v : World) (all : AllStand k count w) (f : Followed k count w all v) (c : ClientId) (s : ServerId) (ino : ℕ) (g : GrantNo) → gifts k count w all c s ino g → gifts k count v f.after c s ino g
+pub gifts_stay : (k : Config) (count : ℕ) (w v : World) (all : AllStand k count w) (f : Followed k count w all v) (c : ClientId) (s : ServerId) (ino : ℕ) (g : GrantNo) → gifts k count w all c s ino g → gifts k count v f.after c s ino g
 gifts_stay k count w v all f c s ino g h next at =
     let o : Came_from k count w all v s.0 next (f.after.servers s.0 next at) = f.came s.0 next at in
     given_more ((all.servers s.0 o.node o.before).ghosts c.0).net ((f.after.servers s.0 next at).ghosts c.0).net (path_grows k o.path c.0) ino g.0 (h o.node o.before)
@@ -120,7 +120,7 @@ module _ (k : Config) (count : ℕ) (past : List Step) (t : Traced) (e : Event) 
   pub followed : Followed k count t.world h.all sc.world
   followed = follows k count t.world e sc h.all (full count t.world e h.all.nodes ranges) taken
 
-  owed : Rattle.st_laws_askers.specs.Reached.New_owed (ev.counted t.world) e
+  pub owed : Rattle.st_laws_askers.specs.Reached.New_owed (ev.counted t.world) e
   owed = new_owed k count t.world h.all e (step_happens t.world e sc taken).0
 
   G : Gifts
@@ -137,6 +137,11 @@ module _ (k : Config) (count : ℕ) (past : List Step) (t : Traced) (e : Event) 
         all = followed.after;
         asks = stands_given k count sc.world followed.after (stand_again past t h.cuts h.replies (gifts k count sc.world followed.after) before e sc owed taken);
       }
+
+  -- what stands behind the step, with what was followed
+  pub same_all : (one_hold : Hold k count (past ++ step t e sc ∷ []) (traced_after e t sc)) × (one_hold.all ≡ followed.after)
+  unfolding followed next
+  same_all = (next, refl)
 
   asked : (index : ℕ) (f : FileId) (p : PageNo) → Has (seen.CutAt index f p) sc.seen → Cut_asked sc.world f p
   asked index f p i d site a run j e2 lasts alone held =
