@@ -1,5 +1,5 @@
 -- Reads return the last writes and the pages hold throughout a run.
-use Rattle.std.proofs.Common.{◌≡◌, ℕ, zero, suc, ◌+◌, true, List, [], ◌∷◌, ◌++◌, Option, Some, None, Ok, Err, refl, sym, ap, ◌∙◌, subst}
+use Rattle.std.proofs.Common.{◌≡◌, ℕ, zero, suc, ◌+◌, true, List, [], ◌∷◌, ◌++◌, Some, Ok, Err, refl, sym, subst}
 use Rattle.std.specs.Prelude.{Result}
 use Rattle.std.specs.List.{list_all}
 use Rattle.st_base.specs.declared.config.Config as base
@@ -10,7 +10,7 @@ use Rattle.st_rules.specs.Events.{Scene, world_step}
 use Rattle.st_rules.specs.History.{Traced, traced, traced_after}
 use Rattle.st_rules.specs.Safety as safety
 use Rattle.st_rules.specs.Safety.{Promise, ReadsReturnLastWrites, Step, Throughout, is_event, step, steps}
-use Rattle.st_rules.specs.World.{World, fresh_world, numbered}
+use Rattle.st_rules.specs.World.{fresh_world, numbered}
 use Rattle.st_assoc.specs.Assoc.{Config}
 use Rattle.st_lemmas.proofs.Tables.{and_true}
 use Rattle.st_laws_pages.specs.Runs.{Pages_after}
@@ -47,12 +47,14 @@ module _ (k : Config) (count : ℕ) (past : List Step) (t : Traced) (s : All_hol
   next : Kept past (step t e sc) × All_hold k count (past ++ step t e sc ∷ []) (traced_after e t sc)
   next =
       let z = submits.next past k count t s.pages e sc ranges taken places (from_rest past k count t s.pages e sc taken rest) rest.pages in
-      let o = same_all k count past t e sc ranges s.hold taken in
-      (z.0, record {
-        pages = z.1;
-        hold = o.0;
-        safe = subst (Formers_uncut k count sc.world) (sym o.1) (uncut_stays k count past t e sc ranges s.hold taken s.safe s.pages.writes.there s.pages.stood.stand.both.writes.commands.counts s.pages.open_ s.pages.stood.clear);
-      })
+      let o = same_all k count past t e sc ranges s.hold taken in (
+        z.0,
+        record {
+          pages = z.1;
+          hold = o.0;
+          safe = subst (Formers_uncut k count sc.world) (sym o.1) (uncut_stays k count past t e sc ranges s.hold taken s.safe s.pages.writes.there s.pages.stood.stand.both.writes.commands.counts s.pages.open_ s.pages.stood.clear);
+        },
+      )
 
 run : (promise : Promise) → ((k : Config) (count : ℕ) (past : List Step) (t : Traced) (e : Event) (sc : Scene) → Kept past (step t e sc) → Pages_stand k count (past ++ step t e sc ∷ []) (traced_after e t sc) → promise past (step t e sc)) → (k : Config) (count : ℕ) (es : List Event) → list_all (is_event count) es ≡ true →
     (past : List Step) (t : Traced) → All_hold k count past t → Throughout Places_after past (steps es t) → Throughout Is_least past (steps es t) → Throughout promise past (steps es t)

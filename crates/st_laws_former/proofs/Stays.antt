@@ -1,8 +1,7 @@
 -- No message of a life that a crash ended cuts a file of which a write of the life is not reported: through every event.
-use Rattle.std.proofs.Common.{◌≡◌, ◌≢◌, ◌⊎◌, ℕ, ◌+◌, ◌≤◌, ◌<◌, Bool, true, false, List, [], ◌∷◌, ◌++◌, Option, Some, None, Ok, Err, refl, sym, ap, ◌∙◌, subst, inl, inr, arith}
-use Rattle.std.specs.Prelude.{Result, find, length}
+use Rattle.std.proofs.Common.{◌≡◌, ℕ, ◌≤◌, ◌<◌, true, List, Option, Some, None, Ok, refl, sym, ap, ◌∙◌, subst, arith}
+use Rattle.std.specs.Prelude.{find, length}
 use Rattle.st_base.specs.declared.ids.ClientId.{ClientId}
-use Rattle.st_base.specs.declared.ids.FileId.{FileId}
 use Rattle.st_base.specs.declared.ids.GrantNo.{GrantNo}
 use Rattle.st_base.specs.declared.ids.Life.{Life}
 use Rattle.st_base.specs.declared.ids.NodeId.TheVariants as nodes
@@ -10,27 +9,24 @@ use Rattle.st_base.specs.declared.ids.PageNo.{PageNo}
 use Rattle.st_base.specs.declared.ids.ServerId.{ServerId}
 use Rattle.st_base.specs.declared.disk.BlockAt.{BlockAt}
 use Rattle.st_base.specs.declared.disk.Tag.{Tag}
-use Rattle.st_base.specs.Mode.{number_of}
 use Rattle.st_messages.specs.declared.event.Event.{Event}
 use Rattle.st_messages.specs.declared.event.Event.TheVariants as events
 use Rattle.st_messages.specs.declared.message.Message.{Message}
 use Rattle.st_rules.specs.declared.log.LogOwner.{LogOwner}
 use Rattle.st_rules.specs.declared.world.IssuedCommand.{IssuedCommand}
-use Rattle.st_rules.specs.ClientState.{Association, is_at}
+use Rattle.st_rules.specs.ClientState.{is_at}
 use Rattle.st_rules.specs.Events as ev
 use Rattle.st_rules.specs.Events.{Scene, counted, world_step}
-use Rattle.st_rules.specs.History.{Traced, traced, traced_after}
+use Rattle.st_rules.specs.History.{Traced}
 use Rattle.st_rules.specs.Keys.{client, server_node}
 use Rattle.st_rules.specs.Safety.{Step, step}
-use Rattle.st_rules.specs.Sessions as sessions
 use Rattle.st_rules.specs.World.{World, ClientSite, clock_of, node_of, numbered, server, site_of}
 use Rattle.st_assoc.specs.Assoc.{Config}
-use Rattle.st_assoc.specs.Assoc as net
 use Rattle.st_lemmas.specs.Lists.{Has}
 use Rattle.st_lemmas.proofs.Steps.{step_happens}
 use Rattle.st_lemmas.proofs.Tables.{same_or_not}
 use Rattle.st_laws_dates.specs.Dates.{messages}
-use Rattle.st_laws.specs.World.{AllStand, Is_full, Server_stands}
+use Rattle.st_laws.specs.World.{AllStand}
 use Rattle.st_laws_cutters.specs.Former.{Goes, Life_harmless, Sent_by}
 use Rattle.st_laws_cutters.specs.Law.{gifts}
 use Rattle.st_laws_former.specs.Formers.{Formers_uncut, Uncut_life}
@@ -39,11 +35,11 @@ use Rattle.st_rules.specs.World.{ended_of, is_life_of}
 use Rattle.st_laws_pages.proofs.Living.{row_is}
 use Rattle.st_laws_pages.proofs.Associations.{own_found}
 use Rattle.st_laws_pages.specs.Lives.{LivesHold, Node_holds}
-use Rattle.st_laws_writes.specs.Writes.{Is_listed, Listed_since, Open_hold}
+use Rattle.st_laws_writes.specs.Writes.{Is_listed, Open_hold}
 use Rattle.st_laws_reads.specs.Clear.{AllCleared, Cuts}
 use Rattle.st_lemmas.proofs.Lookups.{some_is}
 use Rattle.st_lemmas.proofs.Numbers.{numbered_below}
-use Rattle.st_laws_living.specs.Living.{Open_crashed, Open_there, Open_tracked, Open_write, writer, Writes_hold}
+use Rattle.st_laws_living.specs.Living.{Open_there, Open_tracked, Open_write, writer}
 use Rattle.st_laws_cutters.proofs.Law.{Hold}
 use Rattle.st_rules.specs.Admissible as adm
 use Rattle.st_rules.specs.World as world

@@ -1,64 +1,50 @@
 -- A cut finds no write of a life that a crash ended.
-use Rattle.std.proofs.Common.{◌≡◌, ◌≢◌, ◌⊎◌, ℕ, ◌+◌, ◌≤◌, ◌<◌, Bool, true, false, List, [], ◌∷◌, ◌++◌, Option, Some, None, Ok, Err, refl, sym, ap, ◌∙◌, subst, inl, inr, arith}
-use Rattle.std.specs.Prelude.{Result, find, length}
-use Rattle.st_base.specs.declared.ids.ClientId.{ClientId}
+use Rattle.std.proofs.Common.{◌≡◌, ◌≢◌, ◌⊎◌, ℕ, ◌+◌, ◌≤◌, ◌<◌, true, List, Some, Ok, sym, ap, ◌∙◌, subst, inl, inr, arith}
+use Rattle.std.specs.Prelude.{find}
 use Rattle.st_base.specs.declared.ids.FileId.{FileId}
-use Rattle.st_base.specs.declared.ids.GrantNo.{GrantNo}
 use Rattle.st_base.specs.declared.ids.Life.{Life}
-use Rattle.st_base.specs.declared.ids.NodeId.TheVariants as nodes
 use Rattle.st_base.specs.declared.ids.PageNo.{PageNo}
 use Rattle.st_base.specs.declared.ids.ServerId.{ServerId}
 use Rattle.st_base.specs.declared.disk.BlockAt.{BlockAt}
 use Rattle.st_base.specs.declared.disk.Tag.{Tag}
 use Rattle.st_base.specs.Mode.{number_of}
 use Rattle.st_messages.specs.declared.event.Event.{Event}
-use Rattle.st_messages.specs.declared.event.Event.TheVariants as events
-use Rattle.st_messages.specs.declared.message.Message.{Message}
-use Rattle.st_rules.specs.declared.log.LogOwner.{LogOwner}
 use Rattle.st_rules.specs.declared.world.IssuedCommand.{IssuedCommand}
-use Rattle.st_rules.specs.ClientState.{Association, is_at}
-use Rattle.st_rules.specs.Events as ev
-use Rattle.st_rules.specs.Events.{Scene, counted, world_step}
-use Rattle.st_rules.specs.History.{Traced, traced, traced_after}
-use Rattle.st_rules.specs.Keys.{client, server_node}
+use Rattle.st_rules.specs.ClientState.{is_at}
+use Rattle.st_rules.specs.Events.{Scene, world_step}
+use Rattle.st_rules.specs.History.{Traced}
+use Rattle.st_rules.specs.Keys.{client}
 use Rattle.st_rules.specs.Safety.{Step, step}
 use Rattle.st_rules.specs.Sessions as sessions
-use Rattle.st_rules.specs.World.{World, ClientSite, clock_of, node_of, numbered, server, site_of}
+use Rattle.st_rules.specs.World.{node_of, server}
 use Rattle.st_assoc.specs.Assoc.{Config}
 use Rattle.st_assoc.specs.Assoc as net
 use Rattle.st_lemmas.specs.Lists.{Has}
-use Rattle.st_lemmas.proofs.Steps.{step_happens}
 use Rattle.st_lemmas.proofs.Tables.{same_or_not}
-use Rattle.st_laws_dates.specs.Dates.{messages}
-use Rattle.st_laws.specs.World.{AllStand, Is_full, Server_stands}
-use Rattle.st_laws_cutters.specs.Former.{Goes, Life_harmless, Sent_by}
+use Rattle.st_laws.specs.World.{Server_stands}
+use Rattle.st_laws_cutters.specs.Former.{Life_harmless}
 use Rattle.st_laws_cutters.specs.Law.{gifts}
-use Rattle.st_laws_former.specs.Formers.{Formers_uncut, Uncut_life}
+use Rattle.st_laws_former.specs.Formers.{Formers_uncut}
 use Rattle.st_rules.specs.declared.world.LeaseLife.{LeaseLife}
-use Rattle.st_rules.specs.World.{ended_of, is_life_of}
+use Rattle.st_rules.specs.World.{ended_of}
 use Rattle.st_laws_pages.proofs.Living.{row_is}
 use Rattle.st_laws_pages.proofs.Associations.{own_found}
-use Rattle.st_laws_pages.specs.Lives.{LivesHold, Node_holds}
-use Rattle.st_laws_writes.specs.Writes.{Is_listed, Listed_since, Open_hold}
-use Rattle.st_laws_reads.specs.Clear.{AllCleared, Cuts}
-use Rattle.st_lemmas.proofs.Lookups.{some_is}
-use Rattle.st_lemmas.proofs.Numbers.{numbered_below}
-use Rattle.st_laws_living.specs.Living.{Open_crashed, Open_there, Open_tracked, Open_write, writer, Writes_hold}
+use Rattle.st_laws_pages.specs.Lives.{Node_holds}
+use Rattle.st_laws_writes.specs.Writes.{Open_hold}
+use Rattle.st_laws_living.specs.Living.{Open_write, writer, Writes_hold}
 use Rattle.st_laws_cutters.proofs.Law.{Hold}
-use Rattle.st_rules.specs.declared.observation.Observation.TheVariants as seen
 use Rattle.st_assoc.specs.Assoc.{Alive, Assoc, upd}
 use Rattle.st_assoc.proofs.Lists.{upd-other, upd-same}
 use Rattle.st_assoc.proofs.World.{alone, invariant}
 use Rattle.st_views.specs.Halves.{life_view, live_view, row_or, row_view}
 use Rattle.st_laws_server.specs.Stands.{pairs}
 use Rattle.st_laws_pages.specs.World.{Living, PagesHold, Timely}
-use Rattle.st_laws_pages.specs.Pages.{Carried_right}
 use Rattle.st_laws_elders.specs.Elders.{Stood_life}
 use Rattle.st_laws_elders.specs.Frozen.{Frozen_life, replaced, stood}
-use Rattle.st_laws_elders.proofs.Stepping.{clock_there, site_there}
+use Rattle.st_laws_elders.proofs.Stepping.{clock_there}
 use Rattle.st_laws_living.proofs.Cases.{Crashed_write, Present_write, living_is}
-use Rattle.st_laws_submits.specs.Left.{Elders_uncut, No_elder_writes}
-use Rattle.st_laws_cutters.specs.Cut.{Cut_by, Cut_in}
+use Rattle.st_laws_submits.specs.Left.{Elders_uncut}
+use Rattle.st_laws_cutters.specs.Cut.{Cut_in}
 use Rattle.st_laws_cutters.proofs.Former.{no_cut}
 use Rattle.st_laws_cutters.proofs.Seen.{cuts_known}
 use Rattle.st_laws_cutters.proofs.Standing.{meets}
