@@ -1,5 +1,5 @@
 -- A cut is asked: the request that a server serves is the one that is outstanding at the client that has the file alone.
-use Rattle.std.proofs.Common.{◌≡◌, ◌≢◌, ◌⊎◌, ℕ, ◌+◌, ◌≤◌, ◌<◌, zero, suc, List, Option, Some, None, refl, sym, ap, ◌∙◌, subst, inl, inr, arith}
+use Rattle.std.proofs.Common.{◌≡◌, ◌≢◌, ◌⊎◌, ℕ, ◌≤◌, List, Option, Some, None, refl, sym, ap, ◌∙◌, subst, inl, inr, arith}
 use Rattle.st_base.specs.declared.ids.FileId.{FileId}
 use Rattle.st_base.specs.declared.ids.NodeId.TheVariants as nodes
 use Rattle.st_base.specs.declared.ids.PageNo.{PageNo}
@@ -14,29 +14,26 @@ use Rattle.st_rules.specs.Keys.{client, page_no, server_node}
 use Rattle.st_rules.specs.Locks.{row_of}
 use Rattle.st_rules.specs.History.{Traced}
 use Rattle.st_rules.specs.Safety.{Step}
-use Rattle.st_rules.specs.Server.{ServerNode}
 use Rattle.st_rules.specs.Sessions as sessions
-use Rattle.st_rules.specs.World.{World, ClientSite, clock_of, node_of}
+use Rattle.st_rules.specs.World.{ClientSite, clock_of}
 use Rattle.st_assoc.specs.Assoc.{Config}
 use Rattle.st_lemmas.specs.Lists.{Has}
 use Rattle.st_lemmas.proofs.Tables.{same_or_not}
 use Rattle.st_views.specs.Halves.{held_in}
 use Rattle.st_laws_client.specs.Shown.{Lasts}
-use Rattle.st_laws_dates.specs.Dates.{messages}
 use Rattle.st_laws.specs.World.{AllStand}
 use Rattle.st_laws_reads.specs.Clear.{Cuts, cuts_from}
 use Rattle.st_laws_reads.specs.Law.{Running}
 use Rattle.st_laws_reads.proofs.Cutting.{unheld}
-use Rattle.st_laws_askers.specs.Reached.{Is_behind, Reached}
-use Rattle.st_laws_cuts.specs.Cuts.{Cuts_hold, Numbers, Numbered, Same_body, view}
-use Rattle.st_laws_cutters.specs.Asks.{Asks_stand, Cut_named, Of, Remove_named, first_open, open_from}
+use Rattle.st_laws_cuts.specs.Cuts.{Cuts_hold}
+use Rattle.st_laws_cutters.specs.Asks.{Asks_stand, Cut_named, Of, Remove_named}
 use Rattle.st_laws_cutters.specs.Cut.{Asks_cut, Cut_in}
 use Rattle.st_laws_cutters.specs.Law.{gifts}
 use Rattle.st_laws_cutters.specs.Fresh.{Fresh_at, Is_outstanding}
 use Rattle.st_laws_cutters.proofs.Fresh.{is_outstanding}
 use Rattle.st_laws_cutters.specs.Named.{Given}
-use Rattle.st_laws_cutters.specs.World.{All_ask, Is_served, Served_to}
-use Rattle.st_laws_cutters.proofs.Standing.{given_row, named, own_session}
+use Rattle.st_laws_cutters.specs.World.{All_ask, Is_served}
+use Rattle.st_laws_cutters.proofs.Standing.{given_row, named}
 
 module _ (k : Config) (count : ℕ) (past : List Step) (t : Traced) (cuts : Cuts_hold past t) (all : AllStand k count t.world) (asks : All_ask (gifts k count t.world all) t.world) (f : FileId) (p : PageNo) (c : Cut_in t.world f p) where
   abbrev m : Message

@@ -1,40 +1,26 @@
 -- A request that a server serves anew is the one that is outstanding at its client.
-use Rattle.std.proofs.Common.{◌≡◌, ◌≢◌, ◌⊎◌, ℕ, ◌+◌, ◌≤◌, ◌<◌, zero, suc, List, Option, Some, None, refl, sym, ap, ◌∙◌, subst, inl, inr, arith}
-use Rattle.st_base.specs.declared.ids.FileId.{FileId}
+use Rattle.std.proofs.Common.{◌≡◌, ℕ, ◌+◌, ◌≤◌, ◌<◌, zero, suc, List, Option, Some, None, refl, sym, ap, ◌∙◌, subst, inl, inr, arith}
 use Rattle.st_base.specs.declared.ids.NodeId.TheVariants as nodes
-use Rattle.st_base.specs.declared.ids.PageNo.{PageNo}
-use Rattle.st_base.specs.Mode.{number_of}
-use Rattle.st_messages.specs.declared.message.Body.{Body}
-use Rattle.st_messages.specs.declared.message.Body.TheVariants as bodies
 use Rattle.st_messages.specs.declared.message.Message.{Message}
-use Rattle.st_messages.specs.declared.message.NameOp.TheVariants as ops
 use Rattle.st_rules.specs.declared.client.Request.{Request}
 use Rattle.st_rules.specs.ClientState.{Association, ClientSession}
-use Rattle.st_rules.specs.Keys.{client, page_no, server_node}
-use Rattle.st_rules.specs.Locks.{row_of}
+use Rattle.st_rules.specs.Keys.{client, server_node}
 use Rattle.st_rules.specs.History.{Traced}
 use Rattle.st_rules.specs.Safety.{Step}
-use Rattle.st_rules.specs.Server.{ServerNode}
 use Rattle.st_rules.specs.Sessions as sessions
-use Rattle.st_rules.specs.World.{World, ClientSite, clock_of, node_of}
+use Rattle.st_rules.specs.World.{ClientSite, clock_of, node_of}
 use Rattle.st_assoc.specs.Assoc.{Config}
 use Rattle.st_lemmas.specs.Lists.{Has}
-use Rattle.st_lemmas.proofs.Tables.{same_or_not}
-use Rattle.st_views.specs.Halves.{held_in}
 use Rattle.st_laws_client.specs.Shown.{Lasts}
 use Rattle.st_laws_dates.specs.Dates.{messages}
 use Rattle.st_laws.specs.World.{AllStand}
-use Rattle.st_laws_reads.specs.Clear.{Cuts, cuts_from}
 use Rattle.st_laws_reads.specs.Law.{Running}
-use Rattle.st_laws_reads.proofs.Cutting.{unheld}
 use Rattle.st_laws_askers.specs.Reached.{Is_behind, Reached}
 use Rattle.st_laws_cuts.specs.Cuts.{Cuts_hold, Numbers, Numbered, Same_body, view}
-use Rattle.st_laws_cutters.specs.Asks.{Asks_stand, Cut_named, Of, Remove_named, first_open, open_from}
-use Rattle.st_laws_cutters.specs.Cut.{Asks_cut, Cut_in}
+use Rattle.st_laws_cutters.specs.Asks.{Asks_stand, Of, first_open, open_from}
 use Rattle.st_laws_cutters.specs.Law.{gifts}
-use Rattle.st_laws_cutters.specs.Named.{Given}
 use Rattle.st_laws_cutters.specs.World.{All_ask, Is_served, Served_to}
-use Rattle.st_laws_cutters.proofs.Standing.{given_row, named, own_session}
+use Rattle.st_laws_cutters.proofs.Standing.{own_session}
 use Rattle.st_laws_cutters.specs.Fresh.{Fresh_at, Fresh_outstanding, Is_outstanding}
 use Rattle.st_base.specs.declared.ids.ServerId.{ServerId}
 
