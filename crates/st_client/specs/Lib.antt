@@ -1,3 +1,2 @@
-pub mod Machines
-pub mod Inputs
 pub mod Ends
+pub mod Inputs

@@ -1,13 +1,9 @@
-//! The client of a world: its rules at each server, and the node that runs or is crashed. `docs/PROTOCOL.md`, "The client", has the
-//! rules.
+//! STAND-IN for the client node: its calls with their contracts, over a node that cannot be made. Never merged.
 #![tactic(auto)]
 
 mod ends;
-mod fresh;
-mod machine;
-mod rule;
-mod rules;
-mod step;
+mod node;
 
 pub use ends::LeaseEnds;
-pub use machine::Machine;
+pub use node::ClientNode;
+pub use st_rules::{ClientInput, Phase};

@@ -4,10 +4,13 @@ ghost use Rattle.std.specs.Option.{option_map};
 ghost use Rattle.st_rules.specs.declared.disks.DiskCommand.{DiskCommand};
 ghost use Rattle.st_rules.specs.Disks as disks;
 ghost use Rattle.st_rules.specs.Disks.{fresh_disks};
-ghost use Rattle.st_disk.specs.Calls.{Answers, HasBlock, SameSize, ended, place, sampled_at, shown, told, written_at};
+ghost use Rattle.st_disk.specs.Standings.{standing_of};
+ghost use Rattle.st_disk.specs.Calls.{Answers, HasBlock, SameSize, ended, sampled_at, shown, told, written_at};
 
 use crate::blocks::{find_block, put_block};
-use crate::commands::{command_at, effect_command, index_of, report_command, sample_command};
+use crate::commands::{
+    Standing, command_at, effect_command, index_of, report_command, sample_command, standing_of,
+};
 use crate::refusal::DiskRefusal;
 use st_base::{BlockAt, Command, FileId, PageBytes, PageNo, ServerId, Tag};
 use st_rules::{Block, DiskCommand, Report};
@@ -62,7 +65,6 @@ impl Disks {
 
     /// Takes a command, and returns its number: 1, 2 and so on. The command has no effect yet.
     pub fn submit(&mut self, command: Command) -> Result<u64, AllocError>
-        requires exists { HasBlock self.old (place command) }
         ensures ok { OnOk result (self.new ≡ disks.submit self.old command) }
         ensures number { IfOk result (λ n. n ≡ length self.new.commands) }
         ensures size { SameSize self.old self.new }
@@ -75,6 +77,13 @@ impl Disks {
             sample: None,
         })?;
         Ok(self.commands.len() as u64)
+    }
+
+    /// Returns how the command of this number stands, if there is one. It does not allocate.
+    pub fn standing(&self, n: u64) -> Option<Standing>
+        ensures { result ≡ option_map standing_of (disks.command self.now n) }
+    {
+        standing_of(command_at(&self.commands, n))
     }
 
     /// Returns the tag and the bytes of a block: birth 0 and zeros if it was never written. It does not allocate.
