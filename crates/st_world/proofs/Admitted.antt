@@ -33,7 +33,7 @@ negated : (b : Bool) → not b ≡ false → b ≡ true
 negated true h = refl
 negated false h = absurd (cc)
 
-small_steps : (steps : List ℕ) → list_all is_increment steps ≡ true → list_all is_step steps ≡ true
+pub small_steps : (steps : List ℕ) → list_all is_increment steps ≡ true → list_all is_step steps ≡ true
 small_steps [] h = refl
 small_steps (d ∷ ds) h =
     let p = and_parts (is_increment d) (list_all is_increment ds) h in
