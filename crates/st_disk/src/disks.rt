@@ -7,7 +7,7 @@ ghost use Rattle.st_rules.specs.Disks.{fresh_disks};
 ghost use Rattle.st_disk.specs.Standings.{standing_of};
 ghost use Rattle.st_disk.specs.Calls.{Answers, HasBlock, SameSize, ended, sampled_at, shown, told, written_at};
 
-use crate::blocks::{find_block, put_block};
+use crate::blocks::Blocks;
 use crate::commands::{
     Standing, command_at, effect_command, index_of, report_command, sample_command, standing_of,
 };
@@ -22,7 +22,7 @@ use std::marker::Model;
 pub struct Disks {
     disks: u16,
     blocks: u32,
-    written: Vec<Block>,
+    written: Blocks,
     commands: Vec<DiskCommand>,
     zeros: PageBytes,
 }
@@ -34,7 +34,7 @@ impl Model for Disks {
 
     ghost Value = { shared_disks.Disks };
 
-    ghost view = { λ d. record { disks = d.disks; blocks = d.blocks; written = d.written.items; commands = d.commands.items } };
+    ghost view = { λ d. record { disks = d.disks; blocks = d.blocks; written = d.written; commands = d.commands.items } };
 
     ghost invariant = { λ d. d.zeros ≡ filled 0 };
 }
@@ -57,7 +57,7 @@ impl Disks {
         Disks {
             disks,
             blocks,
-            written: Vec::new(alloc),
+            written: Blocks::new(alloc),
             commands: Vec::new(alloc),
             zeros: PageBytes::filled(0),
         }
@@ -92,7 +92,7 @@ impl Disks {
         ensures tag { result.0 ≡ (disks.block self.now at).tag }
         ensures bytes { result.1.now ≡ (disks.block self.now at).bytes }
     {
-        match find_block(&self.written, at) {
+        match self.written.find(at) {
             Some(block) => (block.tag, &block.bytes),
             None => (FRESH_TAG, &self.zeros),
         }
@@ -112,7 +112,7 @@ impl Disks {
     fn found(&self, at: BlockAt) -> Result<Block, AllocError>
         ensures { IfOk result (λ b. b ≡ disks.block self.now at) }
     {
-        match find_block(&self.written, at) {
+        match self.written.find(at) {
             Some(block) => block.copy(),
             None => Ok(Block {
                 at,
@@ -141,7 +141,7 @@ impl Disks {
         ensures size { SameSize self.old self.new }
         ensures err { OnErr result (self.new ≡ self.old) }
     {
-        put_block(&mut self.written, block)?;
+        self.written.put(block)?;
         effect_command(&mut self.commands, index);
         Ok(())
     }

@@ -1,5 +1,5 @@
 -- A replay: what a schedule's bytes come to, which is what was observed before the last line of the report, and how the run
--- ended; and the report, its text. docs/PROTOCOL.md, "Report lines".
+-- ended; and the report, its text. docs/PROTOCOL.md, "The report".
 use Rattle.std.specs.Prelude.{ℕ, ◌+◌, List, [], ◌∷◌, ◌++◌, length, codes, Option, Some, None, Ok, Err}
 use Rattle.st_base.specs.declared.config.Config.{Config}
 use Rattle.st_base.specs.declared.config.ConfigRefusal.{ConfigRefusal}

@@ -1,5 +1,5 @@
 //! Replaying: a schedule is read from a source in pieces, its events are run in a world, and the report is written to a sink as the
-//! run goes on. `docs/PROTOCOL.md`, "Schedules" and "Report lines".
+//! run goes on. `docs/PROTOCOL.md`, "Schedules" and "The report".
 #![tactic(auto)]
 
 mod ending;

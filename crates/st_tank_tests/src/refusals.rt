@@ -1,57 +1,30 @@
-use st_link::{MemorySink, MemorySource, SafeSink, SafeSource};
+// Reports of whole schedules, and of those that are refused.
+use crate::running::{dripping, joined, runs, whole};
+use crate::texts::{HEAD, THEFT, THEFT_REPORT, WRITTEN, WRITTEN_REPORT};
+use st_link::{MemorySink, SafeSink, SafeSource};
 use st_tank::run;
 use std::alloc::{AllocError, Global};
 use std::process::Abort;
 use std::test::Fail;
 
-const HEAD: &str = "tank 1 1000 500 700 850 100 50 101 100 2 1 1 8\n";
-
 const BEGUN: &str = "tank 1 1000 500 700 850 100 50 101 100 2 1 1 8\nend\n";
-
-/// A write by client 1, up to its acceptance at event 7.
-const WRITTEN: &str =
-    "app c1 write 1:2 0 77\ndeliver 1\ndeliver 2\ndeliver 3\ndeliver 4\ndeliver 5\ndeliver 6\n";
-
-const WRITTEN_REPORT: &str =
-    "tank report 1\n1 send 1 c1 s1 hello 1 0 0 0\n2 send 2 s1 c1 welcome 1 1 0 0\n3 lease c1 s1 1000\n3 send 3 c1 s1 acquire 1 1 1 0 2 2\n4 send 4 s1 c1 granted 1 1 1 0 2 4294967297 2\n5 send 5 c1 s1 allocate 1 1 2 0 2 4294967297 0 1\n6 send 6 s1 c1 extents 1 1 2 0 2 1 0 1 0 1\n7 write 1 c1 1:2 0 4096x77\n7 answer c1 1 written\n";
 
 const NOTHING: &str = "end events 0 sent 0 commands 0 writes 0 reads 0 hard 0 gone 0 stolen 0\n";
 
 const USAGE: &str =
     "usage: tank replay | generate N SEED | work N SEED | node server|client ID NAME\n";
 
-fn joined(alloc: Global, parts: &[&str]) -> Result<String, AllocError> {
-    let mut text = String::new(alloc);
-    for part in parts {
-        text.push_str(part)?;
-    }
-    Ok(text)
-}
-
-/// Runs the program over memory, and asserts its status and what it wrote.
-fn runs(
+/// Runs the program over a schedule, whole and one byte a call, and asserts its report.
+fn reports(
     rt: &(impl Abort + AllocGlobal),
-    words: &[&str],
     schedule: &str,
-    fails: &[u64],
     status: u8,
     report: &str,
-    told: &str,
 ) -> Result<(), Fail> {
-    let alloc = rt.alloc();
-    let mut all = Vec::new(alloc);
-    for word in words {
-        all.push(String::from_str(alloc, word)?)?;
-    }
-    let bytes = Vec::from_slice(alloc, schedule.as_bytes())?;
-    let mut input = MemorySource::new(bytes, Vec::from_slice(alloc, fails)?);
-    let mut out = MemorySink::new(alloc, Vec::new(alloc));
-    let mut err = MemorySink::new(alloc, Vec::new(alloc));
-    let ended = run(alloc, &all, &mut input, &mut out, &mut err);
-    assert_eq!(rt; out.as_slice(), report.as_bytes());
-    assert_eq!(rt; err.as_slice(), told.as_bytes());
-    assert_eq!(rt; ended, status);
-    Ok(())
+    let mut input = whole(rt.alloc(), schedule, &[])?;
+    runs(rt, &["replay"], &mut input, &[], (status, report, ""))?;
+    let mut input = dripping(rt.alloc(), schedule, &[])?;
+    runs(rt, &["replay"], &mut input, &[], (status, report, ""))
 }
 
 #[test]
@@ -61,14 +34,7 @@ fn reports_of_schedules(rt: HostRuntime) -> Result<(), Fail> {
         (HEAD, "", "end", 0, "tank report 1\n", NOTHING),
         (HEAD, "", "", 1, "tank report 1\n", "line 2 NoEnd\n"),
         ("", "", "", 1, "", "line 1 NoHead\n"),
-        (
-            HEAD,
-            "",
-            "deliver 1\nend\n",
-            1,
-            "tank report 1\n",
-            "line 2 NoMessage 1\n",
-        ),
+        (HEAD, WRITTEN, THEFT, 0, WRITTEN_REPORT, THEFT_REPORT),
         (
             HEAD,
             WRITTEN,
@@ -89,15 +55,7 @@ fn reports_of_schedules(rt: HostRuntime) -> Result<(), Fail> {
     for (head, events, rest, status, begun, last) in rows {
         let schedule = joined(rt.alloc(), &[head, events, rest])?;
         let report = joined(rt.alloc(), &[begun, last])?;
-        runs(
-            &rt,
-            &["replay"],
-            schedule.as_str(),
-            &[],
-            status,
-            report.as_str(),
-            "",
-        )?;
+        reports(&rt, schedule.as_str(), status, report.as_str())?;
     }
     Ok(())
 }
@@ -112,15 +70,7 @@ fn all_end(
     for (lines, last) in rows {
         let schedule = joined(rt.alloc(), &[head, *lines])?;
         let report = joined(rt.alloc(), &[begun, *last])?;
-        runs(
-            rt,
-            &["replay"],
-            schedule.as_str(),
-            &[],
-            1,
-            report.as_str(),
-            "",
-        )?;
+        reports(rt, schedule.as_str(), 1, report.as_str())?;
     }
     Ok(())
 }
@@ -160,14 +110,6 @@ fn refused_heads(rt: HostRuntime) -> Result<(), Fail> {
             "tank 1 1000 500 700 850 100 50 101 100 2 1 1 8 \n",
             "line 1 Syntax 48\n",
         ),
-        (
-            "tank 1 1000 500 700 850 100 50 101 100 2 1 1 9\nend\n",
-            "line 1 NotBuilt\n",
-        ),
-        (
-            "tank 2 1000 500 700 850 100 50 101 100 0 2 1 1 8\nend\n",
-            "line 1 NotBuilt\n",
-        ),
     ];
     all_end(&rt, "", "", rows)
 }
@@ -175,10 +117,15 @@ fn refused_heads(rt: HostRuntime) -> Result<(), Fail> {
 #[test]
 fn refused_lines(rt: HostRuntime) -> Result<(), Fail> {
     let rows: &[(&str, &str)] = &[
-        ("app c2 read 1:2 0\n", "line 2 NotBuilt\n"),
-        ("app c1 read 1:2 1\nend\n", "line 2 NotBuilt\n"),
-        ("adv 1\nx\n", "line 2 NotBuilt\n"),
-        ("tick s4\n", "line 2 NotBuilt\n"),
+        ("app c3 read 1:2 0\n", "line 2 NoNode c3\n"),
+        ("tick s4\n", "line 2 NoNode s4\n"),
+        ("heal c1 s2\n", "line 2 NoNode s2\n"),
+        ("start c1\nend\n", "line 2 Running c1\n"),
+        ("crash c1\ntick c1\n", "line 3 NotRunning c1\n"),
+        ("deliver 1\n", "line 2 NoMessage 1\n"),
+        ("effect 1\nx\n", "line 2 NoCommand 1\n"),
+        ("adv 102 100 100\n", "line 2 ClockRate 102 100\n"),
+        ("adv 1\nx\n", "line 3 Syntax 1\n"),
         ("adv 01\n", "line 2 Number 5\n"),
         ("adv 1 2\nend\n", "line 2 Syntax 8\n"),
         ("app c1 patch 1:2 0 0 1 7\n", "line 2 Syntax 8\n"),
@@ -237,37 +184,21 @@ fn long_lines(rt: HostRuntime) -> Result<(), Fail> {
 }
 
 #[test]
-fn seventeen_reads_are_one_too_many(rt: HostRuntime) -> Result<(), Fail> {
-    let mut schedule = String::from_str(rt.alloc(), HEAD)?;
-    for _ in 0..17 {
-        schedule.push_str("app c1 read 1:2 0\n")?;
+fn wrong_words_and_a_failed_read(rt: HostRuntime) -> Result<(), Fail> {
+    let rows: &[&[&str]] = &[&[], &["replay", "x"], &["work"]];
+    for words in rows {
+        let mut input = whole(rt.alloc(), HEAD, &[])?;
+        runs(&rt, words, &mut input, &[], (2, "", USAGE))?;
     }
-    schedule.push_str("end\n")?;
-    let report =
-        "tank report 1\n1 send 1 c1 s1 hello 1 0 0 0\n17 answer c1 17 opsfull\nend events 17 sent 1 commands 0 writes 0 reads 0 hard 0 gone 0 stolen 0\n";
-    runs(&rt, &["replay"], schedule.as_str(), &[], 0, report, "")
+    let mut input = whole(rt.alloc(), HEAD, &[1])?;
+    let wanted = (3, "", "tank: read failed\n");
+    runs(&rt, &["replay"], &mut input, &[], wanted)
 }
 
 #[test]
-fn other_statuses(rt: HostRuntime) -> Result<(), Fail> {
-    runs(&rt, &[], HEAD, &[], 2, "", USAGE)?;
-    runs(&rt, &["replay", "x"], HEAD, &[], 2, "", USAGE)?;
-    runs(&rt, &["work"], HEAD, &[], 2, "", USAGE)?;
-    runs(&rt, &["replay"], HEAD, &[1], 3, "", "tank: read failed\n")
-}
-
-#[test]
-fn failing_sinks_and_safe_ends(rt: HostRuntime) -> Result<(), Fail> {
+fn safe_ends(rt: HostRuntime) -> Result<(), Fail> {
     let alloc = rt.alloc();
     let words = vec![in alloc; String::from_str(alloc, "replay")?]?;
-    let bytes = Vec::from_slice(alloc, HEAD.as_bytes())?;
-    let mut input = SafeSource::new(bytes);
-    let mut out = MemorySink::new(alloc, vec![in alloc; 1]?);
-    let mut err = MemorySink::new(alloc, Vec::new(alloc));
-    assert_eq!(rt; run(alloc, &words, &mut input, &mut out, &mut err), 4);
-    assert_eq!(rt; out.as_slice(), [].as_slice());
-    assert_eq!(rt; err.as_slice(), "tank: write failed\n".as_bytes());
-
     let mut input = SafeSource::new(Vec::from_slice(alloc, HEAD.as_bytes())?);
     assert_eq!(rt;
         run(alloc, &words, &mut input, &mut SafeSink, &mut SafeSink),
