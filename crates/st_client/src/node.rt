@@ -1,9 +1,10 @@
-ghost use Rattle.std.specs.Prelude.{◌≡◌, ◌≤◌, ◌^◌, ◌++◌, true, false, IsOk, IfOk, OnOk};
+ghost use Rattle.std.specs.Prelude.{◌≡◌, ◌↔◌, ◌≤◌, ◌^◌, ◌++◌, true, false, IsTrue, IsOk, IfOk, OnOk};
 ghost use Rattle.std.specs.List.{list_all};
 ghost use Rattle.st_base.specs.Config as settings;
 ghost use Rattle.st_base.specs.declared.ids.ServerId.{ServerId};
 ghost use Rattle.st_client.specs.Ends.{end_in};
 ghost use Rattle.st_client.specs.Inputs.{comes_fit, is_sent, Steps};
+ghost use Rattle.st_client.specs.Room.{HasRoom};
 ghost use Rattle.st_rules.specs.Client as client;
 ghost use Rattle.st_rules.specs.World as world;
 
@@ -99,6 +100,12 @@ impl ClientNode {
         match self.never {}
     }
 
+    pub fn has_room(&self) -> bool
+        ensures { IsTrue result ↔ HasRoom self.now.state }
+    {
+        match self.never {}
+    }
+
     pub fn crash(&mut self)
         ensures { self.new ≡ client.crash_node self.old }
     {
@@ -107,6 +114,7 @@ impl ClientNode {
 
     pub fn start(&mut self) -> Result<(), AllocError>
         requires crashed { self.old.running ≡ false }
+        requires room { HasRoom self.old.state }
         ensures { OnOk result (self.new ≡ client.start_node self.old) }
     {
         match self.never {}
@@ -115,6 +123,7 @@ impl ClientNode {
     pub fn step(&mut self, now: Stamp, input: ClientInput) -> Result<Outputs, StepFault>
         requires time { now.0 ≤ 2 ^ 62 }
         requires fits { comes_fit input ≡ true }
+        requires room { HasRoom self.old.state }
         ensures exact { Steps self.old self.new result (client.node_step self.old now input) }
         ensures sent { IfOk result (λ out. list_all is_sent out ≡ true) }
     {

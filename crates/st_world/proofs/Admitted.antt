@@ -17,7 +17,7 @@ use Rattle.st_rules.specs.Events.{counted}
 use Rattle.st_rules.specs.Safety.{is_event, is_increment}
 use Rattle.st_rules.specs.World.{World, all_clients, is_running}
 use Rattle.st_world.specs.Advances.{IsAccepted}
-use Rattle.st_world.specs.Readiness.{IsMet, IsReady}
+use Rattle.st_world.specs.Readiness.{IsMet, IsReady, MayCount}
 use Rattle.st_world.specs.Timed.{IsLaid, IsTimed}
 
 neither : {A : Type 0} (o rest : Option A) → option_or o rest ≡ None → (o ≡ None) × (rest ≡ None)
@@ -33,7 +33,7 @@ negated : (b : Bool) → not b ≡ false → b ≡ true
 negated true h = refl
 negated false h = absurd (cc)
 
-small_steps : (steps : List ℕ) → list_all is_increment steps ≡ true → list_all is_step steps ≡ true
+pub small_steps : (steps : List ℕ) → list_all is_increment steps ≡ true → list_all is_step steps ≡ true
 small_steps [] h = refl
 small_steps (d ∷ ds) h =
     let p = and_parts (is_increment d) (list_all is_increment ds) h in
@@ -109,6 +109,10 @@ met w (events.Crash n) l i h = tt
 met w (events.Start n) l i h =
     same_running w n ∙ falls (is_running w n) (refusals.Running n) (neither (no_node w n) (still_running w n) h).1
 
+-- a world that is laid is ready, where its counts are
+pub ready : (w : World) → IsLaid w → MayCount w → IsReady w
+ready w l c = record { some = l.some; few = l.few; clients = l.clients; clocks = l.clocks; reads = c.0; stolen = c.1 }
+
 -- what is ready stays so, one event later in the count
 pub still_ready : (w : World) → IsReady w → IsReady (counted w)
-still_ready w r = record { some = r.some; few = r.few; clients = r.clients; clocks = r.clocks; reads = r.reads; stolen = r.stolen; rooms = r.rooms }
+still_ready w r = record { some = r.some; few = r.few; clients = r.clients; clocks = r.clocks; reads = r.reads; stolen = r.stolen }

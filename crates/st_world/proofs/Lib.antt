@@ -5,6 +5,7 @@ pub mod Delivered
 pub mod Dispatch
 pub mod Excesses
 pub mod Flushed
+pub mod Goes
 pub mod Logged
 pub mod Admitted
 pub mod Misses
@@ -13,6 +14,7 @@ pub mod Overs
 pub mod Puts
 pub mod Reached
 pub mod Refused
+pub mod Shaped
 pub mod Shapes
 pub mod Stables
 pub mod Stepped

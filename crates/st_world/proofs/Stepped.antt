@@ -1,6 +1,6 @@
 -- What a step of the world counts, and what it leaves in number.
 use Rattle.std.proofs.Common.{◌≡◌, ◌+◌, true, List, length, refl, sym, ap, ◌∙◌}
-use Rattle.std.specs.Prelude.{Option, Some, None, Result, Ok, Err, OnOk}
+use Rattle.std.specs.Prelude.{Option, Some, None, Ok}
 use Rattle.st_messages.specs.declared.event.Event.{Event}
 use Rattle.st_rules.specs.declared.observation.Observation.{Observation}
 use Rattle.st_rules.specs.declared.observation.WorldRefusal.{WorldRefusal}
@@ -8,10 +8,7 @@ use Rattle.st_rules.specs.Admissible.{refusal}
 use Rattle.st_rules.specs.Events.{Scene, counted, happens, scene, world_by, world_step}
 use Rattle.st_rules.specs.Safety.{is_event}
 use Rattle.st_rules.specs.World.{World}
-use Rattle.st_world.specs.declared.fault.WorldFault.{WorldFault}
-use Rattle.st_world.specs.declared.fault.WorldFault.TheVariants.{Refused, Memory}
 use Rattle.st_world.specs.Shaping.{SameShape}
-use Rattle.st_world.specs.Steps.{StepsAs}
 use Rattle.st_world.specs.Timed.{IsLaid}
 use Rattle.st_world.proofs.Admitted.{timed_any}
 use Rattle.st_world.proofs.Shapes.{happens_shape}
@@ -33,25 +30,8 @@ unfolding world_by
 by w e None new seen s h = let q : happens (counted w) e ≡ scene new seen = cc in moved (counted w) new (happens (counted w) e) (scene new seen) s q refl
 by w e (Some r) new seen s h = absurd (cc)
 
-stepped : {V : Type 0} (seen : V → List Observation) (w new : World) (e : Event) (r : Result V WorldFault) → IsLaid w → is_event (length w.clocks) e ≡ true →
-    StepsAs seen w new r (world_step w e) → OnOk r (SameShape (counted w) new)
+-- what a step leaves in number
+pub stepped : (w new : World) (e : Event) (seen : List Observation) → IsLaid w → is_event (length w.clocks) e ≡ true → world_step w e ≡ Ok (scene new seen) → SameShape (counted w) new
 unfolding world_step
-stepped seen w new e (Ok v) l i h =
-    by w e (refusal w e) new (seen v)
-    (happens_shape (counted w) e (λ steps q. let t = timed_any w e l i steps q in (t.nodes ∙ l.drift, t.nodes))) h
-stepped seen w new e (Err (Refused f)) l i h = tt
-stepped seen w new e (Err Memory) l i h = tt
-
--- one event more is counted
-pub stepped_events : {V : Type 0} (seen : V → List Observation) (w new : World) (e : Event) (r : Result V WorldFault) → IsLaid w → is_event (length w.clocks) e ≡ true →
-    StepsAs seen w new r (world_step w e) → OnOk r (new.tally.events ≡ w.tally.events + 1)
-stepped_events seen w new e (Ok v) l i h = (stepped seen w new e (Ok v) l i h).events
-stepped_events seen w new e (Err (Refused f)) l i h = tt
-stepped_events seen w new e (Err Memory) l i h = tt
-
--- there are as many clocks
-pub stepped_clocks : {V : Type 0} (seen : V → List Observation) (w new : World) (e : Event) (r : Result V WorldFault) → IsLaid w → is_event (length w.clocks) e ≡ true →
-    StepsAs seen w new r (world_step w e) → OnOk r (length new.clocks ≡ length w.clocks)
-stepped_clocks seen w new e (Ok v) l i h = (stepped seen w new e (Ok v) l i h).clocks
-stepped_clocks seen w new e (Err (Refused f)) l i h = tt
-stepped_clocks seen w new e (Err Memory) l i h = tt
+stepped w new e seen l i h =
+    by w e (refusal w e) new seen (happens_shape (counted w) e (λ steps q. let t = timed_any w e l i steps q in (t.nodes ∙ l.drift, t.nodes))) h

@@ -8,6 +8,7 @@ pub mod Heads
 pub mod Indexes
 pub mod Keeping
 pub mod Overs
+pub mod Reached
 pub mod Readiness
 pub mod Shapes
 pub mod Shaping

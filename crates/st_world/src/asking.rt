@@ -1,12 +1,12 @@
 // Asks of applications.
-ghost use Rattle.std.specs.Prelude.{◌≡◌, ◌<◌, ◌≤◌, ◌+◌, ◌-◌, ◌^◌, [], true, set, slice_get, Some, OnOk, length};
+ghost use Rattle.std.specs.Prelude.{◌≡◌, ◌↔◌, ◌<◌, ◌≤◌, ◌+◌, ◌-◌, ◌^◌, [], true, set, slice_get, IsTrue, Some, OnOk, length};
 ghost use Rattle.st_base.specs.declared.ids.NodeId.TheVariants as nodes;
 ghost use Rattle.st_messages.specs.Fits.{is_ask};
 ghost use Rattle.st_rules.specs.Events as events;
 ghost use Rattle.st_rules.specs.World as world;
 ghost use Rattle.st_rules.specs.World.{ClientSite};
 ghost use Rattle.st_world.specs.Indexes.{AtPlace};
-ghost use Rattle.st_world.specs.Readiness.{IsCounted, IsReady};
+ghost use Rattle.st_world.specs.Readiness.{IsReady};
 ghost use Rattle.st_world.specs.Shapes.{takes_ask};
 
 use crate::index::index_of;
@@ -29,6 +29,15 @@ impl Site {
     }
 }
 
+/// Whether the asks of the client at a place may be counted on.
+fn may_ask(clients: &[Site], i: usize) -> bool
+    requires { i < length clients.now }
+    ensures { (site : ClientSite) → slice_get clients.now i ≡ Some site → IsTrue result ↔ (site.asks < 2 ^ 32 - 1) }
+{
+    let site = &clients[i];
+    site.asks < u32::MAX
+}
+
 /// One more ask of the client at a place; returns their count.
 fn raise_asks(clients: &mut Vec<Site>, i: usize) -> u32
     requires there { i < length clients.old.items }
@@ -42,16 +51,18 @@ fn raise_asks(clients: &mut Vec<Site>, i: usize) -> u32
 }
 
 impl Machine {
-    /// The client at this place, which runs, is asked.
+    /// The client at this place, which runs, is asked. Where its count of asks is at its end, memory is said to run out.
     pub(crate) fn ask_at(&mut self, client: ClientId, i: usize, ask: Ask) -> Result<(), AllocError>
         requires begins { self.old.seen ≡ [] }
         requires ready { IsReady self.old.world }
         requires number { client.0 ≡ i + 1 }
         requires there { i < length self.old.world.clients }
         requires fits { is_ask ask ≡ true }
-        requires asks { (site : ClientSite) → slice_get self.old.world.clients i ≡ Some site → site.asks < 2 ^ 32 - 1 }
         ensures { AtPlace self.old.world.clients i (λ site. site.node.running ≡ true → OnOk result (self.new ≡ takes_ask self.old.world client ask site)) }
     {
+        if !may_ask(&self.clients, i) {
+            return Err(AllocError);
+        }
         let op = raise_asks(&mut self.clients, i);
         self.client_take_at(client, i, ClientInput::App { op, ask })
     }
@@ -60,7 +71,6 @@ impl Machine {
     pub(crate) fn ask(&mut self, client: ClientId, ask: Ask) -> Result<(), AllocError>
         requires begins { self.old.seen ≡ [] }
         requires ready { IsReady self.old.world }
-        requires counted { IsCounted self.old.world }
         requires fits { is_ask ask ≡ true }
         requires running { world.is_running self.old.world (nodes.Client client) ≡ true }
         ensures { OnOk result (self.new ≡ events.asks_at self.old.world client ask (world.site_of self.old.world client)) }

@@ -43,12 +43,15 @@ impl Site {
         self.node.crash();
     }
 
-    /// The client starts again.
+    /// The client starts again. Where the count of its starts, or another of its counters, is at its end, memory is said to run
+    /// out.
     fn start(&mut self) -> Result<(), AllocError>
         requires crashed { self.old.node.running ≡ false }
-        requires starts { self.old.starts < 2 ^ 62 }
         ensures { OnOk result (self.new ≡ events.started_site self.old) }
     {
+        if self.starts == u64::MAX || !self.node.has_room() {
+            return Err(AllocError);
+        }
         self.node.start()?;
         self.starts += 1;
         Ok(())
@@ -82,7 +85,6 @@ fn stop_site(
 fn start_site(clients: &mut Vec<Site>, i: usize) -> Result<(), AllocError>
     requires there { i < length clients.old.items }
     requires crashed { (site : ClientSite) → slice_get clients.old.items i ≡ Some site → site.node.running ≡ false }
-    requires starts { (site : ClientSite) → slice_get clients.old.items i ≡ Some site → site.starts < 2 ^ 62 }
     ensures { AtPlace clients.old.items i (λ site. OnOk result (clients.new.items ≡ set clients.old.items i (events.started_site site))) }
 {
     let site = &mut clients[i];
@@ -98,15 +100,17 @@ fn crash_node(servers: &mut Vec<ServerNode>, i: usize)
     node.crash();
 }
 
-/// The server at a place starts.
+/// The server at a place starts. Where it was in its last epoch, memory is said to run out.
 fn start_node(servers: &mut Vec<ServerNode>, i: usize, now: Stamp) -> Result<(), AllocError>
     requires there { i < length servers.old.items }
     requires time { now.0 ≤ 2 ^ 62 }
     requires crashed { (node : ServerNode) → slice_get servers.old.items i ≡ Some node → node.running ≡ false }
-    requires epochs { (node : ServerNode) → slice_get servers.old.items i ≡ Some node → node.state.stable.epoch.0 < 2 ^ 32 - 1 }
     ensures { AtPlace servers.old.items i (λ node. OnOk result (servers.new.items ≡ set servers.old.items i (server_rules.start_node node now))) }
 {
     let node = &mut servers[i];
+    if node.stable().epoch.0 >= u32::MAX as u64 {
+        return Err(AllocError);
+    }
     node.start(now)
 }
 
@@ -128,7 +132,6 @@ impl Machine {
         requires clients { length self.old.world.clients ≤ 16 }
         requires time { (world.clock_of self.old.world (nodes.Server server)).0 ≤ 2 ^ 62 }
         requires crashed { (node : ServerNode) → world.node_of self.old.world server ≡ Some node → node.running ≡ false }
-        requires epochs { (node : ServerNode) → world.node_of self.old.world server ≡ Some node → node.state.stable.epoch.0 < 2 ^ 32 - 1 }
         ensures { OnOk result (self.new ≡ events.scene (events.starts_server self.old.world server (world.node_of self.old.world server)) self.old.seen) }
     {
         let now = self.clock_of(NodeId::Server(server));
@@ -145,7 +148,6 @@ impl Machine {
     #[tactic(auto, unfolding(st_rules::specs::Events::starts_client))]
     pub(crate) fn start_client(&mut self, client: ClientId) -> Result<(), AllocError>
         requires crashed { (site : ClientSite) → world.site_of self.old.world client ≡ Some site → site.node.running ≡ false }
-        requires starts { (site : ClientSite) → world.site_of self.old.world client ≡ Some site → site.starts < 2 ^ 62 }
         ensures { OnOk result (self.new ≡ events.scene (events.starts_client self.old.world client (world.site_of self.old.world client)) self.old.seen) }
     {
         match index_of(client.0, self.clients.len()) {

@@ -3,7 +3,7 @@ ghost use Rattle.std.specs.Prelude.{◌≡◌, ◌+◌, ◌<◌, ◌^◌, ◌-�
 ghost use Rattle.st_base.specs.declared.ids.NodeId.TheVariants as nodes;
 ghost use Rattle.st_rules.specs.Events as events;
 ghost use Rattle.st_rules.specs.World as world;
-ghost use Rattle.st_world.specs.Readiness.{IsCounted, IsMet, IsReady};
+ghost use Rattle.st_world.specs.Readiness.{IsMet, IsReady};
 
 use crate::machine::Machine;
 use st_base::{ClientId, NodeId, ServerId};
@@ -28,7 +28,6 @@ impl Machine {
 
     fn restart_client(&mut self, client: ClientId) -> Result<(), AllocError>
         requires begins { self.old.seen ≡ [] }
-        requires counted { IsCounted self.old.world }
         requires stopped { world.is_running self.old.world (nodes.Client client) ≡ false }
         ensures { OnOk result (self.new ≡ events.quiet (events.starts_client self.old.world client (world.site_of self.old.world client))) }
     {
@@ -38,7 +37,6 @@ impl Machine {
     fn restart_server(&mut self, server: ServerId) -> Result<(), AllocError>
         requires begins { self.old.seen ≡ [] }
         requires ready { IsReady self.old.world }
-        requires counted { IsCounted self.old.world }
         requires stopped { world.is_running self.old.world (nodes.Server server) ≡ false }
         ensures { OnOk result (self.new ≡ events.quiet (events.starts_server self.old.world server (world.node_of self.old.world server))) }
     {
@@ -50,7 +48,6 @@ impl Machine {
     fn start(&mut self, node: NodeId) -> Result<(), AllocError>
         requires begins { self.old.seen ≡ [] }
         requires ready { IsReady self.old.world }
-        requires counted { IsCounted self.old.world }
         requires stopped { world.is_running self.old.world node ≡ false }
         ensures { OnOk result (self.new ≡ events.quiet (events.starts self.old.world node)) }
     {
@@ -65,7 +62,6 @@ impl Machine {
     pub(crate) fn happen(&mut self, event: Event) -> Result<(), AllocError>
         requires begins { self.old.seen ≡ [] }
         requires ready { IsReady self.old.world }
-        requires counted { IsCounted self.old.world }
         requires met { IsMet self.old.world event }
         ensures { OnOk result (self.new ≡ events.happens self.old.world event) }
     {

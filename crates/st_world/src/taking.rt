@@ -11,7 +11,6 @@ ghost use Rattle.st_rules.specs.Server.{ServerNode};
 ghost use Rattle.st_rules.specs.World as world;
 ghost use Rattle.st_rules.specs.World.{ClientSite};
 ghost use Rattle.st_server.specs.Ready as ready;
-ghost use Rattle.st_server.specs.Room.{HasRoom};
 ghost use Rattle.st_server.specs.Sound as sound;
 ghost use Rattle.st_world.specs.Indexes.{AtPlace};
 ghost use Rattle.st_world.specs.Ends.{HasEnds};
@@ -29,13 +28,16 @@ use st_server::ServerNode;
 use std::alloc::AllocError;
 
 impl Site {
-    /// The client takes an input at this moment.
+    /// The client takes an input at this moment. Where one of its counters is at its end, memory is said to run out.
     fn step(&mut self, now: Stamp, input: ClientInput) -> Result<Outputs, StepFault>
         requires time { now.0 ≤ 2 ^ 62 }
         requires fits { comes_fit input ≡ true }
         ensures exact { SiteSteps self.old self.new result (client_rules.node_step self.old.node now input) }
         ensures sent { IfOk result (λ out. list_all is_sent out ≡ true) }
     {
+        if !self.node.has_room() {
+            return Err(StepFault::Memory);
+        }
         self.node.step(now, input)
     }
 
@@ -73,7 +75,7 @@ fn step_site(
     site.step(now, input)
 }
 
-/// The server at a place takes an input.
+/// The server at a place takes an input. Where one of its counters is at its end, memory is said to run out.
 fn step_node(
     servers: &mut Vec<ServerNode>,
     i: usize,
@@ -83,11 +85,13 @@ fn step_node(
     requires there { i < length servers.old.items }
     requires time { now.0 ≤ 2 ^ 62 }
     requires fits { ready.comes_fit input ≡ true }
-    requires room { (node : ServerNode) → slice_get servers.old.items i ≡ Some node → HasRoom node.state }
     ensures exact { AtPlace servers.old.items i (λ node. ServersStep i servers.old.items servers.new.items result (server_rules.node_step node now input)) }
     ensures sent { IfOk result (λ out. list_all sound.is_sent out ≡ true) }
 {
     let node = &mut servers[i];
+    if !node.has_room() {
+        return Err(StepFault::Memory);
+    }
     node.step(now, input)
 }
 
@@ -141,7 +145,6 @@ impl Machine {
         requires clients { length self.old.world.clients ≤ 16 }
         requires time { (world.clock_of self.old.world (nodes.Server server)).0 ≤ 2 ^ 62 }
         requires fits { ready.comes_fit input ≡ true }
-        requires room { (node : ServerNode) → slice_get self.old.world.servers i ≡ Some node → HasRoom node.state }
         requires stolen { self.old.world.tally.stolen < 2 ^ 63 }
         ensures { AtPlace self.old.world.servers i (λ node. OnOk result (self.new ≡ events.server_takes self.old.world server input node)) }
     {

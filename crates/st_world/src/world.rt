@@ -9,9 +9,7 @@ ghost use Rattle.st_rules.specs.World as rules;
 ghost use Rattle.st_rules.specs.World.{fresh_world};
 ghost use Rattle.st_network.specs.Pieces as pieces;
 ghost use Rattle.st_world.specs.Heads.{HasCounts};
-ghost use Rattle.st_world.specs.Readiness.{IsCounted, IsReady};
 ghost use Rattle.st_world.specs.Steps.{StepsAs};
-ghost use Rattle.st_world.specs.Timed.{IsLaid};
 
 use crate::fault::WorldFault;
 use crate::fresh::{push_client_clocks, push_nodes, push_server_clocks, push_sites};
@@ -24,26 +22,31 @@ use st_lives::Lives;
 use st_messages::{Counts, Event};
 use st_model::FlatLog;
 use st_network::Network;
-use st_rules::{Observation, Summary, WorldRefusal};
+use st_rules::{Observation, Summary, WorldRefusal, runs_go_on_in_parts};
 use st_server::ServerNode;
 use std::alloc::{AllocError, Global};
 use std::marker::Model;
+use std::mem;
 
-/// A world. Contracts see it as the definitions' record.
+/// A world. Contracts see it as the definitions' record: a run from the world of a head leads to it. It keeps the world of its
+/// head beside it, which takes its place when memory runs out; it takes no event then.
 #[derive(Drop)]
 pub struct World {
     machine: Machine,
+    first: Machine,
+    broken: bool,
 }
 
 impl Model for World {
-    ghost use Rattle.std.specs.Prelude.{◌≡◌, []};
+    ghost use Rattle.std.specs.Prelude.{◌≡◌, false};
     ghost use Rattle.st_rules.specs.World as shared;
+    ghost use Rattle.st_world.specs.Reached.{IsQuiet};
 
     ghost Value = { shared.World };
 
     ghost view = { λ w. w.machine.world };
 
-    ghost invariant = { λ w. w.machine.seen ≡ [] };
+    ghost invariant = { λ w. IsQuiet w.machine × (w.broken ≡ false → IsQuiet w.first) };
 }
 
 fn fresh_lives(alloc: Global, counts: &Counts) -> Result<Lives, AllocError>
@@ -94,29 +97,42 @@ impl World {
         ensures { IfOk result (λ w. w ≡ fresh_world config counts.clients counts.servers counts.disks counts.blocks form) }
     {
         let machine = fresh(alloc, config, &counts, form)?;
-        Ok(World { machine })
+        let first = fresh(alloc, config, &counts, form)?;
+        Ok(World {
+            machine,
+            first,
+            broken: false,
+        })
     }
 
     /// Runs one event, and returns what is observed of it, in order. A refusal changes nothing. Where memory runs out nothing is
-    /// known of the world: discard it.
+    /// known of the world, and every later step is refused for want of memory: discard it.
     pub fn step(&mut self, event: Event) -> Result<Vec<Observation>, WorldFault>
         requires event { is_event (length self.old.clocks) event ≡ true }
         requires room { self.old.tally.events < 2 ^ 29 }
-        requires laid { IsLaid self.old }
-        requires ready { IsReady self.old }
-        requires counted { IsCounted self.old }
         ensures machine { StepsAs (λ seen. seen.items) self.old self.new result (events.world_step self.old event) }
         ensures events { OnOk result (self.new.tally.events ≡ self.old.tally.events + 1) }
         ensures clocks { OnOk result (length self.new.clocks ≡ length self.old.clocks) }
     {
-        self.machine.step(event)
+        if self.broken {
+            return Err(WorldFault::Memory);
+        }
+        runs_go_on_in_parts();
+        match self.machine.step(event) {
+            Ok(seen) => Ok(seen),
+            Err(WorldFault::Refused(refusal)) => Err(WorldFault::Refused(refusal)),
+            Err(WorldFault::Memory) => {
+                mem::swap(&mut self.machine, &mut self.first);
+                self.broken = true;
+                Err(WorldFault::Memory)
+            }
+        }
     }
 
     /// Returns the first refusal of an event that stands. It changes nothing and takes no memory.
-    #[tactic(auto, using(crate::proofs::Admitted::timed_any))]
     pub fn refusal(&self, event: &Event) -> Option<WorldRefusal>
-        requires laid { IsLaid self.now }
         requires event { is_event (length self.now.clocks) event.now ≡ true }
+        requires room { self.now.tally.events < 2 ^ 29 }
         ensures { result ≡ refusal self.now event.now }
     {
         self.machine.refusal(event)
@@ -124,7 +140,6 @@ impl World {
 
     /// A node's clock.
     pub fn clock(&self, node: NodeId) -> Stamp
-        requires { length self.now.clients ≤ 16 }
         ensures { result ≡ rules.clock_of self.now node }
     {
         self.machine.clock_of(node)
@@ -136,6 +151,7 @@ impl World {
     {
         self.machine.net.spelled(k)
     }
+
     /// Returns the counts of the run so far.
     pub fn summary(&self) -> Summary
         ensures { result ≡ events.summary self.now }

@@ -3,11 +3,6 @@ use Rattle.std.proofs.lemmas.Option.{get_or_from_slice_get, slice_get_read}
 use Rattle.st_world.proofs.Takings.{node_steps_at}
 use Rattle.st_world.proofs.taking.step_node.Goals as goal
 
-pub step-requires-clause-room : goal.step-requires-clause-room
-step-requires-clause-room c =
-    c.requires.room c.index_mut-node.result.now
-    (slice_get_read c.args.servers.now.items (length c.args.servers.now.items) c.args.i c.index_mut-node.result.now refl c.requires.there c.index_mut-node.ensures.value)
-
 pub returns-clause-exact : goal.returns-clause-exact
 returns-clause-exact c = λ node e.
     node_steps_at c.args.i node c.index_mut-node.result.now c.step.new.self c.args.servers.now.items c.step.result c.args.now c.args.input

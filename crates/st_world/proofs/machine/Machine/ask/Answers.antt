@@ -7,13 +7,6 @@ use Rattle.st_world.proofs.Dispatch.{asks_none, asks_some}
 use Rattle.st_world.proofs.Numbers.{index_none, index_some, numbered_there}
 use Rattle.st_world.proofs.machine.Machine.ask.Goals as goal
 
-pub ask_at-requires-clause-asks : goal.ask_at-requires-clause-asks
-ask_at-requires-clause-asks c = λ site e.
-    let w = c.args.self.now.world in
-    let len : c.len.result ≡ length w.clients = omega (arith, c.len.ensures, c.self.inside.clients.ok.0, ap (λ s. length s.world.clients) c.self.view_is) in
-    let there = index_some w.clients c.args.client.0 c.in-Some.i (c.in-Some.ensures ∙ ap (index_at c.args.client.0) len) in
-    c.requires.counted.asks c.args.client site (numbered_there w.clients c.args.client.0 c.in-Some.i (Some site) there e)
-
 pub returns-in-None : goal.returns-in-None
 returns-in-None c =
     let w = c.args.self.now.world in

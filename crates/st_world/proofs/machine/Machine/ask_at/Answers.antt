@@ -9,9 +9,6 @@ use Rattle.st_world.proofs.Crashed.{on_ok}
 use Rattle.st_world.proofs.Takings.{get_set}
 use Rattle.st_world.proofs.machine.Machine.ask_at.Goals as goal
 
-pub raise_asks-op-requires-clause-asks : goal.raise_asks-op-requires-clause-asks
-raise_asks-op-requires-clause-asks c = λ site e. c.requires.asks site (ap (λ s. slice_get s.world.clients c.args.i) (sym c.self.view_is) ∙ e)
-
 pub client_take_at-requires-clause-there : goal.client_take_at-requires-clause-there
 client_take_at-requires-clause-there c = omega (arith, c.raise_asks-op.ensures.len, ap (λ s. length s.world.clients) c.self.view_is, c.requires.there)
 

@@ -10,6 +10,3 @@ start_server-requires-clause-time c =
 
 pub start_server-requires-clause-crashed : goal.start_server-requires-clause-crashed
 start_server-requires-clause-crashed c = λ node e. node_stopped (node_of c.args.self.now.world c.args.server) node c.requires.stopped e
-
-pub start_server-requires-clause-epochs : goal.start_server-requires-clause-epochs
-start_server-requires-clause-epochs c = c.requires.counted.epochs c.args.server

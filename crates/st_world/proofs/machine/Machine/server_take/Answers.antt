@@ -12,13 +12,6 @@ pub server_take_at-requires-clause-time : goal.server_take_at-requires-clause-ti
 server_take_at-requires-clause-time c =
     clock_low (length c.args.self.now.world.clients + c.args.server.0) (2 ^ 62) c.args.self.now.world.clocks c.requires.ready.clocks
 
-pub server_take_at-requires-clause-room : goal.server_take_at-requires-clause-room
-server_take_at-requires-clause-room c = λ node e.
-    let servers = c.args.self.now.world.servers in
-    let len : c.len.result ≡ length servers = omega (arith, c.len.ensures, c.self.inside.servers.ok.0, ap (λ s. length s.world.servers) c.self.view_is) in
-    let there = index_some servers c.args.server.0 c.in-Some.i (c.in-Some.ensures ∙ ap (index_at c.args.server.0) len) in
-    c.requires.ready.rooms c.args.server node (numbered_there servers c.args.server.0 c.in-Some.i (Some node) there e)
-
 pub returns-in-None : goal.returns-in-None
 returns-in-None c =
     let w = c.args.self.now.world in

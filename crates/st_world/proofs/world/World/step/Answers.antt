@@ -1,23 +1,32 @@
-use Rattle.std.proofs.Common.{◌≡◌, ◌+◌, true, length, subst, sym}
-use Rattle.std.specs.Prelude.{OnOk}
+use Rattle.std.proofs.Common.{◌≡◌, ◌+◌, ◌≤◌, ◌^◌, true, length, ap, sym, subst, ◌∙◌, arith}
 use Rattle.st_rules.specs.Safety.{is_event}
 use Rattle.st_rules.specs.World.{World}
-use Rattle.st_world.specs.Timed.{IsLaid}
-use Rattle.st_world.proofs.Stepped.{stepped_clocks, stepped_events}
+use Rattle.st_world.proofs.Goes.{quiet_after}
+use Rattle.st_world.proofs.Shaped.{laid}
+use Rattle.st_world.proofs.Stepped.{stepped}
 use Rattle.st_world.proofs.world.World.step.Goals as goal
 
-pub returns-clause-events : goal.returns-clause-events
-returns-clause-events c =
-    subst (λ (w : World). OnOk c.step.result (c.step.new.self.world.tally.events ≡ w.tally.events + 1)) c.self.view_is
-    (stepped_events _ c.self.inside.machine.world c.step.new.self.world c.args.event c.step.result
-    (subst IsLaid (sym c.self.view_is) c.requires.laid)
-    (subst (λ (w : World). is_event (length w.clocks) c.args.event ≡ true) (sym c.self.view_is) c.requires.event)
-    c.step.ensures.machine)
+pub step-requires-clause-laid : goal.step-requires-clause-laid
+step-requires-clause-laid c =
+    laid c.self.inside.machine.world c.self.invariant.0.reached (omega (arith, ap (λ (w : World). w.tally.events) c.self.view_is, c.requires.room))
 
-pub returns-clause-clocks : goal.returns-clause-clocks
-returns-clause-clocks c =
-    subst (λ (w : World). OnOk c.step.result (length c.step.new.self.world.clocks ≡ length w.clocks)) c.self.view_is
-    (stepped_clocks _ c.self.inside.machine.world c.step.new.self.world c.args.event c.step.result
-    (subst IsLaid (sym c.self.view_is) c.requires.laid)
+pub invariant_of-self : goal.invariant_of-self
+invariant_of-self c =
+    (quiet_after c.runs_go_on_in_parts.ensures c.self.inside.machine c.step.new.self c.args.event c.in-Ok.seen.items c.self.invariant.0
     (subst (λ (w : World). is_event (length w.clocks) c.args.event ≡ true) (sym c.self.view_is) c.requires.event)
-    c.step.ensures.machine)
+    c.in-Ok.ensures.machine c.in-Ok.ensures.ends,
+    c.self.invariant.1)
+
+pub returns-in-Ok-clause-events : goal.returns-in-Ok-clause-events
+returns-in-Ok-clause-events c =
+    let w = c.self.inside.machine.world in
+    let l = laid w c.self.invariant.0.reached (omega (arith, ap (λ (w : World). w.tally.events) c.self.view_is, c.requires.room)) in
+    let i = subst (λ (w : World). is_event (length w.clocks) c.args.event ≡ true) (sym c.self.view_is) c.requires.event in
+    (stepped w c.step.new.self.world c.args.event c.in-Ok.seen.items l i c.in-Ok.ensures.machine).events ∙ ap (λ (w : World). w.tally.events + 1) c.self.view_is
+
+pub returns-in-Ok-clause-clocks : goal.returns-in-Ok-clause-clocks
+returns-in-Ok-clause-clocks c =
+    let w = c.self.inside.machine.world in
+    let l = laid w c.self.invariant.0.reached (omega (arith, ap (λ (w : World). w.tally.events) c.self.view_is, c.requires.room)) in
+    let i = subst (λ (w : World). is_event (length w.clocks) c.args.event ≡ true) (sym c.self.view_is) c.requires.event in
+    (stepped w c.step.new.self.world c.args.event c.in-Ok.seen.items l i c.in-Ok.ensures.machine).clocks ∙ ap (λ (w : World). length w.clocks) c.self.view_is
