@@ -1,9 +1,17 @@
-//! STAND-IN for the client node: its calls with their contracts, over a node that cannot be made. Never merged.
+//! The client of a world: its rules at each server, and the node that runs or is crashed. `docs/PROTOCOL.md`, "The client", has the
+//! rules.
 #![tactic(auto)]
 
 mod ends;
+mod fresh;
+mod lives;
+mod machine;
 mod node;
+mod rule;
+mod rules;
+mod state;
+mod step;
 
 pub use ends::LeaseEnds;
+pub use machine::Machine;
 pub use node::ClientNode;
-pub use st_rules::{ClientInput, Phase};

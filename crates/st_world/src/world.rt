@@ -145,6 +145,20 @@ impl World {
         self.machine.clock_of(node)
     }
 
+    /// Returns how many messages were sent.
+    pub fn message_count(&self) -> u64
+        ensures { result ≡ length self.now.net.messages }
+    {
+        self.machine.net.count()
+    }
+
+    /// Returns how many commands were submitted.
+    pub fn command_count(&self) -> u64
+        ensures { result ≡ length self.now.commands }
+    {
+        self.machine.commands.count()
+    }
+
     /// The spelling of the message of a number, from 1.
     pub fn sent(&self, k: u64) -> Option<&[u8]>
         ensures { option_map (λ b. b.now) result ≡ option_map pieces.spelling_sent (rules.message_of self.now k) }

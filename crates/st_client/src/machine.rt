@@ -1,0 +1,109 @@
+ghost use Rattle.std.specs.Prelude.{◌≡◌, true, IfOk, map};
+ghost use Rattle.std.specs.List.{list_all};
+ghost use Rattle.st_client.specs.Machines.{Goes, IsIn};
+ghost use Rattle.st_rules.specs.ClientState as client;
+
+use crate::rule::Rule;
+use st_association::Association;
+use st_base::{ClientId, Config};
+use st_messages::Output;
+use st_operations::Operations;
+use std::alloc::{AllocError, Global};
+use std::collections::VecDeque;
+use std::marker::Model;
+
+/// A client, with the outputs of the step so far. Contracts see it as a turn.
+#[derive(Drop)]
+pub struct Machine {
+    pub(crate) alloc: Global,
+    pub(crate) id: ClientId,
+    pub(crate) config: Config,
+    pub(crate) associations: VecDeque<Association>,
+    pub(crate) operations: Operations,
+    pub(crate) next_command: u64,
+    pub(crate) out: Vec<Output>,
+}
+
+impl Model for Machine {
+    ghost use Rattle.std.specs.Prelude.{map};
+    ghost use Rattle.st_client.specs.Machines.{IsMachine, here_of};
+    ghost use Rattle.st_rules.specs.ClientState as shared;
+
+    ghost Value = { shared.ClientTurn };
+
+    ghost view = { λ m. record {
+      state = record {
+        id = m.id;
+        config = m.config;
+        associations = map here_of m.associations.items;
+        operations = m.operations;
+        next_command = m.next_command;
+      };
+      out = m.out.items;
+    } };
+
+    ghost invariant = { λ m. IsMachine m.id m.config m.next_command m.out.items m.associations.items };
+}
+
+impl Machine {
+    /// A rule at one association, which goes last then.
+    fn at_one<R: Rule>(self, rule: &R, a: Association) -> Result<Machine, AllocError>
+        requires one { IsIn self.state.id self.state.config self.state.next_command self.out a }
+        requires ready { R.is_ready rule.now self.state.config a.here ≡ true }
+        ensures run { IfOk result (λ m. m ≡ client.leave self (R.run rule.now (client.enter self a.here))) }
+        ensures goes { IfOk result (λ m. Goes self m) }
+    {
+        let Machine {
+            alloc,
+            id,
+            config,
+            mut associations,
+            operations,
+            next_command,
+            out,
+        } = self;
+        let mut turn = a.enter(alloc, operations, next_command, out);
+        rule.apply(&mut turn)?;
+        let (a, operations, next_command, out) = turn.leave();
+        associations.push_back(a)?;
+        Ok(Machine {
+            alloc,
+            id,
+            config,
+            associations,
+            operations,
+            next_command,
+            out,
+        })
+    }
+
+    /// A rule at each association, in order.
+    #[tactic(auto, unfolding(st_rules::specs::ClientState::at_each, st_rules::specs::ClientState::at_these))]
+    pub(crate) fn at_each<R: Rule>(self, rule: &R) -> Result<Machine, AllocError>
+        requires { list_all (R.is_ready rule.now self.state.config) self.state.associations ≡ true }
+        ensures { IfOk result (λ m. m ≡ client.at_each (R.run rule.now) self) }
+    {
+        let Machine {
+            alloc,
+            id,
+            config,
+            mut associations,
+            operations,
+            next_command,
+            out,
+        } = self;
+        let mut machine = Machine {
+            alloc,
+            id,
+            config,
+            associations: VecDeque::new(alloc),
+            operations,
+            next_command,
+            out,
+        };
+        while let Some(a) = associations.pop_front() {
+            machine = machine.at_one(rule, a)?;
+        }
+        Ok(machine)
+    }
+}

@@ -1,0 +1,23 @@
+// A rule for one association, as it is done at each server in turn.
+ghost use Rattle.std.specs.Prelude.{◌≡◌, true, OnOk};
+ghost use Rattle.st_client.specs.Machines.{Advances};
+
+use st_association::Turn;
+use std::alloc::AllocError;
+
+/// A rule at an association, and what it needs of it.
+pub trait Rule {
+    ghost use Rattle.std.specs.Prelude.{Bool};
+    ghost use Rattle.st_base.specs.declared.config.Config as settings;
+    ghost use Rattle.st_rules.specs.ClientState as shared;
+
+    ghost run: { Self → shared.Turn → shared.Turn };
+
+    ghost is_ready: { Self → settings.Config → shared.Association → Bool };
+
+    /// The rule at an association.
+    fn apply(&self, turn: &mut Turn) -> Result<(), AllocError>
+        requires { is_ready self.now turn.old.config turn.old.here ≡ true }
+        ensures run { OnOk result (turn.new ≡ run self.now turn.old) }
+        ensures advances { OnOk result (Advances turn.old turn.new) };
+}

@@ -1,0 +1,119 @@
+// The rules at each server: losses, messages, asks, ends of commands, and the passes.
+ghost use Rattle.std.specs.Prelude.{◌≡◌, true};
+
+use crate::rule::Rule;
+use st_association::Turn;
+use st_base::{PageBytes, Stamp, Tag};
+use st_client_inputs::{finish, lose, take_ask};
+use st_client_passes::passes;
+use st_client_replies::hear;
+use st_messages::{Ask, Body, Header};
+use st_operations::server_of;
+use std::alloc::AllocError;
+
+/// The loss.
+#[derive(Clone, Copy)]
+pub struct Lose {
+    pub now: Stamp,
+}
+
+impl Rule for Lose {
+    ghost use Rattle.std.specs.Prelude.{true};
+    ghost use Rattle.st_rules.specs.Client as client;
+
+    ghost run = { λ r t. client.lose r.now t };
+
+    ghost is_ready = { λ r k a. true };
+
+    fn apply(&self, turn: &mut Turn) -> Result<(), AllocError> {
+        lose(turn, self.now)
+    }
+}
+
+/// The end of a disk command.
+#[derive(Drop)]
+pub struct Finish {
+    pub number: u64,
+    pub result: Option<Option<(Tag, PageBytes)>>,
+}
+
+impl Rule for Finish {
+    ghost use Rattle.std.specs.Prelude.{true};
+    ghost use Rattle.st_rules.specs.Client as client;
+
+    ghost run = { λ r t. client.finish r.number r.result t };
+
+    ghost is_ready = { λ r k a. true };
+
+    fn apply(&self, turn: &mut Turn) -> Result<(), AllocError> {
+        finish(turn, self.number, &self.result)
+    }
+}
+
+/// A message.
+#[derive(Drop)]
+pub struct Hear {
+    pub now: Stamp,
+    pub header: Header,
+    pub body: Body,
+}
+
+impl Rule for Hear {
+    ghost use Rattle.std.specs.Prelude.{◌&&◌, ◌^◌, nat_le};
+    ghost use Rattle.st_rules.specs.ClientInvariants.{lasts_here};
+    ghost use Rattle.st_rules.specs.ClientReplies as replies;
+
+    ghost run = { λ r t. replies.hear r.now r.header r.body t };
+
+    ghost is_ready = { λ r k a. nat_le r.now.0 (2 ^ 62) && lasts_here k r.now a };
+
+    fn apply(&self, turn: &mut Turn) -> Result<(), AllocError> {
+        hear(turn, self.now, self.header, &self.body)
+    }
+}
+
+/// The passes.
+#[derive(Clone, Copy)]
+pub struct Passes {
+    pub now: Stamp,
+    pub tick: bool,
+}
+
+impl Rule for Passes {
+    ghost use Rattle.st_rules.specs.ClientInvariants.{lasts_here};
+    ghost use Rattle.st_rules.specs.ClientPasses as passes;
+
+    ghost run = { λ r t. passes.passes r.now r.tick t };
+
+    ghost is_ready = { λ r k a. lasts_here k r.now a };
+
+    fn apply(&self, turn: &mut Turn) -> Result<(), AllocError> {
+        passes(turn, self.now, self.tick)
+    }
+}
+
+/// An ask.
+#[derive(Drop)]
+pub struct TakeAsk {
+    pub op: u32,
+    pub ask: Ask,
+}
+
+impl Rule for TakeAsk {
+    ghost use Rattle.st_messages.specs.Fits.{is_ask};
+    ghost use Rattle.st_rules.specs.Client as client;
+    ghost use Rattle.st_rules.specs.ClientState.{only_at, server_of};
+
+    ghost run = { λ r t. only_at (server_of r.ask) (client.take_ask r.op r.ask) t };
+
+    ghost is_ready = { λ r k a. is_ask r.ask };
+
+    #[tactic(auto, unfolding(st_rules::specs::ClientState::only_at))]
+    fn apply(&self, turn: &mut Turn) -> Result<(), AllocError> {
+        if turn.server().0 == server_of(&self.ask).0 {
+            take_ask(turn, self.op, self.ask.copy()?)
+        } else {
+            Ok(())
+        }
+    }
+}
