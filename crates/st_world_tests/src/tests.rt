@@ -77,6 +77,7 @@ fn file_of(client: u16) -> FileId
     }
 }
 
+#[tactic(auto, unfolding(st_messages::specs::Fits::is_ask), using(crate::proofs::Filled::is_page_whole))]
 fn write(client: u16, page: u8, byte: u8) -> Event
     ensures { is_event 3 result ≡ true }
 {
@@ -91,6 +92,7 @@ fn write(client: u16, page: u8, byte: u8) -> Event
     }
 }
 
+#[tactic(auto, unfolding(st_messages::specs::Fits::is_ask))]
 fn sync(client: u16) -> Event
     ensures { is_event 3 result ≡ true }
 {
@@ -223,6 +225,7 @@ fn name_of(alloc: Global, number: u64) -> Result<Name, AllocError>
     Ok(Name::from_vec(bytes))
 }
 
+#[tactic(auto, unfolding(st_messages::specs::Fits::is_ask, st_messages::specs::Fits::is_name_ask))]
 fn create(alloc: Global, number: u64) -> Result<Event, AllocError>
     ensures { IfOk result (λ e. is_event 3 e ≡ true) }
 {
@@ -233,6 +236,7 @@ fn create(alloc: Global, number: u64) -> Result<Event, AllocError>
     })
 }
 
+#[tactic(auto, unfolding(st_messages::specs::Fits::is_ask, st_messages::specs::Fits::is_name_ask))]
 fn list(alloc: Global) -> Event
     ensures { is_event 3 result ≡ true }
 {
