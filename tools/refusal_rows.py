@@ -18,6 +18,8 @@ DRIFTING = f"tank 2 {SETTINGS} 5 2 1 1 8"
 NAMES = 256
 FULL = 536870912
 
+NODE_NAMES = {"c1": "FIRST", "c2": "SECOND", "c3": "NO_CLIENT", "s1": "SERVER", "s2": "NO_SERVER"}
+
 NODES = """
 ! tick c3
 ! tick s2
@@ -297,7 +299,7 @@ def call(words):
         case "adv":
             return f"Advance({', '.join(rest if len(rest) == 3 else rest * 3)})"
         case _:
-            return f"{kind.capitalize()}({', '.join(rest).upper()})"
+            return f"{kind.capitalize()}({', '.join(NODE_NAMES.get(word, word) for word in rest)})"
 
 
 def printed(name, what, rows):
@@ -344,9 +346,9 @@ def main():
     print("use crate::tests::Call;")
     print("use crate::tests::Call::{Advance, Crash, Cut, Deliver, Done, Effect, Failed, Heal, Lose, Start, Sync, Tick, Write};")
     print("use st_base::{ClientId, NodeId, ServerId};\n")
-    for node in ("C1", "C2", "C3", "S1", "S2"):
-        kind = "Client" if node[0] == "C" else "Server"
-        print(f"const {node}: NodeId = NodeId::{kind}({kind}Id({node[1]}));")
+    for node, name in NODE_NAMES.items():
+        kind = "Client" if node[0] == "c" else "Server"
+        print(f"const {name}: NodeId = NodeId::{kind}({kind}Id({node[1]}));")
     printed("NODES", "Nodes that are not there, that run, and that do not.", Table(RATED).rows(NODES))
     printed("MESSAGES", "Messages that were not sent, that are lost, and whose direction is cut.", Table(RATED).rows(MESSAGES))
     printed("COMMANDS", "Commands that were not submitted, that had their effect, and that were reported.", Table(RATED).rows(COMMANDS))
