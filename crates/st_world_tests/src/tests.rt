@@ -132,13 +132,21 @@ fn event_of(alloc: Global, call: Call) -> Result<Event, AllocError>
     }
 }
 
+/// How many events there were.
+#[tactic(auto, unfolding(st_rules::specs::Events::summary))]
+fn events_of(world: &World) -> u64
+    ensures { result ≡ world.now.tally.events }
+{
+    world.summary().events
+}
+
 /// Takes an event; returns its refusal, or nothing.
 fn step(world: &mut World, event: Event) -> Result<Option<WorldRefusal>, AllocError>
     requires event { is_event 3 event ≡ true }
     requires clocks { length world.old.clocks ≡ 3 }
     ensures clocks { OnOk result (length world.new.clocks ≡ 3) }
 {
-    if world.summary().events >= 100_000 {
+    if events_of(world) >= 100_000 {
         return Err(AllocError);
     }
     match world.step(event) {
@@ -153,7 +161,7 @@ fn foretold(world: &World, event: &Event) -> Option<WorldRefusal>
     requires event { is_event 3 event.now ≡ true }
     requires clocks { length world.now.clocks ≡ 3 }
 {
-    if world.summary().events >= 100_000 {
+    if events_of(world) >= 100_000 {
         return None;
     }
     world.refusal(event)
