@@ -5,7 +5,7 @@ use Rattle.std.specs.List.{flat_map, AllByRecursion}
 use Rattle.std.proofs.lemmas.List.Concat.{flat_map-cons}
 use Rattle.st_base.specs.declared.ids.Stamp.{Stamp}
 use Rattle.st_clock.specs.Readings.{after}
-use Rattle.st_codec.specs.Frames.{Frames, behind as left_behind, fed, fresh, front, next}
+use Rattle.st_codec.specs.Frames.{Frames, behind as left_behind, fed, fresh, front, next, next_at, next_by}
 use Rattle.st_codec.specs.Spelling.{spelling}
 use Rattle.st_codec.specs.Stream.{IsFramed, message_frame}
 use Rattle.st_codec.proofs.Streams.{gives_frame}
@@ -21,7 +21,7 @@ through h = record { node = h.node; out = h.out; stop = Ok tt }
 
 empty_stays : (f : Frames) → f.rest ≡ [] → f.refusal ≡ None → next f ≡ (f, None)
 unfolding next front
-empty_stays f empty open_ = rw (open_, empty) ?
+empty_stays f empty open_ = ap (next_by f) open_ ∙ ap (λ (w : List ℕ). next_at f (front w)) empty
 
 nothing_left : (k : ℕ) (n : Node) (readings : List Stamp) (f : Frames) → f.rest ≡ [] → f.refusal ≡ None → run k n readings f ≡ ended n (Ok tt)
 unfolding run

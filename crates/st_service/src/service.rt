@@ -1,0 +1,78 @@
+// A server that is served over a link.
+ghost use Rattle.std.specs.Prelude.{◌≡◌, ◌≤◌, ◌<◌, OnOk, OnErr, IfSome, IfOk};
+ghost use Rattle.st_node.specs.Room.{HasRoomFor};
+ghost use Rattle.st_node.specs.Runs.{MOST};
+ghost use Rattle.st_node.specs.Serving.{HasCauses};
+ghost use Rattle.st_service.specs.Ends.{IsServed, Writes};
+ghost use Rattle.st_service.specs.Words as words_of;
+
+use crate::ends::tell;
+use st_base::{Config, ServerId};
+use st_clock::Clock;
+use st_link::{Link, Sink};
+use st_node::{Node, NodeFault, serve};
+use std::alloc::{AllocError, Global};
+
+/// The settings of a node, in milliseconds.
+const CONFIG: Config = Config {
+    lease: 10_000,
+    renew: 5_000,
+    quiesce: 7_000,
+    flush: 8_500,
+    demand: 1_000,
+    retry: 500,
+    num: 101,
+    den: 100,
+    grain: 1,
+};
+
+#[tactic(auto, unfolding(crate::specs::Words::started_server))]
+fn start(alloc: Global, id: ServerId) -> Result<Node, AllocError>
+    requires least { 1 ≤ id.0 }
+    requires most { id.0 ≤ 4 }
+    ensures started { IfOk result (λ n. n ≡ words_of.started_server id) }
+    ensures room { IfOk result (λ n. HasRoomFor MOST n) }
+{
+    Node::server(alloc, id, &CONFIG, 4, 4, 4096)
+}
+
+/// Starts a server, attaches the link at the name, and serves the server over it.
+fn attach_and_serve<L: Link, C: Clock>(
+    alloc: Global,
+    id: ServerId,
+    name: &str,
+    link: &mut L,
+    clock: &mut C,
+) -> Result<(), NodeFault>
+    requires least { 1 ≤ id.0 }
+    requires most { id.0 ≤ 4 }
+    ensures run { IfSome (L.left link.old) (λ bytes. IfSome (C.readings clock.old) (λ readings.
+        Writes result (L.written link.old) (L.written link.new) (words_of.server_run id readings bytes))) }
+    ensures causes { HasCauses result (L.Source.faults link.old) (L.Source.faults link.new) }
+{
+    let mut node = start(alloc, id)?;
+    match link.attach(name) {
+        Ok(()) => serve(alloc, link, clock, &mut node),
+        Err(_) => Err(NodeFault::Read),
+    }
+}
+
+/// Starts a server, attaches the link at the name, serves the server over it, and writes the text of how that ended. Returns the
+/// program's status: 0 where the stream ended at a frame's boundary, 1 where the run stopped, 4 where that could not be told, 5 where
+/// memory ran out, and 6 where the link failed.
+pub fn serve_server<E: Sink, L: Link, C: Clock>(
+    alloc: Global,
+    id: ServerId,
+    name: &str,
+    err: &mut E,
+    link: &mut L,
+    clock: &mut C,
+) -> u8
+    requires least { 1 ≤ id.0 }
+    requires most { id.0 ≤ 4 }
+    ensures { IsServed id result (L.left link.old) (L.written link.old) (L.written link.new) (C.readings clock.old)
+        (L.Source.faults link.old) (L.Source.faults link.new) (E.written err.old) (E.written err.new) (E.faults err.old) (E.faults err.new) }
+{
+    let ended = attach_and_serve(alloc, id, name, link, clock);
+    tell(alloc, err, ended)
+}
