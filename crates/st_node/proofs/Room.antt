@@ -1,22 +1,17 @@
 -- A step of a node takes away one of the steps for which its counters have room.
-use Rattle.std.proofs.Common.{◌≡◌, ℕ, ◌+◌, ◌-◌, ◌*◌, ◌^◌, ◌<◌, ◌≤◌, ◌==◌, Bool, true, false, List, [], Option, Some, None, Result, Ok, Err, if◌then◌else◌, refl, sym, ap, subst, ◌∙◌, arith}
+use Rattle.std.proofs.Common.{◌≡◌, ℕ, ◌+◌, ◌-◌, ◌^◌, ◌≤◌, Bool, true, [], Ok, Err, if◌then◌else◌, refl, sym, subst, arith}
 use Rattle.std.specs.Prelude.{min, nat_le, ◌&&◌}
 use Rattle.std.proofs.lemmas.Bool.{and_parts, leb-true}
 use Rattle.st_base.specs.declared.config.Config.{Config}
 use Rattle.st_base.specs.declared.ids.ServerId.{ServerId}
 use Rattle.st_base.specs.declared.ids.Stamp.{Stamp}
-use Rattle.st_messages.specs.declared.kind.Party.{Party}
-use Rattle.st_messages.specs.declared.kind.Party.TheVariants as parties
 use Rattle.st_messages.specs.declared.message.Body.{Body}
 use Rattle.st_messages.specs.declared.message.Body.TheVariants as bodies
-use Rattle.st_messages.specs.declared.message.Message.{Message}
 use Rattle.st_messages.specs.Fits.{fits, is_body, is_count, is_grant, is_header, is_ino, is_page}
-use Rattle.st_messages.specs.Kinds.{kind_of_body, receiver}
+use Rattle.st_messages.specs.Kinds.{kind_of_body}
 use Rattle.st_rules.specs.declared.input.ServerInput.{ServerInput}
 use Rattle.st_rules.specs.declared.input.ServerInput.TheVariants.{Tick, Control}
 use Rattle.st_rules.specs.declared.node.StepRefusal.TheVariants.{Crashed}
-use Rattle.st_rules.specs.Extents as extents
-use Rattle.st_rules.specs.Locks as locks
 use Rattle.st_rules.specs.Names as names
 use Rattle.st_rules.specs.Server as server
 use Rattle.st_rules.specs.Server.{ServerNode, ServerState, turn, node_step, server_step}
@@ -24,8 +19,6 @@ use Rattle.st_server.specs.Ready.{comes_fit}
 use Rattle.st_server.specs.Room.{HasRoom, taken_locks}
 use Rattle.st_server.specs.Sound.{IsSound}
 use Rattle.st_server.proofs.Stepping.{step_turn, moment_word}
-use Rattle.st_node.specs.declared.node.Node.{Node}
-use Rattle.st_node.specs.declared.node.Node.TheVariants.{Server}
 use Rattle.st_node.specs.Room.{HasRoomFor, ServerHasRoom}
 use Rattle.st_node.specs.Runs.{MOST, server_stepped}
 use Rattle.st_node.proofs.Growing.{Grows, pages_asked, pages_in}
@@ -82,5 +75,5 @@ room_stepped k n now i sound time fit r =
 
 -- a server that was never started has room for all steps that a node takes
 pub fresh_room : (id : ServerId) (k : Config) (servers disks blocks : ℕ) → ServerHasRoom MOST (server.fresh_node id k servers disks blocks)
-unfolding MOST server.fresh_server names.fresh_names locks.no_locks extents.no_extents
+unfolding MOST server.fresh_server names.fresh_names
 fresh_room id k servers disks blocks = record { running = refl; locks = omega arith; inodes = omega arith; births = omega arith }

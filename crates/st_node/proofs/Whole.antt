@@ -1,6 +1,5 @@
 -- A stream of whole frames is run through.
-use Rattle.std.proofs.Common.{◌≡◌, ℕ, zero, suc, ◌+◌, ◌-◌, ◌^◌, ◌<◌, ◌≤◌, List, [], ◌∷◌, ◌++◌, length, Option, Some, None, Result, Ok, Err, refl, sym, ap, subst, ◌∙◌, append_assoc, append-nil, arith}
-use Rattle.std.specs.Prelude.{min}
+use Rattle.std.proofs.Common.{◌≡◌, ℕ, zero, suc, ◌≤◌, List, [], ◌∷◌, length, Some, None, Ok, refl, ap, ◌∙◌, arith}
 use Rattle.std.specs.List.{flat_map, AllByRecursion}
 use Rattle.std.proofs.lemmas.List.Concat.{flat_map-cons}
 use Rattle.st_base.specs.declared.ids.Stamp.{Stamp}
@@ -11,9 +10,8 @@ use Rattle.st_codec.specs.Stream.{IsFramed, message_frame}
 use Rattle.st_codec.proofs.Streams.{gives_frame}
 use Rattle.st_messages.specs.declared.message.Message.{Message}
 use Rattle.st_node.specs.declared.node.Node.{Node}
-use Rattle.st_node.specs.declared.fault.NodeFault.TheVariants as faults
-use Rattle.st_node.specs.Runs.{Handled, Run, MOST, behind, ended, go_on, handle, node_run, passed, reading, run, then_rest}
-use Rattle.st_node.specs.Whole.{RunsThrough, handle_all, then_others}
+use Rattle.st_node.specs.Runs.{Handled, Run, MOST, behind, ended, go_on, handle, reading, run}
+use Rattle.st_node.specs.Whole.{RunsThrough, handle_all}
 
 -- a run that handled this, and went through
 abbrev through : Handled → Run

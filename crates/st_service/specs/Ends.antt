@@ -49,6 +49,10 @@ end_status (Err faults.Write) = 6
 end_status (Err faults.Memory) = 5
 end_status (Err stop) = 1
 
+-- what may be told of an end: itself, or want of memory where there is none for the text of status 1
+abbrev pub MayTell : Result Unit NodeFault → Result Unit NodeFault → Type 0
+MayTell ended told = (told ≡ ended) ⊎ ((end_status ended ≡ 1) × (told ≡ Err faults.Memory))
+
 -- what was written, next to the run over all bytes of the link: all of it where the stream ended or the run stopped, else a front
 abbrev pub Writes : Result Unit NodeFault → Option (List ℕ) → Option (List ℕ) → Run → Type 0
 Writes (Err faults.Read) before now r = AppendsPrefix before now r.out
@@ -65,6 +69,12 @@ abbrev pub IsTold : Result Unit NodeFault → ℕ → Option (List ℕ) → Opti
 IsTold ended status before now faults_before faults_now =
     ((status ≡ end_status ended) × Appends before now (end_text ended) × (faults_now ≡ faults_before))
     ⊎ ((status ≡ unwritten (end_status ended)) × AppendsPrefix before now (end_text ended) × Rose faults_before faults_now)
+
+-- an end, or what may be told of it, is told
+pub record IsReported (ended : Result Unit NodeFault) (status : ℕ) (before now : Option (List ℕ)) (faults_before faults_now : ℕ) : Type 0 where
+  pub said : Result Unit NodeFault
+  pub may : MayTell ended said
+  pub told : IsTold said status before now faults_before faults_now
 
 -- a server was served: how that ended, what was written of its run, whether the link's count rose, and the status and its text
 pub record IsServed (id : ServerId) (status : ℕ) (left written_before written_now : Option (List ℕ)) (readings : Option (List Stamp)) (link_before link_now : ℕ)

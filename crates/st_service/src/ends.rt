@@ -1,8 +1,7 @@
 // The status and the text of each end.
-ghost use Rattle.std.specs.Prelude.{◌≡◌, ◌++◌, ◌⊎◌, OnOk};
-ghost use Rattle.st_node.specs.declared.fault.NodeFault.TheVariants.{Memory};
+ghost use Rattle.std.specs.Prelude.{◌≡◌, ◌++◌, OnOk};
 ghost use Rattle.st_service.specs.Ends as ends;
-ghost use Rattle.st_service.specs.Ends.{IsTold};
+ghost use Rattle.st_service.specs.Ends.{IsReported, IsTold};
 
 use st_codec::CodecRefusal;
 use st_link::{Sink, put_all};
@@ -47,23 +46,7 @@ fn put_cut_end(out: &mut Vec<u8>, at: u64) -> Result<(), AllocError>
     put_text(out, b"\n")
 }
 
-/// Appends the text of an end.
-#[tactic(auto, unfolding(crate::specs::Ends::end_text))]
-fn put_end(out: &mut Vec<u8>, ended: Result<(), NodeFault>) -> Result<(), AllocError>
-    ensures { OnOk result (out.new.items ≡ out.old.items ++ ends.end_text ended) }
-{
-    match ended {
-        Ok(()) => Ok(()),
-        Err(NodeFault::Frame(at, refusal)) => put_frame_end(out, at, refusal),
-        Err(NodeFault::Cut(at)) => put_cut_end(out, at),
-        Err(NodeFault::TooManyFrames) => put_text(out, b"tank: too many frames\n"),
-        Err(NodeFault::Read) => put_text(out, b"tank: link failed\n"),
-        Err(NodeFault::Write) => put_text(out, b"tank: link failed\n"),
-        Err(NodeFault::Memory) => put_text(out, b"tank: out of memory\n"),
-    }
-}
-
-/// The text of an end; where memory runs out for it, the end is that of want of memory, whose text is written from the program itself.
+/// The status of an end.
 fn end_status(ended: Result<(), NodeFault>) -> u8
     ensures { result ≡ ends.end_status ended }
 {
@@ -95,15 +78,42 @@ fn tell_text<E: Sink>(err: &mut E, text: &[u8], ended: Result<(), NodeFault>) ->
     }
 }
 
-/// Writes the text of an end, and returns the status. Where memory runs out for the text, the end is want of memory.
+/// Tells a stop at a frame, whose text was made unless memory ran out.
+#[tactic(auto, unfolding(crate::specs::Ends::end_text))]
+fn tell_stop<E: Sink>(err: &mut E, made: Result<(), AllocError>, text: &[u8], stop: NodeFault) -> u8
+    requires made { OnOk made (text.now ≡ ends.end_text (Err stop)) }
+    requires stop { ends.end_status (Err stop) ≡ 1 }
+    ensures { IsReported (Err stop) result (E.written err.old) (E.written err.new) (E.faults err.old) (E.faults err.new) }
+{
+    match made {
+        Ok(()) => tell_text(err, text, Err(stop)),
+        Err(_) => tell_text(err, b"tank: out of memory\n", Err(NodeFault::Memory)),
+    }
+}
+
+/// Writes the text of an end, and returns the status. Where memory runs out for a text of status 1, it tells of that.
 #[tactic(auto, unfolding(crate::specs::Ends::end_text))]
 pub(crate) fn tell<E: Sink>(alloc: Global, err: &mut E, ended: Result<(), NodeFault>) -> u8
-    ensures { IsTold ended result (E.written err.old) (E.written err.new) (E.faults err.old) (E.faults err.new)
-        ⊎ IsTold (Err Memory) result (E.written err.old) (E.written err.new) (E.faults err.old) (E.faults err.new) }
+    ensures { IsReported ended result (E.written err.old) (E.written err.new) (E.faults err.old) (E.faults err.new) }
 {
     let mut text = Vec::new(alloc);
-    match put_end(&mut text, ended) {
-        Ok(()) => tell_text(err, text.as_slice(), ended),
-        Err(_) => tell_text(err, b"tank: out of memory\n", Err(NodeFault::Memory)),
+    match ended {
+        Ok(()) => tell_text(err, b"", Ok(())),
+        Err(NodeFault::Frame(at, refusal)) => {
+            let made = put_frame_end(&mut text, at, refusal);
+            tell_stop(err, made, text.as_slice(), NodeFault::Frame(at, refusal))
+        }
+        Err(NodeFault::Cut(at)) => {
+            let made = put_cut_end(&mut text, at);
+            tell_stop(err, made, text.as_slice(), NodeFault::Cut(at))
+        }
+        Err(NodeFault::TooManyFrames) => tell_text(
+            err,
+            b"tank: too many frames\n",
+            Err(NodeFault::TooManyFrames),
+        ),
+        Err(NodeFault::Read) => tell_text(err, b"tank: link failed\n", Err(NodeFault::Read)),
+        Err(NodeFault::Write) => tell_text(err, b"tank: link failed\n", Err(NodeFault::Write)),
+        Err(NodeFault::Memory) => tell_text(err, b"tank: out of memory\n", Err(NodeFault::Memory)),
     }
 }
