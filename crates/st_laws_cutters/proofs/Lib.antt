@@ -11,3 +11,7 @@ pub mod Standing
 pub mod Asked
 pub mod Law
 pub mod Runs
+pub mod Sending
+pub mod Lives
+pub mod Going
+pub mod Former

@@ -45,7 +45,7 @@ of_lease (Demand i g to) e = cc
 of_lease Other_epoch e = cc
 
 -- A living client, at a server that serves a session of it: of that life, and in the server's epoch.
-meets : (k : Config) (a : Assoc) → Invariant k a → a.s.up ≡ true → a.s.live ≡ true → Alive k a.c → (a.s.session ≡ a.c.life) × (a.c.epoch ≡ a.s.epoch)
+pub meets : (k : Config) (a : Assoc) → Invariant k a → a.s.up ≡ true → a.s.live ≡ true → Alive k a.c → (a.s.session ≡ a.c.life) × (a.c.epoch ≡ a.s.epoch)
 meets k a inv up live alive = go a.s.grace refl
   where
     low : a.s.grace ≡ true → a.s.session ≡ a.s.glife → a.c.life ≤ a.s.glife
@@ -86,7 +86,7 @@ module _ (k : Config) (count : ℕ) (w : World) (a : AllStand k count w) (s : �
 
   -- A client that runs, with an association of this server.
   module _ (d : ℕ) (site : ClientSite) (run : Running w d site) (b : Association) (h : Has b site.node.state.associations) (e : b.server ≡ server s) where
-    whole : client_in w d s (z.ended d) ≡ client_of (z.ended d) (clock_of w (nodes.Client (client d))).0 b
+    pub whole : client_in w d s (z.ended d) ≡ client_of (z.ended d) (clock_of w (nodes.Client (client d))).0 b
     whole = own_view w d s (z.ended d) site q.association run.there run.runs q.sim.place ∙ ap (client_of (z.ended d) (clock_of w (nodes.Client (client d))).0) (sym is)
       where
         q : Standing k s d site w.ended (z.ghosts d).net

@@ -4,3 +4,4 @@ pub mod Named
 pub mod Cut
 pub mod Law
 pub mod Runs
+pub mod Former

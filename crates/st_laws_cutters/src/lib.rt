@@ -3,6 +3,7 @@
 
 ghost use Rattle.st_laws.specs.Law.{In_every_run};
 ghost use Rattle.st_laws_askers.specs.Reached.{Reassertions_new, Replies_after};
+ghost use Rattle.st_laws_cutters.specs.Former.{Goes_between};
 ghost use Rattle.st_laws_cutters.specs.Law.{Cuts_are_asked};
 ghost use Rattle.st_laws_cutters.specs.Named.{Numbers_name_files};
 ghost use Rattle.st_laws_cutters.specs.Runs.{In_runs_taken};
@@ -37,4 +38,10 @@ pub fn cuts_are_asked()
 pub fn runs_read_beside_cuts()
     ensures reads { In_runs_taken ReadsReturnLastWrites }
     ensures carries { In_runs_taken WritesCarryTheContent }
+{}
+
+/// Every event of every run leaves servers in no earlier epoch, and their sessions go on in the same epoch; and each message that it sends
+/// is of a server, or of a client in the life that it has at the server that it is for, or in the next one.
+pub fn events_go_on()
+    ensures { In_every_run Goes_between }
 {}
