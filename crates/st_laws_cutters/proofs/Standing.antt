@@ -45,7 +45,7 @@ of_lease (Demand i g to) e = cc
 of_lease Other_epoch e = cc
 
 -- A living client, at a server that serves a session of it: of that life, and in the server's epoch.
-meets : (k : Config) (a : Assoc) → Invariant k a → a.s.up ≡ true → a.s.live ≡ true → Alive k a.c → (a.s.session ≡ a.c.life) × (a.c.epoch ≡ a.s.epoch)
+pub meets : (k : Config) (a : Assoc) → Invariant k a → a.s.up ≡ true → a.s.live ≡ true → Alive k a.c → (a.s.session ≡ a.c.life) × (a.c.epoch ≡ a.s.epoch)
 meets k a inv up live alive = go a.s.grace refl
   where
     low : a.s.grace ≡ true → a.s.session ≡ a.s.glife → a.c.life ≤ a.s.glife

@@ -27,17 +27,17 @@ No_elder_writes w f =
     (n : ℕ) (y : IssuedCommand) (at : BlockAt) (tag : Tag) (bytes : List ℕ) → Living (Timely w) w.commands w.disks.commands n y at tag bytes →
     tag.file ≡ f → (row : LeaseLife) → ended_of w y.client y.server y.life ≡ Some row → row.crashed ≡ true → ⊥
 
--- and none of this client
-abbrev pub No_own_writes : World → FileId → ℕ → Type 0
-No_own_writes w f d =
+-- and none of this life of this client
+abbrev pub No_own_writes : World → FileId → ℕ → ℕ → Type 0
+No_own_writes w f d life =
     (n : ℕ) (y : IssuedCommand) (at : BlockAt) (tag : Tag) (bytes : List ℕ) → Living (Timely w) w.commands w.disks.commands n y at tag bytes →
-    tag.file ≡ f → y.client.0 ≡ d → (row : LeaseLife) → ended_of w y.client y.server y.life ≡ Some row → row.crashed ≡ true → ⊥
+    tag.file ≡ f → y.client.0 ≡ d → y.life.0 ≡ life → (row : LeaseLife) → ended_of w y.client y.server y.life ≡ Some row → row.crashed ≡ true → ⊥
 
--- none of the client that asks for it is on a file that a step cuts
+-- none of the life that asks for it is on a file that a step cuts
 abbrev pub Elders_uncut : Step → Type 0
 Elders_uncut x =
     (index : ℕ) (f : FileId) (p : PageNo) → Has (seen.CutAt index f p) x.seen → (c : Cut_in (counted x.before.world) f p) →
-    No_own_writes x.before.world f c.message.header.from
+    No_own_writes x.before.world f c.message.header.from c.message.header.life
 
 -- of what is taken
 abbrev pub Submits_left : Option Taking → Type 0
