@@ -9,3 +9,4 @@ pub mod Client
 pub mod Cutting
 pub mod Run
 pub mod Zeros
+pub mod Rows

@@ -64,13 +64,15 @@ use Rattle.st_laws_elders.proofs.Law.{alone, events_keep, first}
 use Rattle.st_laws_living.specs.Living.{Writes_hold}
 use Rattle.st_laws_living.proofs.Falling.{writes_fall}
 use Rattle.st_laws_living.proofs.Still.{writes_go_on}
-use Rattle.st_laws_submits.specs.Left.{In_runs_left_too, Pages_left}
+use Rattle.st_laws_cutters.proofs.Seen.{cuts_known}
+use Rattle.st_laws_submits.specs.Left.{In_runs_left_too, No_elder_writes, Pages_left}
 use Rattle.st_laws_submits.specs.Rest.{In_runs_of_rest, Is_rest, Taken_rest}
 use Rattle.st_laws_submits.proofs.Zeros.{left as left_of, left_stopped}
 use Rattle.st_laws_submits.specs.Submits.{Last_in}
 use Rattle.st_laws_submits.proofs.Client as client_step
 use Rattle.st_laws_submits.proofs.Cutting.{server_gives}
 use Rattle.st_laws_submits.proofs.Others.{last_still, others_last}
+use Rattle.st_laws_submits.proofs.Rows.{uncut_by}
 use Rattle.st_laws_submits.proofs.Taking.{Gives, owed_of, taken_in}
 use Rattle.st_laws_causes.proofs.Placed.{places_at}
 
@@ -238,11 +240,17 @@ module _ (past : List Step) (k : Config) (count : ℕ) (t : Traced) (s : Pages_s
             subst (λ (z : Scene). Last_in z.world z.world.log) (sym is)
             (others_last (known past) (counted w) e (λ c site f. let y = s.stood.copies c site f in record { servers = all_there site.node.state.associations y.servers; runs = y.runs; rests = y.rests }) q (free q) (last_still w (counted w) refl refl refl s.last))
 
+    uncut : (f : FileId) (p : PageNo) → (index : ℕ) × Has (seen.CutAt index f p) (happens (counted w) e).seen → No_elder_writes w f
+    uncut f p i =
+        let j = subst (λ (z : Scene). Has (seen.CutAt i.0 f p) z.seen) (sym is) i.1 in
+        let c = (cuts_known w e sc (λ v n at. (s.stood.waits v n at).id) took i.0 f p j).0 in
+        uncut_by k count w s.writes f p c (λ n y at tag bytes l. (s.pages.pages.carry n y at tag bytes l).server) (left_too.cuts i.0 f p j c)
+
     pages_v : PagesHold sc.world
     pages_v =
         pages_law w e sc took
         (owed_of (counted w) e gives
-        (server_gives (known past) k count w s.writes s.open_ s.stood.copies s.pages e free (λ f p i. left_too.cuts i.0 f p (subst (λ (z : Scene). Has (seen.CutAt i.0 f p) z.seen) (sym is) i.1))))
+        (server_gives (known past) k count w s.writes s.open_ s.stood.copies s.pages e free uncut))
         s.stood.all.fates.lives s.pages
 
     pub next : Kept past st × Pages_stand k count (past ++ st ∷ []) (traced_after e t sc)

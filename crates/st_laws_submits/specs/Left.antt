@@ -18,6 +18,7 @@ use Rattle.st_lemmas.specs.Lists.{Has}
 use Rattle.st_laws_pages.specs.World.{Living, Timely}
 use Rattle.st_laws_copies.specs.World.{Taking, taken}
 use Rattle.st_laws_elders.specs.Runs.{Is_left}
+use Rattle.st_laws_cutters.specs.Cut.{Cut_in}
 use Rattle.st_laws_submits.specs.Lies.{Submits_lie}
 
 -- no write of a life that a crash ended, which may have its effect, is on this file
@@ -26,9 +27,17 @@ No_elder_writes w f =
     (n : ℕ) (y : IssuedCommand) (at : BlockAt) (tag : Tag) (bytes : List ℕ) → Living (Timely w) w.commands w.disks.commands n y at tag bytes →
     tag.file ≡ f → (row : LeaseLife) → ended_of w y.client y.server y.life ≡ Some row → row.crashed ≡ true → ⊥
 
--- on none of the files that a step cuts
+-- and none of this life of this client
+abbrev pub No_own_writes : World → FileId → ℕ → ℕ → Type 0
+No_own_writes w f d life =
+    (n : ℕ) (y : IssuedCommand) (at : BlockAt) (tag : Tag) (bytes : List ℕ) → Living (Timely w) w.commands w.disks.commands n y at tag bytes →
+    tag.file ≡ f → y.client.0 ≡ d → y.life.0 ≡ life → (row : LeaseLife) → ended_of w y.client y.server y.life ≡ Some row → row.crashed ≡ true → ⊥
+
+-- none of the life that asks for it is on a file that a step cuts
 abbrev pub Elders_uncut : Step → Type 0
-Elders_uncut x = (index : ℕ) (f : FileId) (p : PageNo) → Has (seen.CutAt index f p) x.seen → No_elder_writes x.before.world f
+Elders_uncut x =
+    (index : ℕ) (f : FileId) (p : PageNo) → Has (seen.CutAt index f p) x.seen → (c : Cut_in (counted x.before.world) f p) →
+    No_own_writes x.before.world f c.message.header.from c.message.header.life
 
 -- of what is taken
 abbrev pub Submits_left : Option Taking → Type 0
