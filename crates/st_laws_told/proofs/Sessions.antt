@@ -1,5 +1,5 @@
 -- Where a session keeps a reply of extents after a change of the sessions, it was there before.
-use Rattle.std.proofs.Common.{◌≡◌, ℕ, ◌⊎◌, Bool, true, false, List, [], ◌∷◌, ◌==◌, refl, sym, ap, ◌∙◌, subst, inl, inr, if◌then◌else◌}
+use Rattle.std.proofs.Common.{◌≡◌, ℕ, ◌+◌, ◌⊎◌, Bool, true, false, List, [], ◌∷◌, ◌==◌, refl, sym, ap, ◌∙◌, subst, inl, inr, if◌then◌else◌}
 use Rattle.std.specs.Prelude.{Option, Some, None, nat_lt, option_map}
 use Rattle.std.proofs.lemmas.Bool.{eq-eqb, eqb-true}
 use Rattle.st_base.specs.declared.ids.ClientId.{ClientId}
@@ -10,6 +10,8 @@ use Rattle.st_messages.specs.declared.message.Body.TheVariants as bodies
 use Rattle.st_rules.specs.declared.sessions.Session.{Session}
 use Rattle.st_rules.specs.declared.sessions.SessionState.{SessionState}
 use Rattle.st_rules.specs.declared.sessions.SessionState.TheVariants as states
+use Rattle.st_rules.specs.declared.sessions.Taken.{Taken}
+use Rattle.st_rules.specs.declared.sessions.Taken.TheVariants as takes
 use Rattle.st_rules.specs.Sessions as sessions
 use Rattle.st_lemmas.proofs.Lookups.{some_is}
 use Rattle.st_lemmas.proofs.Puts.{find_put_by, find_put_other}
@@ -155,3 +157,28 @@ stored_rows t c number b d life n ino rows k = go (sessions.session_of t d) refl
     go : (o : Option Session) → sessions.session_of t d ≡ o → option_map (sessions.keep_of c number b) o ≡ Some k.session → Goal
     go None e f = no_some k.session f
     go (Some x) e f = at x e (sessions.is_session_of c x) refl f
+
+-- what is given again was kept under this number
+pub again_state : (b : Body) (number : ℕ) (x : SessionState) → sessions.take_state x number ≡ takes.Again b → x ≡ states.Live number (Some b)
+unfolding sessions.take_state sessions.take_number sessions.take_from sessions.take_next sessions.again
+again_state b number states.Ended e = cc
+again_state b number (states.Live last r) e = below (nat_lt number last) e
+  where
+    kept : (r2 : Option Body) → sessions.again r2 ≡ takes.Again b → r2 ≡ Some b
+    kept None q = cc
+    kept (Some d) q = ap Some (same d q)
+      where
+        same : (d : Body) → ◌≡◌ {A = Taken Body} (takes.Again d) (takes.Again b) → d ≡ b
+        same d q = cc
+
+    next : (z : Bool) → (if z then takes.Fresh else takes.OutOfOrder) ≡ takes.Again b → ⊥
+    next true q = cc
+    next false q = cc
+
+    from : (z : Bool) → (number == last) ≡ z → (if z then sessions.again r else sessions.take_next last number) ≡ takes.Again b → states.Live last r ≡ states.Live number (Some b)
+    from true f q = ap (λ n. states.Live n r) (sym (eqb-true number last f)) ∙ ap (λ y. states.Live number y) (kept r q)
+    from false f q = absurd (next (number == last + 1) q)
+
+    below : (z : Bool) → (if z then takes.Stale else sessions.take_from last r number) ≡ takes.Again b → states.Live last r ≡ states.Live number (Some b)
+    below true q = cc
+    below false q = from (number == last) refl q
