@@ -2,3 +2,5 @@ mod Sessions
 mod Rule
 mod Walk
 mod Step
+mod Held
+mod Serving
