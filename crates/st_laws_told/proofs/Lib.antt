@@ -4,3 +4,5 @@ mod Walk
 mod Step
 mod Held
 mod Serving
+mod Events
+mod Law

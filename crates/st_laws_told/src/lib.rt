@@ -1,10 +1,17 @@
 //! What the replies of a server tell of extents, in every run.
 #![tactic(auto)]
 
+ghost use Rattle.st_laws_told.specs.Law.{Asked_after, In_runs_asked};
 ghost use Rattle.st_laws_told.specs.Steps.{Steps_tell};
 
 /// A server's step leaves extents as they were, or as the rule of the one request leaves them that it serves; and each reply that it sends or
 /// keeps and that tells extents was kept before, or tells them as the step leaves them.
 pub fn steps_tell_extents()
     ensures { Steps_tell }
+{}
+
+/// In every run in which each outstanding request goes on under its lock, or is new: what a server sent or keeps in reply to an outstanding
+/// request for extents, whose lock the client holds under a lease that lasts, tells the extents that the server has.
+pub fn replies_tell_extents()
+    ensures { In_runs_asked Asked_after }
 {}

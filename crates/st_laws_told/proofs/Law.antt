@@ -1,0 +1,181 @@
+-- Replies tell the present extents: at the start, behind every event, and over whole runs.
+use Rattle.std.proofs.Common.{◌≡◌, ◌≢◌, ◌⊎◌, ℕ, ◌+◌, Bool, true, false, List, [], ◌∷◌, ◌++◌, Option, Some, None, Ok, Err, refl, sym, ap, ◌∙◌, subst, inl, inr, arith}
+use Rattle.std.specs.Prelude.{Result}
+use Rattle.std.specs.List.{list_all}
+use Rattle.st_base.specs.declared.config.Config as base
+use Rattle.st_base.specs.declared.ids.NodeId.TheVariants as nodes
+use Rattle.st_base.specs.declared.ids.ServerId.{ServerId}
+use Rattle.st_base.specs.declared.rows.ExtentRow.{ExtentRow}
+use Rattle.st_messages.specs.declared.event.Event.{Event}
+use Rattle.st_messages.specs.declared.message.Message.{Message}
+use Rattle.st_messages.specs.declared.output.Output.TheVariants as outputs
+use Rattle.st_rules.specs.declared.client.Request.{Request}
+use Rattle.st_rules.specs.declared.observation.WorldRefusal.{WorldRefusal}
+use Rattle.st_rules.specs.ClientState.{Association, ClientSession}
+use Rattle.st_rules.specs.Events.{Scene, world_step}
+use Rattle.st_rules.specs.History.{Traced, traced, traced_after}
+use Rattle.st_rules.specs.Keys.{client, server_node}
+use Rattle.st_rules.specs.Safety as safety
+use Rattle.st_rules.specs.Safety.{IsHead, Promise, Step, Throughout, is_event, step, steps}
+use Rattle.st_rules.specs.Server.{ServerNode, Turn, server_step}
+use Rattle.st_rules.specs.World.{ClientSite, World, clock_of, fresh_world, node_of, numbered, with_numbered}
+use Rattle.st_assoc.specs.Assoc.{Config}
+use Rattle.st_lemmas.specs.Lists.{Has}
+use Rattle.st_lemmas.proofs.Lookups.{some_is}
+use Rattle.st_lemmas.proofs.Numbers.{numbered_below, numbered_other, numbered_own}
+use Rattle.st_lemmas.proofs.Tables.{and_true, same_or_not}
+use Rattle.st_laws_client.specs.Shown.{Lasts}
+use Rattle.st_laws_pages.specs.Lives.{clock_in}
+use Rattle.st_laws_dates.specs.Dates.{messages}
+use Rattle.st_laws_reads.specs.Law.{Running}
+use Rattle.st_laws_server.specs.Pair.{terms_of}
+use Rattle.st_laws_cutters.proofs.Law as cutters
+use Rattle.st_laws_told.specs.Events.{Event_tells, Node_stays, Server_steps, Stays}
+use Rattle.st_laws_told.specs.Law.{Asked_after, In_runs_asked, Is_asked, Requests_go, Untold, Was_asked}
+use Rattle.st_laws_told.specs.Steps.{Kept_rows, Tells_rows}
+use Rattle.st_laws_told.specs.Told.{Asked_at, Asked_right, Replies_right, Replies_to}
+use Rattle.st_laws_told.proofs.Events.{event_tells}
+use Rattle.st_laws_told.proofs.Serving.{is_kept, is_sent, was_sent}
+use Rattle.st_laws_told.proofs.Step.{step_tells}
+
+server_same : (s r : ServerId) → s.0 ≡ r.0 → s ≡ r
+server_same s r e = ap (λ n. record { 0 = n }) e
+
+-- the same request in another view of its association
+replies_then : (c : ℕ) (a b : Association) (x y : ClientSession) (q : Request) (m : Message) (ino : ℕ) (rows : List ExtentRow) → b.server ≡ a.server → b.life.0 ≡ a.life.0 → y.epoch.0 ≡ x.epoch.0 → Replies_to c a x q m ino rows → Replies_to c b y q m ino rows
+replies_then c a b x y q m ino rows s l e r = record { from = r.from ∙ ap server_node (sym s); to = r.to; of_life = r.of_life ∙ sym l; of_epoch = r.of_epoch ∙ sym e; under = r.under; body = r.body }
+
+-- Where no server takes a step.
+module _ (w v : World) (stays : Stays w v) (right : Asked_right w) where
+  still : Requests_go w v → Asked_right v
+  still go c site a x q z p at = by (go c site a x q z)
+    where
+      n : (n : ServerNode) × (node_of w a.server ≡ Some n) × Node_stays n p
+      n = stays.nodes a.server p at
+
+      by : Was_asked w c a x q ⊎ Untold w c a x q → Replies_right v c a x q p
+      by (inr u) =
+          record {
+            sent = λ m ino rows h r. absurd (u.sent m ino rows (stays.messages m h a.server r.from) r);
+            kept = λ run ino rows k. let y = n.2.kept run (client c) a.life.0 q.number ino rows k in absurd (u.kept n.0 n.1 y.0 ino rows y.1);
+          }
+      by (inl o) =
+          record {
+            sent = λ m ino rows h r. told ino rows (old.sent m ino rows (stays.messages m h a.server r.from) (replies_then c a o.by x o.session q m ino rows o.server o.life o.epoch r));
+            kept = λ run ino rows k. let y = n.2.kept run (client c) a.life.0 q.number ino rows k in told ino rows (old.kept y.0 ino rows (subst (λ l. Kept_rows n.0.state.sessions (client c) l q.number ino rows) (sym o.life) y.1));
+          }
+        where
+          old : Replies_right w c o.by o.session q n.0
+          old = right c o.site o.by o.session q o.at n.0 (ap (node_of w) o.server ∙ n.1)
+
+          told : (ino : ℕ) (rows : List ExtentRow) → Tells_rows o.by.server n.0.state.stable.extents q.body ino rows → Tells_rows a.server p.state.stable.extents q.body ino rows
+          told ino rows y = subst (λ e. Tells_rows a.server e q.body ino rows) (sym n.2.extents) (subst (λ s. Tells_rows s n.0.state.stable.extents q.body ino rows) o.server y)
+
+-- Where a server does.
+module _ (k : Config) (count : ℕ) (past : List Step) (t : Traced) (h : cutters.Hold k count past t) (v : World) (y : Server_steps t.world v) (right : Asked_right t.world) where
+  abbrev u : Turn
+  u = server_step y.node.state y.now y.input
+
+  abbrev next : ServerNode
+  next = record y.node { state = u.state }
+
+  asked_then : (c : ℕ) (site : ClientSite) (a : Association) (x : ClientSession) (q : Request) → Asked_at v c site a x q → Asked_at t.world c site a x q
+  asked_then c site a x q z =
+      record {
+        run = record { there = ap (λ xs. numbered xs c) (sym y.clients) ∙ z.run.there; runs = z.run.runs };
+        has = z.has;
+        session = z.session;
+        lasts = subst (λ ts. Lasts site.node.state.config.lease (clock_in ts (client c)).0 a.session) y.clocks z.lasts;
+        asked = z.asked;
+        current = z.current;
+      }
+
+  served : Asked_right v
+  served c site a x q z p at = go (same_or_not a.server.0 y.server.0)
+    where
+      was : Asked_at t.world c site a x q
+      was = asked_then c site a x q z
+
+      found : numbered (with_numbered y.server.0 next t.world.servers) a.server.0 ≡ Some p
+      found = ap (λ xs. numbered xs a.server.0) (sym y.servers) ∙ at
+
+      here : y.server ≡ a.server → p ≡ next → Replies_right v c a x q p
+      here e n = subst (Replies_right v c a x q) (sym n) (record { sent = λ m ino rows i r. sent m ino rows r (y.messages m i); kept = λ run ino rows j. is_kept k count past t h y.node y.running y.input u tells y.comes c site a x q was there old ino rows j })
+        where
+          there : node_of t.world a.server ≡ Some y.node
+          there = ap (node_of t.world) (sym e) ∙ y.there
+
+          old : Replies_right t.world c a x q y.node
+          old = right c site a x q was y.node there
+
+          tells : Rattle.st_laws_told.specs.Steps.Step_tells y.node.state y.input u
+          tells = step_tells y.node.state y.now y.input
+
+          sent : (m : Message) (ino : ℕ) (rows : List ExtentRow) → Replies_to c a x q m ino rows → Has m (messages t.world) ⊎ Has (outputs.Send m) u.out → Tells_rows a.server u.state.stable.extents q.body ino rows
+          sent m ino rows r (inl i) = was_sent k count past t h y.node y.running y.input u tells y.comes c site a x q was there old m ino rows i r
+          sent m ino rows r (inr i) = is_sent k count past t h y.node y.running y.input u tells y.comes c site a x q was there old m ino rows i r
+
+      other : a.server.0 ≢ y.server.0 → Replies_right v c a x q p
+      other n = record { sent = λ m ino rows i r. sent m ino rows r (y.messages m i); kept = λ run ino rows j. old.kept run ino rows j }
+        where
+          there : node_of t.world a.server ≡ Some p
+          there = sym (numbered_other t.world.servers y.server.0 a.server.0 next (numbered_below t.world.servers y.server.0 y.node y.there).0 n) ∙ found
+
+          old : Replies_right t.world c a x q p
+          old = right c site a x q was p there
+
+          sent : (m : Message) (ino : ℕ) (rows : List ExtentRow) → Replies_to c a x q m ino rows → Has m (messages t.world) ⊎ Has (outputs.Send m) u.out → Tells_rows a.server p.state.stable.extents q.body ino rows
+          sent m ino rows r (inl i) = old.sent m ino rows i r
+          sent m ino rows r (inr i) = absurd (n (number a.server.0 y.server.0 (sym r.from ∙ y.says m i)))
+            where
+              number : (i j : ℕ) → 32768 + i ≡ 32768 + j → i ≡ j
+              number i j e = omega (arith, e)
+
+      go : (a.server.0 ≡ y.server.0) ⊎ (a.server.0 ≢ y.server.0) → Replies_right v c a x q p
+      go (inl e) = here (server_same y.server a.server (sym e)) (some_is (sym found ∙ ap (numbered (with_numbered y.server.0 next t.world.servers)) e ∙ numbered_own t.world.servers y.server.0 next y.node y.there))
+      go (inr n) = other n
+
+-- What stands behind every event.
+pub record Hold (k : Config) (count : ℕ) (past : List Step) (t : Traced) : Type 0 where
+  pub asks : cutters.Hold k count past t
+  pub right : Asked_right t.world
+
+module _ (k : Config) (count : ℕ) (past : List Step) (t : Traced) (e : Event) (sc : Scene) (ranges : is_event count e ≡ true) (h : Hold k count past t) (is : world_step t.world e ≡ Ok sc) (go : Is_asked past (step t e sc)) where
+  pub next_hold : Hold k count (past ++ step t e sc ∷ []) (traced_after e t sc)
+  next_hold = record { asks = (cutters.one k count past t e sc ranges h.asks is).1; right = by (event_tells past t h.asks.replies h.asks.cuts.few e sc (cutters.owed k count past t e sc ranges h.asks is) is) }
+    where
+      by : Event_tells t.world sc.world → Asked_right sc.world
+      by (inl s) = still t.world sc.world s h.right go
+      by (inr s) = served k count past t h.asks sc.world s h.right
+
+run : (k : Config) (count : ℕ) (es : List Event) → list_all (is_event count) es ≡ true → (past : List Step) (t : Traced) → Hold k count past t → Throughout Is_asked past (steps es t) → Throughout Asked_after past (steps es t)
+unfolding steps safety.steps_on Throughout
+run k count [] all past t s d = tt
+run k count (e ∷ es) all past t s d = go (world_step t.world e) refl d (λ past t. run k count es (and_true (is_event count e) (list_all (is_event count) es) all).1 past t)
+  where
+    go : (r : Result Scene WorldRefusal) → world_step t.world e ≡ r → Throughout Is_asked past (safety.steps_on (steps es) t e r) →
+        ((past : List Step) (t : Traced) → Hold k count past t → Throughout Is_asked past (steps es t) → Throughout Asked_after past (steps es t)) → Throughout Asked_after past (safety.steps_on (steps es) t e r)
+    go (Err r) q d f = tt
+    go (Ok sc) q d f =
+        let z = next_hold k count past t e sc (and_true (is_event count e) (list_all (is_event count) es) all).0 s q d.0 in
+        (z.right, f (past ++ step t e sc ∷ []) (traced_after e t sc) z d.1)
+
+-- at the start no client has a session
+fresh_right : (k : base.Config) (clients servers disks blocks form : ℕ) → Asked_right (fresh_world k clients servers disks blocks form)
+unfolding fresh_world Rattle.st_rules.specs.Client.fresh_client
+fresh_right k clients servers disks blocks form c site a x q z node at =
+    record { sent = λ m ino rows i r. absurd i; kept = λ run ino rows j. absurd (none x (sym no ∙ z.session)) }
+  where
+    no : a.session ≡ None
+    no =
+        let y = Rattle.st_lemmas.proofs.Tables.has_map Rattle.st_rules.specs.Client.fresh_association (Rattle.st_rules.specs.Extents.numbers 1 servers) a
+            (subst (λ (s : ClientSite). Has a s.node.state.associations) (Rattle.st_laws_causes.proofs.Law.site_is k clients servers c site z.run.there).0 z.has) in
+        ap (λ (b : Association). b.session) y.2
+
+    none : (x : ClientSession) → ◌≡◌ {A = Option ClientSession} None (Some x) → ⊥
+    none x e = cc
+
+pub asked : In_runs_asked Asked_after
+asked k clients servers disks blocks form es head events go =
+    run (terms_of k) (clients + servers) es events [] (traced (fresh_world k clients servers disks blocks form))
+    (record { asks = cutters.first k clients servers disks blocks form head; right = fresh_right k clients servers disks blocks form }) go

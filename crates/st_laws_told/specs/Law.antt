@@ -1,0 +1,55 @@
+-- Replies tell the present extents, over whole runs.
+use Rattle.std.specs.Prelude.{◌≡◌, ◌+◌, ℕ, true, List, [], Some}
+use Rattle.std.proofs.Common.{◌⊎◌}
+use Rattle.std.specs.List.{list_all}
+use Rattle.st_base.specs.declared.config.Config.{Config}
+use Rattle.st_base.specs.declared.rows.ExtentRow.{ExtentRow}
+use Rattle.st_messages.specs.declared.event.Event.{Event}
+use Rattle.st_messages.specs.declared.message.Message.{Message}
+use Rattle.st_rules.specs.declared.client.Request.{Request}
+use Rattle.st_rules.specs.ClientState.{Association, ClientSession}
+use Rattle.st_rules.specs.History.{traced}
+use Rattle.st_rules.specs.Keys.{client}
+use Rattle.st_rules.specs.Safety.{IsHead, Promise, Throughout, is_event, steps}
+use Rattle.st_rules.specs.Server.{ServerNode}
+use Rattle.st_rules.specs.World.{ClientSite, World, fresh_world, node_of}
+use Rattle.st_lemmas.specs.Lists.{Has}
+use Rattle.st_laws_dates.specs.Dates.{messages}
+use Rattle.st_laws_told.specs.Steps.{Kept_rows}
+use Rattle.st_laws_told.specs.Told.{Asked_at, Asked_right, Replies_to}
+
+-- a request was outstanding before, at the same server in the same life and epoch, under a lock that was held
+pub record Was_asked (w : World) (c : ℕ) (a : Association) (x : ClientSession) (q : Request) : Type 0 where
+  pub site : ClientSite
+  pub by : Association
+  pub session : ClientSession
+  pub at : Asked_at w c site by session q
+  pub server : by.server ≡ a.server
+  pub life : by.life.0 ≡ a.life.0
+  pub epoch : session.epoch.0 ≡ x.epoch.0
+
+-- no reply of extents was sent or kept under the number of a request
+pub record Untold (w : World) (c : ℕ) (a : Association) (x : ClientSession) (q : Request) : Type 0 where
+  pub sent : (m : Message) (ino : ℕ) (rows : List ExtentRow) → Has m (messages w) → Replies_to c a x q m ino rows → ⊥
+  pub kept : (node : ServerNode) → node_of w a.server ≡ Some node → node.running ≡ true → (ino : ℕ) (rows : List ExtentRow) →
+      Kept_rows node.state.sessions (client c) a.life.0 q.number ino rows → ⊥
+
+-- What is left at a step: a request that is outstanding behind it under a lock that is held was so before, or nothing was told of it.
+abbrev pub Requests_go : World → World → Type 0
+Requests_go w v = (c : ℕ) (site : ClientSite) (a : Association) (x : ClientSession) (q : Request) → Asked_at v c site a x q → Was_asked w c a x q ⊎ Untold w c a x q
+
+-- at a step
+abbrev pub Is_asked : Promise
+Is_asked past x = Requests_go x.before.world x.after.world
+
+-- behind a step
+abbrev pub Asked_after : Promise
+Asked_after past x = Asked_right x.after.world
+
+-- A promise is kept in every run in which requests go on so.
+abbrev pub In_runs_asked : Promise → Type 0
+In_runs_asked promise =
+    (k : Config) (clients servers disks blocks form : ℕ) (es : List Event) → IsHead k clients servers disks blocks form →
+    list_all (is_event (clients + servers)) es ≡ true →
+    Throughout Is_asked [] (steps es (traced (fresh_world k clients servers disks blocks form))) →
+    Throughout promise [] (steps es (traced (fresh_world k clients servers disks blocks form)))
