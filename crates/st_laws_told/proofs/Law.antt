@@ -148,17 +148,18 @@ module _ (k : Config) (count : ℕ) (past : List Step) (t : Traced) (e : Event) 
       by (inl s) = still t.world sc.world s h.right go
       by (inr s) = served k count past t h.asks sc.world s h.right
 
-run : (k : Config) (count : ℕ) (es : List Event) → list_all (is_event count) es ≡ true → (past : List Step) (t : Traced) → Hold k count past t → Throughout Is_asked past (steps es t) → Throughout Asked_after past (steps es t)
-unfolding steps safety.steps_on Throughout
-run k count [] all past t s d = tt
-run k count (e ∷ es) all past t s d = go (world_step t.world e) refl d (λ past t. run k count es (and_true (is_event count e) (list_all (is_event count) es) all).1 past t)
-  where
-    go : (r : Result Scene WorldRefusal) → world_step t.world e ≡ r → Throughout Is_asked past (safety.steps_on (steps es) t e r) →
-        ((past : List Step) (t : Traced) → Hold k count past t → Throughout Is_asked past (steps es t) → Throughout Asked_after past (steps es t)) → Throughout Asked_after past (safety.steps_on (steps es) t e r)
-    go (Err r) q d f = tt
-    go (Ok sc) q d f =
-        let z = next_hold k count past t e sc (and_true (is_event count e) (list_all (is_event count) es) all).0 s q d.0 in
-        (z.right, f (past ++ step t e sc ∷ []) (traced_after e t sc) z d.1)
+module _ (promise : Promise) (pick : (k : Config) (count : ℕ) (past : List Step) (t : Traced) (e : Event) (sc : Scene) → Hold k count past t → Hold k count (past ++ step t e sc ∷ []) (traced_after e t sc) → promise past (step t e sc)) where
+  run : (k : Config) (count : ℕ) (es : List Event) → list_all (is_event count) es ≡ true → (past : List Step) (t : Traced) → Hold k count past t → Throughout Is_asked past (steps es t) → Throughout promise past (steps es t)
+  unfolding steps safety.steps_on Throughout
+  run k count [] all past t s d = tt
+  run k count (e ∷ es) all past t s d = go (world_step t.world e) refl d (λ past t. run k count es (and_true (is_event count e) (list_all (is_event count) es) all).1 past t)
+    where
+      go : (r : Result Scene WorldRefusal) → world_step t.world e ≡ r → Throughout Is_asked past (safety.steps_on (steps es) t e r) →
+          ((past : List Step) (t : Traced) → Hold k count past t → Throughout Is_asked past (steps es t) → Throughout promise past (steps es t)) → Throughout promise past (safety.steps_on (steps es) t e r)
+      go (Err r) q d f = tt
+      go (Ok sc) q d f =
+          let z = next_hold k count past t e sc (and_true (is_event count e) (list_all (is_event count) es) all).0 s q d.0 in
+          (pick k count past t e sc s z, f (past ++ step t e sc ∷ []) (traced_after e t sc) z d.1)
 
 -- at the start no client has a session
 fresh_right : (k : base.Config) (clients servers disks blocks form : ℕ) → Asked_right (fresh_world k clients servers disks blocks form)
@@ -175,7 +176,11 @@ fresh_right k clients servers disks blocks form c site a x q z node at =
     none : (x : ClientSession) → ◌≡◌ {A = Option ClientSession} None (Some x) → ⊥
     none x e = cc
 
-pub asked : In_runs_asked Asked_after
-asked k clients servers disks blocks form es head events go =
-    run (terms_of k) (clients + servers) es events [] (traced (fresh_world k clients servers disks blocks form))
+-- over whole runs
+pub in_runs : (promise : Promise) → ((k : Config) (count : ℕ) (past : List Step) (t : Traced) (e : Event) (sc : Scene) → Hold k count past t → Hold k count (past ++ step t e sc ∷ []) (traced_after e t sc) → promise past (step t e sc)) → In_runs_asked promise
+in_runs promise pick k clients servers disks blocks form es head events go =
+    run promise pick (terms_of k) (clients + servers) es events [] (traced (fresh_world k clients servers disks blocks form))
     (record { asks = cutters.first k clients servers disks blocks form head; right = fresh_right k clients servers disks blocks form }) go
+
+pub asked : In_runs_asked Asked_after
+asked = in_runs Asked_after (λ k count past t e sc before after. after.right)

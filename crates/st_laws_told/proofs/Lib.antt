@@ -6,3 +6,4 @@ mod Held
 mod Serving
 mod Events
 mod Law
+mod Heard

@@ -1,6 +1,7 @@
 //! What the replies of a server tell of extents, in every run.
 #![tactic(auto)]
 
+ghost use Rattle.st_laws_extents.specs.Law.{Is_told, Known_after, Submits_at};
 ghost use Rattle.st_laws_told.specs.Law.{Asked_after, In_runs_asked};
 ghost use Rattle.st_laws_told.specs.Steps.{Steps_tell};
 
@@ -12,6 +13,14 @@ pub fn steps_tell_extents()
 
 /// In every run in which each outstanding request goes on under its lock, or is new: what a server sent or keeps in reply to an outstanding
 /// request for extents, whose lock the client holds under a lease that lasts, tells the extents that the server has.
-pub fn replies_tell_extents()
+pub fn replies_tell_present_extents()
     ensures { In_runs_asked Asked_after }
+{}
+
+/// In every such run each reply of extents that a client hears, to its outstanding request, under the lock under which it asked, tells the
+/// extents that the server has; what clients know of where pages lie is so; and each write that is submitted goes to there.
+pub fn known_extents_are_told()
+    ensures told { In_runs_asked Is_told }
+    ensures known { In_runs_asked Known_after }
+    ensures submits { In_runs_asked Submits_at }
 {}

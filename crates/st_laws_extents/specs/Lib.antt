@@ -1,0 +1,5 @@
+pub mod Known
+pub mod Lies
+pub mod Law
+pub mod Told
+pub mod Current
