@@ -6,7 +6,9 @@ use Rattle.st_base.specs.declared.ids.ClientId.{ClientId}
 use Rattle.st_base.specs.declared.ids.FileId.{FileId}
 use Rattle.st_base.specs.declared.ids.NodeId.{NodeId}
 use Rattle.st_base.specs.declared.ids.NodeId.TheVariants as nodes
+use Rattle.st_base.specs.declared.ids.GrantNo.{GrantNo}
 use Rattle.st_base.specs.declared.ids.PageNo.{PageNo}
+use Rattle.st_base.specs.declared.ids.ServerId.{ServerId}
 use Rattle.st_base.specs.declared.rows.ExtentRow.{ExtentRow}
 use Rattle.st_messages.specs.declared.ask.Ask.{Ask}
 use Rattle.st_messages.specs.declared.event.Event.{Event}
@@ -54,6 +56,7 @@ use Rattle.st_laws_told.specs.Told.{Asked_at, Asked_right, Replies_right, Replie
 use Rattle.st_laws_extents.specs.Law.{Is_told, Known_after, Submits_at}
 use Rattle.st_laws_extents.proofs.Law as extents_law
 use Rattle.st_laws_told.specs.Law.{In_runs_asked}
+use Rattle.st_laws_told.specs.Maps.{Input_mapped, Maps_at, Maps_told, Taken_mapped}
 use Rattle.st_laws_told.proofs.Law.{Hold, in_runs}
 
 -- a row of a list of rows is of a page that has it
@@ -71,6 +74,9 @@ has_row {A} {B} f (x ∷ xs) y i = go (f x) refl (λ j. has_row f xs y j)
         by : (y ≡ z) ⊎ Has y (filter_map f xs) → (x : A) × (f x ≡ Some y)
         by (inl q) = (x, e ∙ ap Some (sym q))
         by (inr j) = more j
+
+filter_one : {A B : Type 0} (f : A → Option B) (x : A) (y : B) → f x ≡ Some y → filter_map f (x ∷ []) ≡ y ∷ []
+filter_one f x y e = grind (arith, e)
 
 -- a told row lies so
 row_lies : (x : Extents) (f : FileId) (p : PageNo) (n : ℕ) (r : ExtentRow) → Has r (extents.extent_rows x f p n) → Lies_as (extents.extent_of x f r.page) (told_at r)
@@ -103,6 +109,29 @@ node_to n c = at (nat_le n 16)
         client_is : (d c : ClientId) → nodes.Client d ≡ nodes.Client c → d.0 ≡ c.0
         client_is d c e = cc
     at false e = cc e
+
+-- where no row is told of one page, it has no block
+no_row : (x : Extents) (f : FileId) (p : PageNo) → [] ≡ extents.extent_rows x f p 1 → extents.extent_of x f p ≡ None
+unfolding extents.extent_rows extents.numbers
+no_row x f p e = go (extents.extent_of x f p) refl
+  where
+    full : (r : ExtentRow) → [] ≡ r ∷ [] → ⊥
+    full r z = cc
+
+    go : (o : Option Extent) → extents.extent_of x f p ≡ o → extents.extent_of x f p ≡ None
+    go None z = z
+    go (Some y) z = absurd (full (extents.extent_row y) (e ∙ rows))
+      where
+        row : extents.extent_row_at x f p ≡ Some (extents.extent_row y)
+        row = ap (option_map extents.extent_row) z
+
+        rows : filter_map (extents.extent_row_at x f) (p ∷ []) ≡ extents.extent_row y ∷ []
+        rows = filter_one (extents.extent_row_at x f) p (extents.extent_row y) row
+
+unmapped : (x : Extents) (s : ServerId) (ino : ℕ) (g : GrantNo) (p : PageNo) → Tells_rows s x (bodies.Map ino g p) ino [] → extents.extent_of x (file_of s ino) p ≡ None
+unmapped x s ino g p t =
+    no_row x (file_of s ino) p
+    (t.are ∙ ap (λ q. extents.extent_rows x (file_of s ino) q t.count) (sym t.asks.1) ∙ ap (λ n. extents.extent_rows x (file_of s ino) p n) t.asks.2)
 
 -- a message that is taken was sent, to this client
 pub record Comes (w : World) (x : Taking) (m : Message) : Type 0 where
@@ -179,8 +208,15 @@ module _ (k : Config) (count : ℕ) (past : List Step) (t : Traced) (h : Hold k 
   takes : Takes (counted t.world) (happens (counted t.world) e) x
   takes = takes_event (counted t.world) e x q
 
-  told : (m : Message) → x.input ≡ inputs.Control m → Told_right x m.header m.body
-  told m i a among s r ino rows session from life epoch asked body counting current row has = go node
+  -- what a counting reply tells is what its server has
+  record Present (a : Association) (r : Request) (ino : ℕ) (rows : List ExtentRow) : Type 0 where
+    node : Rattle.st_rules.specs.Server.ServerNode
+    there : node_of x.world a.server ≡ Some node
+    tells : Tells_rows a.server node.state.stable.extents r.body ino rows
+
+  present : (m : Message) → x.input ≡ inputs.Control m → (a : Association) → Has a (losses (client_turn x.site.node.state []) (now_at x)).state.associations → (s : ClientSession) (r : Request) (ino : ℕ) (rows : List ExtentRow) → a.session ≡ Some s → m.header.from ≡ server_node a.server →
+      m.header.life ≡ a.life.0 → m.header.epoch ≡ s.epoch.0 → s.requests.asked ≡ Some r → m.body ≡ bodies.Extents ino rows → is_counting m.header.number m.body r ≡ true → is_current s.locks r.body ≡ true → Present a r ino rows
+  present m i a among s r ino rows session from life epoch asked body counting current = go node
     where
       c : Comes t.world x m
       c = comes t.world e x m q i
@@ -194,11 +230,11 @@ module _ (k : Config) (count : ℕ) (past : List Step) (t : Traced) (h : Hold k 
       runs : takes.old.node.running ≡ true
       runs = by takes.old.node.running refl
         where
-          none : ◌≡◌ {A = Option ClientSession} None (Some s) → {A : Type 0} → A
+          none : {A : Type 0} → ◌≡◌ {A = Option ClientSession} None (Some s) → A
           none z = cc
 
-          by : (o : Bool) → takes.old.node.running ≡ o → takes.old.node.running ≡ true
-          by true z = z
+          by : (o : Bool) → takes.old.node.running ≡ o → o ≡ true
+          by true z = refl
           by false z = none (sym ((h.asks.all.fates.lives.lives.sites x.client takes.old takes.there).stopped z a was).session ∙ session)
 
       at : Asked_at t.world x.client.0 takes.old a s r
@@ -216,19 +252,29 @@ module _ (k : Config) (count : ℕ) (past : List Step) (t : Traced) (h : Hold k 
       node : There t.world a.server
       node = h.asks.all.senders c.sent c.among a.server (ap (λ (z : Message). z.header.from) c.is ∙ from)
 
-      go : There t.world a.server → Lies_as (mapped_in x.world (file_at a.server ino) row.page) (told_at row)
-      go n = subst (λ o. Lies_as (mapped_at (file_at a.server ino) row.page o) (told_at row)) (sym there) (row_lies n.node.state.stable.extents (file_of a.server ino) right.page right.count row (subst (λ zs. Has row zs) right.are has))
-        where
-          there : node_of x.world a.server ≡ Some n.node
-          there = ap (λ ns. numbered ns a.server.0) takes.servers ∙ n.is
+      number : m.header.number ≡ r.number
+      number = sym (eqb-true r.number m.header.number (and_true (r.number == m.header.number) (fits m.body r.body) counting).0)
 
-          number : m.header.number ≡ r.number
-          number = sym (eqb-true r.number m.header.number (and_true (r.number == m.header.number) (fits m.body r.body) counting).0)
+      go : There t.world a.server → Present a r ino rows
+      go n =
+          record {
+            node = n.node;
+            there = ap (λ ns. numbered ns a.server.0) takes.servers ∙ n.is;
+            tells = (h.right x.client.0 takes.old a s r at n.node n.is).sent m ino rows (subst (λ z. Has z (messages t.world)) c.is (has_map_in message_in t.world.net.messages c.sent c.among))
+                (record { from = from; to = c.to; of_life = life; of_epoch = epoch; under = number; body = body });
+          }
 
-          right : Tells_rows a.server n.node.state.stable.extents r.body ino rows
-          right =
-              (h.right x.client.0 takes.old a s r at n.node n.is).sent m ino rows (subst (λ z. Has z (messages t.world)) c.is (has_map_in message_in t.world.net.messages c.sent c.among))
-              (record { from = from; to = c.to; of_life = life; of_epoch = epoch; under = number; body = body })
+  told : (m : Message) → x.input ≡ inputs.Control m → Told_right x m.header m.body
+  told m i a among s r ino rows session from life epoch asked body counting current row has =
+      let n = present m i a among s r ino rows session from life epoch asked body counting current in
+      subst (λ o. Lies_as (mapped_at (file_at a.server ino) row.page o) (told_at row)) (sym n.there)
+      (row_lies n.node.state.stable.extents (file_of a.server ino) n.tells.page n.tells.count row (subst (λ zs. Has row zs) n.tells.are has))
+
+  maps : (m : Message) → x.input ≡ inputs.Control m → Maps_told x m.header m.body
+  maps m i a among s r ino g p session from life epoch asked map body counting current =
+      let n = present m i a among s r ino [] session from life epoch asked body counting current in
+      subst (λ o. mapped_at (file_at a.server ino) p o ≡ None) (sym n.there)
+      (unmapped n.node.state.stable.extents a.server ino g p (subst (λ b. Tells_rows a.server n.node.state.stable.extents b ino []) map n.tells))
 
 -- at a step
 module _ (k : Config) (count : ℕ) (past : List Step) (t : Traced) (h : Hold k count past t) (e : Event) where
@@ -242,7 +288,21 @@ module _ (k : Config) (count : ℕ) (past : List Step) (t : Traced) (h : Hold k 
   extents_told None q = tt
   extents_told (Some x) q = input_told x q x.input refl
 
+module _ (k : Config) (count : ℕ) (past : List Step) (t : Traced) (h : Hold k count past t) (e : Event) where
+  input_mapped : (x : Taking) → taken (counted t.world) e ≡ Some x → (i : ClientInput) → x.input ≡ i → Input_mapped x i
+  input_mapped x q (inputs.Control m) i = maps k count past t h e x q m i
+  input_mapped x q inputs.Tick i = tt
+  input_mapped x q (inputs.App op ask) i = tt
+  input_mapped x q (inputs.Done n r) i = tt
+
+  pub taken_mapped : (o : Option Taking) → taken (counted t.world) e ≡ o → Taken_mapped o
+  taken_mapped None q = tt
+  taken_mapped (Some x) q = input_mapped x q x.input refl
+
 -- In every run in which requests go on.
+pub maps_at : In_runs_asked Maps_at
+maps_at = in_runs Maps_at (λ k count past t e sc before after. taken_mapped k count past t before e (taken (counted t.world) e) refl)
+
 pub is_told : In_runs_asked Is_told
 is_told = in_runs Is_told (λ k count past t e sc before after. extents_told k count past t before e (taken (counted t.world) e) refl)
 

@@ -3,6 +3,7 @@
 
 ghost use Rattle.st_laws_extents.specs.Law.{Is_told, Known_after, Submits_at};
 ghost use Rattle.st_laws_told.specs.Law.{Asked_after, In_runs_asked};
+ghost use Rattle.st_laws_told.specs.Maps.{Maps_at};
 ghost use Rattle.st_laws_told.specs.Steps.{Steps_tell};
 
 /// A server's step leaves extents as they were, or as the rule of the one request leaves them that it serves; and each reply that it sends or
@@ -23,4 +24,10 @@ pub fn known_extents_are_told()
     ensures told { In_runs_asked Is_told }
     ensures known { In_runs_asked Known_after }
     ensures submits { In_runs_asked Submits_at }
+{}
+
+/// In every such run a map's reply that a client hears, under the lock under which it asked, and that tells of no block, is right: the server
+/// has none for the page.
+pub fn unmapped_pages_are_told()
+    ensures { In_runs_asked Maps_at }
 {}
