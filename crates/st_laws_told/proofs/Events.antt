@@ -45,7 +45,7 @@ use Rattle.st_rules.specs.Events.{cuts, sends, server_notes}
 use Rattle.st_messages.specs.declared.output.Note.{Note}
 use Rattle.st_messages.specs.declared.output.Note.TheVariants as notes
 use Rattle.st_messages.specs.declared.output.Output.{Output}
-use Rattle.st_laws_told.specs.Events.{Event_tells, Node_stays, Server_steps, Stays}
+use Rattle.st_laws_told.specs.Events.{Event_tells, Node_stays}
 use Rattle.st_laws_cutters.proofs.Lives.{Held, step_held}
 use Rattle.st_rules.specs.ClientState.{Association}
 use Rattle.st_laws_dates.proofs.Steps.{has_numbered}

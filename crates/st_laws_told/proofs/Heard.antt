@@ -1,5 +1,5 @@
 -- A reply that a client hears tells extents as their servers have them.
-use Rattle.std.proofs.Common.{◌≡◌, ◌⊎◌, ℕ, ◌+◌, ◌-◌, ◌≤◌, Bool, true, false, ◌&&◌, ◌==◌, List, [], ◌∷◌, Option, Some, None, refl, sym, ap, ◌∙◌, subst, inl, inr, arith, if◌then◌else◌}
+use Rattle.std.proofs.Common.{◌≡◌, ◌⊎◌, ℕ, ◌+◌, ◌-◌, Bool, true, false, ◌==◌, List, [], ◌∷◌, Option, Some, None, refl, sym, ap, ◌∙◌, subst, inl, inr, arith, if◌then◌else◌}
 use Rattle.std.specs.Prelude.{filter_map, option_map, nat_le}
 use Rattle.std.proofs.lemmas.Bool.{eqb-true}
 use Rattle.st_base.specs.declared.ids.ClientId.{ClientId}
@@ -32,27 +32,25 @@ use Rattle.st_rules.specs.Extents.{Extents}
 use Rattle.st_rules.specs.History.{Traced}
 use Rattle.st_rules.specs.Keys.{server_node}
 use Rattle.st_rules.specs.Safety.{Step}
-use Rattle.st_rules.specs.World.{ClientSite, World, clock_of, issued_of, message_of, node_of, node_at, numbered, receiver_of, server, site_of}
+use Rattle.st_rules.specs.World.{ClientSite, World, issued_of, message_of, node_of, node_at, numbered, receiver_of, server, site_of}
 use Rattle.st_assoc.specs.Assoc.{Config}
 use Rattle.st_lemmas.specs.Lists.{Has}
 use Rattle.st_lemmas.proofs.Lookups.{some_is}
 use Rattle.st_lemmas.proofs.Numbers.{numbered_has}
-use Rattle.st_lemmas.proofs.Steps.{step_happens}
 use Rattle.st_lemmas.proofs.Tables.{and_true, found_at, has_map_in}
 use Rattle.st_laws_client.specs.Shown.{Lasts}
 use Rattle.st_laws_pages.specs.Lives.{clock_in}
-use Rattle.st_laws_pages.specs.Losses.{Fit}
-use Rattle.st_laws_pages.specs.World.{mapped_at, mapped_in}
+use Rattle.st_laws_pages.specs.World.{mapped_at}
 use Rattle.st_laws.specs.World.{There}
 use Rattle.st_laws_copies.specs.Copies.{file_at}
 use Rattle.st_laws_copies.specs.World.{Taking, asking, hearing, hearing_of, now_at, taken, taking, told_of}
 use Rattle.st_laws_dates.specs.Dates.{message_in, messages}
 use Rattle.st_laws_reads.proofs.Behind.{Behind, behind}
 use Rattle.st_laws_reads.proofs.Takings.{Takes, takes_event}
-use Rattle.st_laws_extents.specs.Known.{Tells, told_at}
-use Rattle.st_laws_extents.specs.Lies.{Extents_told, Input_told, Lies_as, Told_right, lies}
+use Rattle.st_laws_extents.specs.Known.{told_at}
+use Rattle.st_laws_extents.specs.Lies.{Extents_told, Input_told, Lies_as, Told_right}
 use Rattle.st_laws_told.specs.Steps.{Tells_rows, file_of}
-use Rattle.st_laws_told.specs.Told.{Asked_at, Asked_right, Replies_right, Replies_to}
+use Rattle.st_laws_told.specs.Told.{Asked_at}
 use Rattle.st_laws_extents.specs.Law.{Is_told, Known_after, Submits_at}
 use Rattle.st_laws_extents.proofs.Law as extents_law
 use Rattle.st_laws_told.specs.Law.{In_runs_asked}

@@ -1,9 +1,8 @@
 -- Replies tell the present extents: at the start, behind every event, and over whole runs.
-use Rattle.std.proofs.Common.{◌≡◌, ◌≢◌, ◌⊎◌, ℕ, ◌+◌, Bool, true, false, List, [], ◌∷◌, ◌++◌, Option, Some, None, Ok, Err, refl, sym, ap, ◌∙◌, subst, inl, inr, arith}
+use Rattle.std.proofs.Common.{◌≡◌, ◌≢◌, ◌⊎◌, ℕ, ◌+◌, true, List, [], ◌∷◌, ◌++◌, Option, Some, None, Ok, Err, refl, sym, ap, ◌∙◌, subst, inl, inr, arith}
 use Rattle.std.specs.Prelude.{Result}
 use Rattle.std.specs.List.{list_all}
 use Rattle.st_base.specs.declared.config.Config as base
-use Rattle.st_base.specs.declared.ids.NodeId.TheVariants as nodes
 use Rattle.st_base.specs.declared.ids.ServerId.{ServerId}
 use Rattle.st_base.specs.declared.rows.ExtentRow.{ExtentRow}
 use Rattle.st_messages.specs.declared.event.Event.{Event}
@@ -18,7 +17,7 @@ use Rattle.st_rules.specs.Keys.{client, server_node}
 use Rattle.st_rules.specs.Safety as safety
 use Rattle.st_rules.specs.Safety.{IsHead, Promise, Step, Throughout, is_event, step, steps}
 use Rattle.st_rules.specs.Server.{ServerNode, Turn, server_step}
-use Rattle.st_rules.specs.World.{ClientSite, World, clock_of, fresh_world, node_of, numbered, with_numbered}
+use Rattle.st_rules.specs.World.{ClientSite, World, fresh_world, node_of, numbered, with_numbered}
 use Rattle.st_assoc.specs.Assoc.{Config}
 use Rattle.st_lemmas.specs.Lists.{Has}
 use Rattle.st_lemmas.proofs.Lookups.{some_is}
@@ -27,7 +26,6 @@ use Rattle.st_lemmas.proofs.Tables.{and_true, same_or_not}
 use Rattle.st_laws_client.specs.Shown.{Lasts}
 use Rattle.st_laws_pages.specs.Lives.{clock_in}
 use Rattle.st_laws_dates.specs.Dates.{messages}
-use Rattle.st_laws_reads.specs.Law.{Running}
 use Rattle.st_laws_server.specs.Pair.{terms_of}
 use Rattle.st_laws_cutters.proofs.Law as cutters
 use Rattle.st_laws_told.specs.Events.{Event_tells, Node_stays, Server_steps, Stays}
@@ -170,7 +168,7 @@ fresh_right k clients servers disks blocks form c site a x q z node at =
     no : a.session ≡ None
     no =
         let y = Rattle.st_lemmas.proofs.Tables.has_map Rattle.st_rules.specs.Client.fresh_association (Rattle.st_rules.specs.Extents.numbers 1 servers) a
-            (subst (λ (s : ClientSite). Has a s.node.state.associations) (Rattle.st_laws_causes.proofs.Law.site_is k clients servers c site z.run.there).0 z.has) in
+        (subst (λ (s : ClientSite). Has a s.node.state.associations) (Rattle.st_laws_causes.proofs.Law.site_is k clients servers c site z.run.there).0 z.has) in
         ap (λ (b : Association). b.session) y.2
 
     none : (x : ClientSession) → ◌≡◌ {A = Option ClientSession} None (Some x) → ⊥

@@ -1,12 +1,11 @@
 -- The rule of a request: what it leaves of sessions and extents, and what its reply tells.
-use Rattle.std.proofs.Common.{◌≡◌, ◌≢◌, ℕ, ◌⊎◌, Bool, true, false, ◌&&◌, List, [], ◌∷◌, ◌++◌, ◌==◌, refl, sym, ap, ◌∙◌, subst, inl, inr, if◌then◌else◌}
-use Rattle.std.specs.Prelude.{not, find, filter, length, nat_le, Option, Some, None, Result as Res, Ok, Err}
+use Rattle.std.proofs.Common.{◌≡◌, ◌≢◌, ℕ, ◌⊎◌, Bool, true, false, List, [], ◌∷◌, ◌==◌, refl, sym, ap, ◌∙◌, subst, inl, inr, if◌then◌else◌}
+use Rattle.std.specs.Prelude.{not, length, nat_le, Option, Some, None, Result as Res, Ok, Err}
 use Rattle.std.proofs.lemmas.Bool.{eqb-true}
 use Rattle.st_base.specs.declared.disk.BlockAt.{BlockAt}
 use Rattle.st_base.specs.declared.ids.FileId.{FileId}
 use Rattle.st_base.specs.declared.ids.GrantNo.{GrantNo}
 use Rattle.st_base.specs.declared.ids.PageNo.{PageNo}
-use Rattle.st_base.specs.declared.ids.ServerId.{ServerId}
 use Rattle.st_base.specs.declared.ids.Stamp.{Stamp}
 use Rattle.st_base.specs.declared.mode.Mode.{Mode}
 use Rattle.st_base.specs.declared.mode.Mode.TheVariants as modes
@@ -20,7 +19,6 @@ use Rattle.st_messages.specs.declared.message.Message.{Message}
 use Rattle.st_messages.specs.declared.message.NameOp.{NameOp}
 use Rattle.st_messages.specs.declared.message.NameOp.TheVariants.{Lookup, Create, Mkdir, Remove, Rename, List as ListFrom}
 use Rattle.st_messages.specs.declared.output.Note.TheVariants as notes
-use Rattle.st_messages.specs.declared.output.Output.{Output}
 use Rattle.st_messages.specs.declared.output.Output.TheVariants as outputs
 use Rattle.st_rules.specs.declared.extents.AllocateRefusal.TheVariants as wants
 use Rattle.st_rules.specs.declared.extents.Extent.{Extent}
@@ -40,7 +38,7 @@ use Rattle.st_rules.specs.Server.{Turn, Replied, rule, sender}
 use Rattle.st_lemmas.specs.Lists.{Has}
 use Rattle.st_lemmas.proofs.Tables.{and_true, find_before, find_kept, has_append}
 use Rattle.st_laws_told.specs.Steps.{Asks_extents, Changes_extents, Tells_rows, file_of}
-use Rattle.st_laws_told.proofs.Sessions.{clash, if_cases, if_either, no_some}
+use Rattle.st_laws_told.proofs.Sessions.{clash, if_cases, if_either}
 
 same : (f g : FileId) → same_file f g ≡ true → f ≡ g
 same f g e = let z = and_true (same_server f.server g.server) (f.ino == g.ino) e in ap (λ n. record { server = record { 0 = n }; ino = f.ino }) (eqb-true f.server.0 g.server.0 z.0) ∙ ap (λ n. record { server = g.server; ino = n }) (eqb-true f.ino g.ino z.1)
@@ -214,7 +212,7 @@ module _ (t : Turn) (h : Header) (b : Body) where
         sent = λ m j. go m (has_append u.out (outputs.Note (notes.CutDone (sv.file u i) p) ∷ []) (outputs.Send m) j);
         tells = λ ino rows e. absurd (none ino rows e);
         moves = inr (moved t h b (extents.release_from u.state.stable.extents (sv.file u i) p) g i holds changes
-                (λ f q d. others_released (sv.file u i) p u.state.stable.extents f q (λ e. d (e ∙ ap (λ s. file_of s i) id)) ∙ ap (λ x. extents.extent_of x f q) xs));
+            (λ f q d. others_released (sv.file u i) p u.state.stable.extents f q (λ e. d (e ∙ ap (λ s. file_of s i) id)) ∙ ap (λ x. extents.extent_of x f q) xs));
       }
     where
       go : (m : Message) → Has (outputs.Send m) u.out ⊎ Has (outputs.Send m) (outputs.Note (notes.CutDone (sv.file u i) p) ∷ []) → Has (outputs.Send m) t.out

@@ -1,10 +1,6 @@
 -- A server's step: replies to outstanding requests for extents tell the extents that it leaves.
-use Rattle.std.proofs.Common.{◌≡◌, ◌≢◌, ◌⊎◌, ℕ, ◌+◌, ◌≤◌, ◌<◌, List, Option, Some, None, true, refl, sym, ap, ◌∙◌, subst, inl, inr, arith}
+use Rattle.std.proofs.Common.{◌≡◌, ◌≢◌, ◌⊎◌, ℕ, ◌+◌, ◌≤◌, List, Option, Some, true, refl, sym, ap, ◌∙◌, subst, inl, inr, arith}
 use Rattle.st_base.specs.declared.ids.NodeId.TheVariants as nodes
-use Rattle.st_base.specs.declared.ids.PageNo.{PageNo}
-use Rattle.st_base.specs.declared.ids.ServerId.{ServerId}
-use Rattle.st_base.specs.declared.ids.Stamp.{Stamp}
-use Rattle.st_base.specs.declared.mode.Mode.TheVariants as modes
 use Rattle.st_base.specs.declared.rows.ExtentRow.{ExtentRow}
 use Rattle.st_base.specs.Mode.{number_of}
 use Rattle.st_messages.specs.declared.message.Body.{Body}
@@ -18,8 +14,6 @@ use Rattle.st_rules.specs.declared.sessions.Session.{Session}
 use Rattle.st_rules.specs.declared.sessions.SessionState.TheVariants as states
 use Rattle.st_rules.specs.ClientReplies.{is_current}
 use Rattle.st_rules.specs.ClientState.{Association, ClientSession}
-use Rattle.st_rules.specs.Extents as extents
-use Rattle.st_rules.specs.Extents.{Extents}
 use Rattle.st_rules.specs.History.{Traced}
 use Rattle.st_rules.specs.Keys.{client, server_node}
 use Rattle.st_rules.specs.Safety.{Step}
@@ -41,7 +35,7 @@ use Rattle.st_laws_cutters.proofs.Standing.{own_session}
 use Rattle.st_laws_dates.specs.Dates.{messages}
 use Rattle.st_laws_reads.specs.Law.{Running}
 use Rattle.st_laws_reads.proofs.Cutting.{unheld}
-use Rattle.st_laws_told.specs.Steps.{Answers_now, Asks_extents, Changed_now, Kept_rows, Served_anew, Step_tells, Tells_rows, Told_by, file_of}
+use Rattle.st_laws_told.specs.Steps.{Changed_now, Kept_rows, Served_anew, Step_tells, Tells_rows, Told_by, file_of}
 use Rattle.st_laws_told.specs.Told.{Asked_at, Replies_right, Replies_to}
 use Rattle.st_laws_told.proofs.Held.{current_mode, tells_same}
 use Rattle.st_laws_told.proofs.Sessions.{clash}

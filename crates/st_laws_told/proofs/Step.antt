@@ -1,5 +1,5 @@
 -- A server's whole step: what it leaves of extents, and what it sends and keeps of them.
-use Rattle.std.proofs.Common.{◌≡◌, ◌≢◌, ℕ, ◌⊎◌, Bool, true, false, List, [], ◌∷◌, ◌==◌, refl, sym, ap, ◌∙◌, subst, inl, inr, if◌then◌else◌}
+use Rattle.std.proofs.Common.{◌≡◌, ℕ, ◌⊎◌, Bool, true, false, List, [], ◌∷◌, ◌==◌, refl, sym, ap, ◌∙◌, subst, inl, inr, if◌then◌else◌}
 use Rattle.std.specs.Prelude.{not, Option, Some, None, option_map}
 use Rattle.std.proofs.lemmas.Bool.{eq-eqb, eqb-true}
 use Rattle.st_base.specs.declared.ids.ClientId.{ClientId}
@@ -7,8 +7,6 @@ use Rattle.st_base.specs.declared.ids.Epoch.{Epoch}
 use Rattle.st_base.specs.declared.ids.Stamp.{Stamp}
 use Rattle.st_base.specs.declared.rows.ExtentRow.{ExtentRow}
 use Rattle.st_messages.specs.declared.message.Message.{Message}
-use Rattle.st_messages.specs.declared.output.Output.TheVariants as outputs
-use Rattle.st_rules.specs.declared.input.ServerInput.{ServerInput}
 use Rattle.st_rules.specs.declared.input.ServerInput.TheVariants.{Tick, Control}
 use Rattle.st_rules.specs.declared.locks.LockRow.{LockRow}
 use Rattle.st_rules.specs.declared.sessions.Session.{Session}
@@ -21,11 +19,10 @@ use Rattle.st_rules.specs.Locks.{Locks}
 use Rattle.st_rules.specs.Sessions as sessions
 use Rattle.st_rules.specs.Server as sv
 use Rattle.st_rules.specs.Server.{ServerState, Turn, turn, sender, life_in, steal_at, steal_from, steal, steal_each, thefts, receive, take_input, suspecting_on, granting, demanding, server_step}
-use Rattle.st_lemmas.specs.Lists.{Has}
 use Rattle.st_lemmas.proofs.Lookups.{some_is}
 use Rattle.st_lemmas.proofs.Tables.{and_true, find_gone, find_kept, find_map}
-use Rattle.st_laws_askers.proofs.Served.{Fresh_state, Found, found_for, fresh_state}
-use Rattle.st_laws_told.specs.Steps.{Answers_now, Changed_now, Kept_rows, Served_anew, Step_tells, Steps_tell, Tells_rows, Told_by, file_of}
+use Rattle.st_laws_askers.proofs.Served.{Fresh_state, found_for, fresh_state}
+use Rattle.st_laws_told.specs.Steps.{Changed_now, Kept_rows, Served_anew, Step_tells, Steps_tell, Tells_rows, Told_by, file_of}
 use Rattle.st_laws_told.proofs.Rule.{Moved, Ruled, ruled}
 use Rattle.st_laws_told.proofs.Sessions.{clash, no_some}
 use Rattle.st_laws_told.proofs.Walk as walk

@@ -1,9 +1,8 @@
 -- The rules of a server, walked once: the replies that it sends and keeps and that tell extents.
-use Rattle.std.proofs.Common.{◌≡◌, ℕ, ◌⊎◌, Bool, true, false, List, [], ◌∷◌, ◌==◌, refl, sym, ap, ◌∙◌, subst, inl, inr, if◌then◌else◌}
+use Rattle.std.proofs.Common.{◌≡◌, ℕ, ◌⊎◌, true, List, [], ◌∷◌, ◌==◌, refl, sym, ap, ◌∙◌, subst, inl, inr}
 use Rattle.std.specs.Prelude.{not, Option, Some, None, Result as Res, Ok, Err, option_map}
-use Rattle.std.proofs.lemmas.Bool.{eq-eqb, eqb-true}
+use Rattle.std.proofs.lemmas.Bool.{eqb-true}
 use Rattle.st_base.specs.declared.ids.ClientId.{ClientId}
-use Rattle.st_base.specs.declared.ids.Epoch.{Epoch}
 use Rattle.st_base.specs.declared.ids.GrantNo.{GrantNo}
 use Rattle.st_base.specs.declared.ids.Life.{Life}
 use Rattle.st_base.specs.declared.ids.Stamp.{Stamp}
@@ -31,7 +30,6 @@ use Rattle.st_rules.specs.declared.sessions.Taken.TheVariants as takes
 use Rattle.st_rules.specs.Authority as authority
 use Rattle.st_rules.specs.Extents.{Extents}
 use Rattle.st_rules.specs.Grace as grace
-use Rattle.st_rules.specs.Keys.{client, server_node}
 use Rattle.st_rules.specs.Locks as locks
 use Rattle.st_rules.specs.Locks.{Locks}
 use Rattle.st_rules.specs.Sessions as sessions
@@ -39,7 +37,7 @@ use Rattle.st_rules.specs.Server as sv
 use Rattle.st_rules.specs.Server.{ServerState, Turn, Replied, turn, with_locks, with_sessions, sender, life_in, note, reply, say, tell, steal_at, steal_from, steal, steal_each, thefts, suspect_client, greet_as, greet_by, greet, refuse_in_grace, hello, demand_seen, see_demand, refuse_epoch, reassert_by, reassert_new, reassert_again, reassert, rule, keep_and_reply, keep, serve, request_by, request, of_epoch, by_body, refuse_suspect, by_suspicion, receive_from, receive, take_input, suspect_unless, suspect_each, suspecting, suspecting_on, tell_granted, grant_by, grant_waiting, granting, tell_demanded, demand_by, demanding, server_step}
 use Rattle.st_lemmas.specs.Lists.{Has}
 use Rattle.st_lemmas.proofs.Tables.{has_append}
-use Rattle.st_laws_askers.proofs.Served.{Found, found_for}
+use Rattle.st_laws_askers.proofs.Served.{found_for}
 use Rattle.st_laws_told.specs.Steps.{Kept_rows}
 use Rattle.st_laws_told.proofs.Rule.{Ruled, ruled}
 use Rattle.st_laws_told.proofs.Sessions.{From, Is_stored, again_state, from_ended, from_hello, from_reasserted, from_rows, if_cases, if_either, stored_rows}

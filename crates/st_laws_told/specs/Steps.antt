@@ -1,5 +1,5 @@
 -- What a server's step tells of extents: in the replies that it sends, and in those that it keeps.
-use Rattle.std.specs.Prelude.{◌≡◌, ℕ, ◌+◌, true, List, Option, Some, None}
+use Rattle.std.specs.Prelude.{◌≡◌, ℕ, ◌+◌, true, List, Option, Some}
 use Rattle.std.proofs.Common.{◌≢◌, ◌⊎◌}
 use Rattle.st_base.specs.declared.ids.ClientId.{ClientId}
 use Rattle.st_base.specs.declared.ids.FileId.{FileId}
@@ -21,7 +21,7 @@ use Rattle.st_rules.specs.declared.sessions.Session.{Session}
 use Rattle.st_rules.specs.declared.sessions.SessionState.TheVariants as states
 use Rattle.st_rules.specs.Extents as extents
 use Rattle.st_rules.specs.Extents.{Extents}
-use Rattle.st_rules.specs.Keys.{page_no, server_node}
+use Rattle.st_rules.specs.Keys.{server_node}
 use Rattle.st_rules.specs.Locks.{row_of}
 use Rattle.st_rules.specs.Server.{ServerState, Turn, is_client_node, sender, server_step}
 use Rattle.st_rules.specs.Sessions.{Sessions, session_of}
