@@ -45,7 +45,7 @@ by_advance k clients servers w v steps s i a c =
       clocks = a.clocks ∙ s.clocks;
       drift = a.drift ∙ s.drift;
       low = low_at ((4000 + w.tally.events * 2 ^ 32) + 2 ^ 32) (4000 + v.tally.events * 2 ^ 32) v.clocks (advanced steps w.clocks)
-            (advanced_low (4000 + w.tally.events * 2 ^ 32) steps w.clocks s.low (small_steps steps i)) (more v.tally.events w.tally.events a.events) c;
+          (advanced_low (4000 + w.tally.events * 2 ^ 32) steps w.clocks s.low (small_steps steps i)) (more v.tally.events w.tally.events a.events) c;
     }
 
 by_other : (k : Config) (clients servers : ℕ) (w v : World) → IsShaped k clients servers w → SameTime (counted w) v → IsShaped k clients servers v
@@ -58,7 +58,7 @@ by_other k clients servers w v s a =
       clocks = ap length a.clocks ∙ s.clocks;
       drift = ap length a.drift ∙ s.drift;
       low = low_at ((4000 + w.tally.events * 2 ^ 32) + 2 ^ 32) (4000 + v.tally.events * 2 ^ 32) v.clocks w.clocks
-            (advanced_low (4000 + w.tally.events * 2 ^ 32) [] w.clocks s.low refl) (more v.tally.events w.tally.events a.events) a.clocks;
+          (advanced_low (4000 + w.tally.events * 2 ^ 32) [] w.clocks s.low refl) (more v.tally.events w.tally.events a.events) a.clocks;
     }
 
 by_event : (k : Config) (clients servers : ℕ) (w v : World) (e : Event) → IsShaped k clients servers w → is_event (clients + servers) e ≡ true → IsAfter (counted w) v e → IsShaped k clients servers v

@@ -14,11 +14,12 @@ fresh-requires-2-clause-counts c =
 
 pub invariant_of-result : goal.invariant_of-result
 invariant_of-result c =
-    let k = c.args.counts in
-    (quiet_fresh c.args.config k.clients k.servers k.disks k.blocks c.args.form c.in_ok-machine.machine c.requires.head c.in_ok-machine.ensures,
-    λ whole.
-        let n = c.least_counts.result in
-        quiet_fresh c.args.config n.clients n.servers n.disks n.blocks c.args.form c.in_ok-spare.spare
-        (subst (λ (m : Counts). IsHead c.args.config m.clients m.servers m.disks m.blocks c.args.form) (sym c.least_counts.ensures)
-        (least_head c.args.config k.clients k.servers k.disks k.blocks c.args.form c.requires.head))
-        c.in_ok-spare.ensures)
+    let k = c.args.counts in (
+      quiet_fresh c.args.config k.clients k.servers k.disks k.blocks c.args.form c.in_ok-machine.machine c.requires.head c.in_ok-machine.ensures,
+      λ whole.
+          let n = c.least_counts.result in
+          quiet_fresh c.args.config n.clients n.servers n.disks n.blocks c.args.form c.in_ok-spare.spare
+          (subst (λ (m : Counts). IsHead c.args.config m.clients m.servers m.disks m.blocks c.args.form) (sym c.least_counts.ensures)
+          (least_head c.args.config k.clients k.servers k.disks k.blocks c.args.form c.requires.head))
+          c.in_ok-spare.ensures,
+    )

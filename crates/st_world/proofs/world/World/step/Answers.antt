@@ -11,11 +11,12 @@ step-requires-clause-laid c =
     laid c.self.inside.machine.world c.self.invariant.0.reached (omega (arith, ap (λ (w : World). w.tally.events) c.self.view_is, c.requires.room))
 
 pub invariant_of-self : goal.invariant_of-self
-invariant_of-self c =
-    (quiet_after c.runs_go_on_in_parts.ensures c.self.inside.machine c.step.new.self c.args.event c.in-Ok.seen.items c.self.invariant.0
-    (subst (λ (w : World). is_event (length w.clocks) c.args.event ≡ true) (sym c.self.view_is) c.requires.event)
-    c.in-Ok.ensures.machine c.in-Ok.ensures.ends,
-    c.self.invariant.1)
+invariant_of-self c = (
+  quiet_after c.runs_go_on_in_parts.ensures c.self.inside.machine c.step.new.self c.args.event c.in-Ok.seen.items c.self.invariant.0
+      (subst (λ (w : World). is_event (length w.clocks) c.args.event ≡ true) (sym c.self.view_is) c.requires.event)
+      c.in-Ok.ensures.machine c.in-Ok.ensures.ends,
+  c.self.invariant.1,
+)
 
 pub returns-in-Ok-clause-events : goal.returns-in-Ok-clause-events
 returns-in-Ok-clause-events c =
