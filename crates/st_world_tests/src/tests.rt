@@ -40,32 +40,44 @@ pub enum Call {
     Start(NodeId),
 }
 
-fn settings(grain: u64) -> Config {
-    Config {
-        lease: 1000,
-        renew: 500,
-        quiesce: 700,
-        flush: 850,
-        demand: 100,
-        retry: 50,
-        num: 101,
-        den: 100,
-        grain,
-    }
-}
+const RATED: Config = Config {
+    lease: 1000,
+    renew: 500,
+    quiesce: 700,
+    flush: 850,
+    demand: 100,
+    retry: 50,
+    num: 101,
+    den: 100,
+    grain: 0,
+};
+
+const DRIFTING: Config = Config {
+    lease: 1000,
+    renew: 500,
+    quiesce: 700,
+    flush: 850,
+    demand: 100,
+    retry: 50,
+    num: 101,
+    den: 100,
+    grain: 5,
+};
 
 /// The world of the first form of a head.
+#[tactic(auto, unfolding(st_rules::specs::World::fresh_world, st_rules::specs::Extents::numbers))]
 fn rated(alloc: Global) -> Result<World, AllocError>
     ensures { IfOk result (λ w. length w.clocks ≡ 3) }
 {
-    World::new(alloc, settings(0), COUNTS, 1)
+    World::new(alloc, RATED, COUNTS, 1)
 }
 
 /// The world of the second form of a head.
+#[tactic(auto, unfolding(st_rules::specs::World::fresh_world, st_rules::specs::Extents::numbers))]
 fn drifting(alloc: Global) -> Result<World, AllocError>
     ensures { IfOk result (λ w. length w.clocks ≡ 3) }
 {
-    World::new(alloc, settings(5), COUNTS, 2)
+    World::new(alloc, DRIFTING, COUNTS, 2)
 }
 
 fn file_of(client: u16) -> FileId
