@@ -297,6 +297,24 @@ next_open : (s : Frames) → s.refusal ≡ None → next s ≡ next_at s (front 
 unfolding next
 next_open s e = ap (next_by s) e
 
+frame_size : (bytes : List ℕ) → length (frame bytes) ≡ 4 + length bytes
+unfolding word32
+frame_size bytes = length-append (word32 (length bytes)) bytes
+
+-- a frame is read, and what follows is held
+pub gives_frame : (m : Message) (after : List ℕ) (s : Frames) → IsFramed m → s.refusal ≡ None → s.rest ≡ message_frame m ++ after →
+    next s ≡ (record { offset = (behind s (length (spelling m))).offset; rest = after; refusal = None }, Some (answered m))
+unfolding next_whole
+gives_frame m after s framed open_ e =
+    let begins : front s.rest ≡ Whole (length (spelling m)) = ap front e ∙ front_again (spelling m) after framed.short in
+    let text : take (length (spelling m)) (drop 4 s.rest) ≡ spelling m = ap (λ (w : List ℕ). take (length (spelling m)) (drop 4 w)) e ∙ frame_bytes (spelling m) after in
+    let read : decoded (take (length (spelling m)) (drop 4 s.rest)) ≡ Ok m = ap decoded text ∙ decoded_again (spelling m) m (record { text = refl; ranges = framed.ranges }) in
+    let step : next s ≡ next_whole s (length (spelling m)) = next_open s open_ ∙ ap (next_at s) begins in
+    let rest : drop (4 + length (spelling m)) s.rest ≡ after =
+    ap (drop (4 + length (spelling m))) e ∙ drop_at (message_frame m) after (4 + length (spelling m)) (frame_size (spelling m)) in
+    step ∙ ap (next_read s (length (spelling m))) read
+    ∙ ap (λ (w : List ℕ). (record { offset = (behind s (length (spelling m))).offset; rest = w; refusal = None }, Some (answered m))) rest
+
 pub gives : (m : Message) (after : List ℕ) (s : Frames) → IsFramed m → s.refusal ≡ None → s.rest ≡ message_frame m ++ after → (next s).1 ≡ Some (Ok m)
 unfolding next_whole
 gives m after s framed open_ e =

@@ -1,4 +1,5 @@
-ghost use Rattle.std.specs.Prelude.{◌≡◌, ◌≤◌, ◌+◌, ℕ, IfOk, OnOk, OnErr, None, length};
+ghost use Rattle.std.specs.Prelude.{◌≡◌, ◌≤◌, ◌+◌, ℕ, true, IfOk, IfSome, OnOk, OnErr, None, length};
+ghost use Rattle.st_messages.specs.Fits as fits;
 ghost use Rattle.st_codec.specs.Frames as frames;
 
 use crate::decoding::decode;
@@ -123,6 +124,7 @@ impl FrameReader {
         requires whole { 4 + len ≤ length self.old.rest }
         requires open { self.old.refusal ≡ None }
         ensures answer { IfOk result (λ answer. (self.new, answer) ≡ frames.next_whole self.old len) }
+        ensures fits { IfOk result (λ answer. IfSome answer (λ read. IfOk read (λ m. fits.fits m ≡ true))) }
         ensures memory { OnErr result (self.new ≡ self.old) }
     {
         let (_, body) = self.rest().split_at(4);
@@ -141,11 +143,12 @@ impl FrameReader {
         }
     }
 
-    /// Returns the next message; or the refusal of its frame, which it returns from then on; or none if less than a whole
-    /// frame is held. If it runs out of memory, nothing changes.
+    /// Returns the next message, which fits; or the refusal of its frame, which it returns from then on; or none if less than a
+    /// whole frame is held. If it runs out of memory, nothing changes.
     #[tactic(auto, unfolding(crate::specs::Frames::next))]
     pub fn next(&mut self) -> Result<Option<Result<Message, CodecRefusal>>, AllocError>
         ensures answer { IfOk result (λ answer. (self.new, answer) ≡ frames.next self.old) }
+        ensures fits { IfOk result (λ answer. IfSome answer (λ read. IfOk read (λ m. fits.fits m ≡ true))) }
         ensures memory { OnErr result (self.new ≡ self.old) }
     {
         if let Some(refusal) = self.refusal {

@@ -391,7 +391,7 @@ module _ (past : List Step) (t : Traced) (d : Replies_hold past t) where
   happens (events.Start (nodes.Client c)) f = starts_client c
   happens (events.Start (nodes.Server s)) f = starts_server s
 
-one : (past : List Step) (t : Traced) (e : Event) (sc : Scene) → Replies_hold past t → Reassertions_new past (step t e sc) → world_step t.world e ≡ Ok sc → Replies_hold (past ++ step t e sc ∷ []) (traced_after e t sc)
+pub one : (past : List Step) (t : Traced) (e : Event) (sc : Scene) → Replies_hold past t → Reassertions_new past (step t e sc) → world_step t.world e ≡ Ok sc → Replies_hold (past ++ step t e sc ∷ []) (traced_after e t sc)
 unfolding w
 one past t e sc d f h =
     record { dated = (dates.one past t e sc d.dated h).1; replies = let z = step_happens t.world e sc h in subst (λ (x : Scene). Replies_say x.world) (sym z.1) (happens past t d e f) }

@@ -71,7 +71,7 @@ alike : (a b : ℕ) → nat_lt a b ≡ false → nat_lt b a ≡ false → a ≡ 
 alike a b x y = let p = ltb-false a b x in let q = ltb-false b a y in omega (arith, p, q)
 
 -- What a request finds of its client's session.
-record Found (t : sessions.Sessions) (c : ClientId) (life : Life) (P : SessionState → Type 0) : Type 0 where
+pub record Found (t : sessions.Sessions) (c : ClientId) (life : Life) (P : SessionState → Type 0) : Type 0 where
   pub session : Session
   pub is : sessions.session_of t c ≡ Some session
   pub of_life : session.life.0 ≡ life.0
@@ -102,7 +102,7 @@ again_state b number (states.Live last r) e = below (nat_lt number last) e
     below true q = cc
     below false q = from (number == last) refl q
 
-found_for : (t : sessions.Sessions) (c : ClientId) (life : Life) (epoch : Epoch) (number : ℕ) (a : Taken Body) (P : SessionState → Type 0) → sessions.take t c life epoch number ≡ a →
+pub found_for : (t : sessions.Sessions) (c : ClientId) (life : Life) (epoch : Epoch) (number : ℕ) (a : Taken Body) (P : SessionState → Type 0) → sessions.take t c life epoch number ≡ a →
     (takes.OtherEpoch ≡ a → ⊥) → (takes.NoSession ≡ a → ⊥) → (takes.Stale ≡ a → ⊥) → ((x : SessionState) → sessions.take_state x number ≡ a → P x) → Found t c life P
 unfolding sessions.take sessions.take_at sessions.take_life sessions.take_past
 found_for t c life epoch number a P e no1 no2 no3 f = at (epoch.0 == t.epoch.0) e
@@ -124,13 +124,13 @@ found_for t c life epoch number a P e no1 no2 no3 f = at (epoch.0 == t.epoch.0) 
     at false r = absurd (no1 r)
 
 -- what is fresh has the number behind the last one
-record Fresh_state (number : ℕ) (x : SessionState) : Type 0 where
+pub record Fresh_state (number : ℕ) (x : SessionState) : Type 0 where
   pub last : ℕ
   pub reply : Option Body
   pub is : x ≡ states.Live last reply
   pub next : number ≡ last + 1
 
-fresh_state : (number : ℕ) (x : SessionState) → sessions.take_state x number ≡ takes.Fresh → Fresh_state number x
+pub fresh_state : (number : ℕ) (x : SessionState) → sessions.take_state x number ≡ takes.Fresh → Fresh_state number x
 unfolding sessions.take_state sessions.take_number sessions.take_from sessions.take_next sessions.again
 fresh_state number states.Ended e = cc
 fresh_state number (states.Live last r) e = below (nat_lt number last) e

@@ -79,7 +79,7 @@ next_holds past t e sc d q n =
     acks m (inl h) ack s r = acked_more past (step t e sc) (messages t.world) (messages sc.world) n.old (client m.header.to) s m.header.life m.header.epoch m.header.number (d.acks m h ack s r)
     acks m (inr f) ack s r = f ack s r
 
-one : (past : List Step) (t : Traced) (e : Event) (sc : Scene) → Cuts_hold past t → world_step t.world e ≡ Ok sc → CutsAreLogged past (step t e sc) × Cuts_hold (past ++ step t e sc ∷ []) (traced_after e t sc)
+pub one : (past : List Step) (t : Traced) (e : Event) (sc : Scene) → Cuts_hold past t → world_step t.world e ≡ Ok sc → CutsAreLogged past (step t e sc) × Cuts_hold (past ++ step t e sc ∷ []) (traced_after e t sc)
 one past t e sc d h = let z = step_happens t.world e sc h in go (subst (λ (x : Scene). Next past t e d x) (sym z.1) (happens past t d e z.0))
   where
     go : Next past t e d sc → CutsAreLogged past (step t e sc) × Cuts_hold (past ++ step t e sc ∷ []) (traced_after e t sc)
@@ -124,7 +124,7 @@ fresh_server k servers disks blocks s = record { id = refl; kept = λ c x h. non
     none : {A : Type 0} {x : Session} → ◌≡◌ {A = Option Session} None (Some x) → A
     none h = cc
 
-fresh_holds : (k : Config) (clients servers disks blocks form : ℕ) → IsHead k clients servers disks blocks form → Cuts_hold [] (traced (fresh_world k clients servers disks blocks form))
+pub fresh_holds : (k : Config) (clients servers disks blocks form : ℕ) → IsHead k clients servers disks blocks form → Cuts_hold [] (traced (fresh_world k clients servers disks blocks form))
 unfolding fresh_world
 fresh_holds k clients servers disks blocks form head =
     record {

@@ -98,7 +98,7 @@ has_any q (y ∷ ys) x (inr h) r = or_right (q y) (list_any q ys) (has_any q ys 
     or_right false b e = e
 
 -- a file of a dirty page has a dirty page
-dirty_any : (ino : ℕ) (p : PageNo) (xs : List DirtyPage) (d : DirtyPage) → find (is_dirty_of ino p) xs ≡ Some d → list_any (is_dirty_on ino) xs ≡ true
+pub dirty_any : (ino : ℕ) (p : PageNo) (xs : List DirtyPage) (d : DirtyPage) → find (is_dirty_of ino p) xs ≡ Some d → list_any (is_dirty_on ino) xs ≡ true
 dirty_any ino p xs d e = let f = found_at (is_dirty_of ino p) xs d e in has_any (is_dirty_on ino) xs d f.1 (and_true (is_dirty_on ino d) _ f.0).0
 
 -- a lock is under a lease, which has an end
@@ -111,14 +111,11 @@ end_is kb None e = cc e
 end_is kb (Some s) e = refl
 
 -- A crash of a client that runs.
-module _ (k : Config) (count : ℕ) (w : World) (c : ℕ) (site : ClientSite) (there : site_of w (client c) ≡ Some site) (runs : site.node.running ≡ true) (h : Elders_hold k count w) where
+module _ (k : Config) (count : ℕ) (w : World) (c : ℕ) (site : ClientSite) (there : site_of w (client c) ≡ Some site) (runs : site.node.running ≡ true) (all : AllStand k count w) where
   abbrev pub V : World
   V = (ev.crashes_client (counted w) (client c) (Some site)).world
 
-  abbrev all : AllStand k count w
-  all = h.all
-
-  before_at : (s : ℕ) (node : ServerNode) → node_of V (server s) ≡ Some node → node_of w (server s) ≡ Some node
+  unfoldable pub before_at : (s : ℕ) (node : ServerNode) → node_of V (server s) ≡ Some node → node_of w (server s) ≡ Some node
   unfolding ev.crashes_client ev.marks
   before_at s node e = e
 
@@ -126,7 +123,7 @@ module _ (k : Config) (count : ℕ) (w : World) (c : ℕ) (site : ClientSite) (t
   both_counted s node z = same k all.sound s node z.ended z.ghosts w (counted w) (counted_same k all.sound s node z.ended z.ghosts w) z.both
 
   -- what stands of a server behind it
-  stands : (s : ℕ) (node : ServerNode) → Server_stands k w s node → Server_stands k V s node
+  pub stands : (s : ℕ) (node : ServerNode) → Server_stands k w s node → Server_stands k V s node
   unfolding ev.crashes_client ev.marks
   stands s node z =
       let x = crashed k all.sound s (counted w) node z.ended z.ghosts c site (both_counted s node z) there runs in
@@ -139,16 +136,16 @@ module _ (k : Config) (count : ℕ) (w : World) (c : ℕ) (site : ClientSite) (t
         few = few_more w.net.bytes V.net.bytes node.state (omega arith) z.few;
       }
 
-  crash_at : (s : ℕ) (node : ServerNode) (z : Server_stands k w s node) → Crashed k c (pairs_of k w s node z) (pairs_of k V s node (stands s node z))
+  pub crash_at : (s : ℕ) (node : ServerNode) (z : Server_stands k w s node) → Crashed k c (pairs_of k w s node z) (pairs_of k V s node (stands s node z))
   unfolding stands
   crash_at s node z = crash_is k all.sound s (counted w) node z.ended z.ghosts c site (both_counted s node z) there runs
 
   -- lives that ended, clocks, and what is pending
-  there_too : (o : LogOwner) (y : LeaseLife) → ended_of w o.client o.file.server o.life ≡ Some y → ended_of V o.client o.file.server o.life ≡ Some y
+  pub there_too : (o : LogOwner) (y : LeaseLife) → ended_of w o.client o.file.server o.life ≡ Some y → ended_of V o.client o.file.server o.life ≡ Some y
   unfolding ev.crashes_client ev.marks
   there_too o y f = find_front (is_life_of o.client o.file.server o.life) w.ended _ y f
 
-  same_clock : (d : ClientId) (n : ℕ) → (clock_of w (nodes.Client d)).0 < n → (clock_of V (nodes.Client d)).0 < n
+  pub same_clock : (d : ClientId) (n : ℕ) → (clock_of w (nodes.Client d)).0 < n → (clock_of V (nodes.Client d)).0 < n
   unfolding ev.crashes_client ev.marks
   same_clock d n t = t
 
@@ -157,23 +154,23 @@ module _ (k : Config) (count : ℕ) (w : World) (c : ℕ) (site : ClientSite) (t
   log_left Q p = pending_fewer Q 1 _ _ w.log p
 
   module _ (after0 : AllStand k count V) where
-    pub after : AllStand k count V
+    unfoldable pub after : AllStand k count V
     after = record after0 { servers = λ s node at. stands s node (all.servers s node (before_at s node at)) }
 
-    came : (s : ℕ) (node : ServerNode) (at : node_of V (server s) ≡ Some node) → Came_from k count w all V s node (after.servers s node at)
+    unfoldable pub came : (s : ℕ) (node : ServerNode) (at : node_of V (server s) ≡ Some node) → Came_from k count w all V s node (after.servers s node at)
     unfolding after
     came s node at = record { node = node; before = before_at s node at; path = crash_path k c _ _ (crash_at s node (all.servers s node (before_at s node at))) }
 
     -- a row of the client's own lives
-    record Own_row (row : LeaseLife) (o : LogOwner) : Type 0 where
-      a : Association
-      here : Has a site.node.state.associations
-      client_is : o.client ≡ client c
-      server_is : o.file.server ≡ a.server
-      life_is : o.life ≡ a.life
-      end : row.end ≡ lease.end_at site.node.state.config (option_map cl.lease_of_session a.session)
+    pub record Own_row (row : LeaseLife) (o : LogOwner) : Type 0 where
+      pub a : Association
+      pub here : Has a site.node.state.associations
+      pub client_is : o.client ≡ client c
+      pub server_is : o.file.server ≡ a.server
+      pub life_is : o.life ≡ a.life
+      pub end : row.end ≡ lease.end_at site.node.state.config (option_map cl.lease_of_session a.session)
 
-    own_row : (o : LogOwner) (row : LeaseLife) → ended_of w o.client o.file.server o.life ≡ None → ended_of V o.client o.file.server o.life ≡ Some row → Own_row row o
+    pub own_row : (o : LogOwner) (row : LeaseLife) → ended_of w o.client o.file.server o.life ≡ None → ended_of V o.client o.file.server o.life ≡ Some row → Own_row row o
     unfolding ev.crashes_client ev.marks
     own_row o row f q =
         let rows : List LeaseLife = map ev.crashed_life (lives_of site.node.state) in
@@ -190,50 +187,50 @@ module _ (k : Config) (count : ℕ) (w : World) (c : ℕ) (site : ClientSite) (t
           end = ap (λ (l : LeaseLife). l.end) is;
         }
 
-    module _ (cared : (a : Association) → Has a site.node.state.associations → Pending_all (Dirty_here (client c) a) w.log) (e : LogEntry) (logged : Has e w.log) (pending : is_pending e.fate ≡ true) where
+    -- a life with a dirty page of the file stands still from now on
+    module _ (row : LeaseLife) (o : LogOwner) (x : Own_row row o) (dirty : has_dirty x.a.store.pages o.file.ino ≡ true) where
+      pub falls : (node : ServerNode) (z : Server_stands k w o.file.server.0 node) → Stood_life k V o.file.server.0 node (stands o.file.server.0 node z) row o
+      falls node z =
+          record {
+            half = client_in w c s (z.ended c);
+            life = ap (λ (C : net.Client). C.life) view ∙ ap (λ (l : Life). l.0) (sym x.life_is);
+            end = ap (λ (C : net.Client). C.date + k.lease) view ∙ ap (λ n. date_in x.a.session + n) (sym st.sim.terms) ∙ end_is site.node.state.config x.a.session leased ∙ ap stamp_number (sym x.end);
+            locked = record { leased = ap (λ (C : net.Client). C.leased) view ∙ leased; exclusive = subst (λ (C : net.Client). 2 ≤ (C.held o.file.ino).mode) (sym view) two };
+            frozen = subst (λ d. Frozen_life k d (client_in w c s (z.ended c)).life (client_in w c s (z.ended c)) (pairs_of k V s node (stands s node z))) (ap (λ (d : ClientId). d.0) (sym x.client_is))
+                (begins k c (pairs_of k w s node z) (pairs_of k V s node (stands s node z)) all.sound z.both.stands.reached (crash_at s node z));
+          }
+        where
+          s : ℕ
+          s = o.file.server.0
+
+          st : Standing k s c site w.ended (z.ghosts c).net
+          st = z.both.clients c site there
+
+          is : x.a ≡ st.association
+          is = only_here s site.node.state.associations st.association st.sim.place x.a x.here (ap server_node (sym x.server_is))
+
+          view : client_in w c s (z.ended c) ≡ client_of (z.ended c) (clock_of w (nodes.Client (client c))).0 x.a
+          view = own_view w c s (z.ended c) site st.association there runs st.sim.place ∙ ap (client_of (z.ended c) (clock_of w (nodes.Client (client c))).0) (sym is)
+
+          -- the page is dirty, so the lock is exclusive
+          two : 2 ≤ (held_in x.a.session o.file.ino).mode
+          two =
+              subst (λ (C : net.Client). 2 ≤ (C.held o.file.ino).mode) view
+              ((exactly k (pairs_of k w s node z) all.sound z.both.stands.reached c).busy o.file.ino
+              (ap (λ (C : net.Client). C.busy o.file.ino) view ∙ ap (λ b. b || has_write_on x.a.store.commands o.file.ino) dirty))
+
+          leased : leased_in x.a.session ≡ true
+          leased = leased_held x.a.session o.file.ino two
+
+    module _ (elders : Pending_all (Of_crashed (Stands_still k count w all) w) w.log) (cared : (a : Association) → Has a site.node.state.associations → Pending_all (Dirty_here (client c) a) w.log) (e : LogEntry) (logged : Has e w.log) (pending : is_pending e.fate ≡ true) where
       abbrev o : LogOwner
       o = e.of
 
       before : Before_end w o
       before = owner_at (Before_end w) w.log e all.fates.pending logged pending
 
-      module _ (row : LeaseLife) (x : Own_row row o) where
-        dirty : has_dirty x.a.store.pages o.file.ino ≡ true
-        dirty = let d = owner_at (Dirty_here (client c) x.a) w.log e (cared x.a x.here) logged pending x.client_is x.server_is x.life_is in dirty_any o.file.ino o.page x.a.store.pages.dirty d.0 d.1
-
-        -- the life stands still from now on
-        falls : (node : ServerNode) (z : Server_stands k w o.file.server.0 node) → Stood_life k V o.file.server.0 node (stands o.file.server.0 node z) row o
-        falls node z =
-            record {
-              half = client_in w c s (z.ended c);
-              life = ap (λ (C : net.Client). C.life) view ∙ ap (λ (l : Life). l.0) (sym x.life_is);
-              end = ap (λ (C : net.Client). C.date + k.lease) view ∙ ap (λ n. date_in x.a.session + n) (sym st.sim.terms) ∙ end_is site.node.state.config x.a.session leased ∙ ap stamp_number (sym x.end);
-              locked = record { leased = ap (λ (C : net.Client). C.leased) view ∙ leased; exclusive = subst (λ (C : net.Client). 2 ≤ (C.held o.file.ino).mode) (sym view) two };
-              frozen = subst (λ d. Frozen_life k d (client_in w c s (z.ended c)).life (client_in w c s (z.ended c)) (pairs_of k V s node (stands s node z))) (ap (λ (d : ClientId). d.0) (sym x.client_is))
-                  (begins k c (pairs_of k w s node z) (pairs_of k V s node (stands s node z)) all.sound z.both.stands.reached (crash_at s node z));
-            }
-          where
-            s : ℕ
-            s = o.file.server.0
-
-            st : Standing k s c site w.ended (z.ghosts c).net
-            st = z.both.clients c site there
-
-            is : x.a ≡ st.association
-            is = only_here s site.node.state.associations st.association st.sim.place x.a x.here (ap server_node (sym x.server_is))
-
-            view : client_in w c s (z.ended c) ≡ client_of (z.ended c) (clock_of w (nodes.Client (client c))).0 x.a
-            view = own_view w c s (z.ended c) site st.association there runs st.sim.place ∙ ap (client_of (z.ended c) (clock_of w (nodes.Client (client c))).0) (sym is)
-
-            -- the page is dirty, so the lock is exclusive
-            two : 2 ≤ (held_in x.a.session o.file.ino).mode
-            two =
-                subst (λ (C : net.Client). 2 ≤ (C.held o.file.ino).mode) view
-                ((exactly k (pairs_of k w s node z) all.sound z.both.stands.reached c).busy o.file.ino
-                (ap (λ (C : net.Client). C.busy o.file.ino) view ∙ ap (λ b. b || has_write_on x.a.store.commands o.file.ino) dirty))
-
-            leased : leased_in x.a.session ≡ true
-            leased = leased_held x.a.session o.file.ino two
+      dirty : (row : LeaseLife) (x : Own_row row o) → has_dirty x.a.store.pages o.file.ino ≡ true
+      dirty row x = let d = owner_at (Dirty_here (client c) x.a) w.log e (cared x.a x.here) logged pending x.client_is x.server_is x.life_is in dirty_any o.file.ino o.page x.a.store.pages.dirty d.0 d.1
 
       crashed_stand : Of_crashed (Stands_still k count V after) V o
       unfolding after came before_at
@@ -243,13 +240,13 @@ module _ (k : Config) (count : ℕ) (w : World) (c : ℕ) (site : ClientSite) (t
           z = all.servers o.file.server.0 next (before_at o.file.server.0 next at)
 
           go : (p : Option LeaseLife) → ended_of w o.client o.file.server o.life ≡ p → Stood_life k V o.file.server.0 next (stands o.file.server.0 next z) row o
-          go None f = falls row (own_row o row f q) next z
+          go None f = let x = own_row o row f q in falls row o x (dirty row x) next z
           go (Some y) f =
               let w_row : ended_of w o.client o.file.server o.life ≡ Some row = f ∙ sym (there_too o y f) ∙ q in
               still_on k count w V all after o row q
               (record { end = before.end; is = ap (end_or_present V o.client o.file.server) q ∙ ap (end_or_present w o.client o.file.server) (sym w_row) ∙ before.is; before = same_clock o.client before.end.0 before.before })
               next (stands o.file.server.0 next z) (came o.file.server.0 next at)
-              (owner_at (Of_crashed (Stands_still k count w all) w) w.log e h.elders logged pending row w_row crash next (before_at o.file.server.0 next at))
+              (owner_at (Of_crashed (Stands_still k count w all) w) w.log e elders logged pending row w_row crash next (before_at o.file.server.0 next at))
 
-    pub elders_fall : ((a : Association) → Has a site.node.state.associations → Pending_all (Dirty_here (client c) a) w.log) → Elders_hold k count V
-    elders_fall cared = record { all = after; elders = log_left (Of_crashed (Stands_still k count V after) V) (pending_from (Of_crashed (Stands_still k count V after) V) w.log (λ e i p. crashed_stand cared e i p)) }
+    pub elders_fall : Pending_all (Of_crashed (Stands_still k count w all) w) w.log → ((a : Association) → Has a site.node.state.associations → Pending_all (Dirty_here (client c) a) w.log) → Elders_hold k count V
+    elders_fall elders cared = record { all = after; elders = log_left (Of_crashed (Stands_still k count V after) V) (pending_from (Of_crashed (Stands_still k count V after) V) w.log (λ e i p. crashed_stand elders cared e i p)) }

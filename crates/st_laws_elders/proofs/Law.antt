@@ -52,7 +52,7 @@ module _ (past : List Step) (k : Config) (count : ℕ) (w : World) (h : Elders_h
           let r : site.node.running ≡ true = ap site_runs (sym f) ∙ runs in
           let here : sc.world ≡ (ev.crashes_client (counted w) c (Some site)).world = happened ∙ ap (λ s. (ev.crashes_client (counted w) c s).world) f in
           subst (Elders_hold k count) (sym here)
-          (elders_fall k count w c.0 site f r h (subst (AllStand k count) here (stays k count w (events.Crash (nodes.Client c)) sc h.all full taken)) (λ a i. ((flush.sites c site f r).cared a i).entries))
+          (elders_fall k count w c.0 site f r h.all (subst (AllStand k count) here (stays k count w (events.Crash (nodes.Client c)) sc h.all full taken)) h.elders (λ a i. ((flush.sites c site f r).cared a i).entries))
 
   pub step : (e : Event) (sc : Scene) → Is_full w e → world_step w e ≡ Ok sc → Elders_hold k count sc.world
   step (events.Crash (nodes.Client c)) sc full taken = crash c sc full taken

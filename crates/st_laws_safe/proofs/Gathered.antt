@@ -2,7 +2,7 @@
 use Rattle.st_laws.proofs.Kept.{most_promised}
 use Rattle.st_laws_cuts.proofs.Law as cuts
 use Rattle.st_laws_order.proofs.Grants.{order_law}
-use Rattle.st_laws_elders.proofs.Reading as reads
+use Rattle.st_laws_cutters.proofs.Runs as reads
 use Rattle.st_laws_safe.specs.Safe.{Every_run_is_safe_but_reads, IsPromisedButReads, Safe_from_what_reads_owe}
 
 every_run : Every_run_is_safe_but_reads

@@ -6,7 +6,7 @@ use Rattle.st_messages.specs.declared.event.Event.{Event}
 use Rattle.st_rules.specs.World.{fresh_world}
 use Rattle.st_rules.specs.History.{traced}
 use Rattle.st_rules.specs.Safety.{AnswersAreLogged, AsksAreAnsweredOnce, ChangesAreLocked, ChangesGoInTheOrderOfLocks, DirtyPagesStandAlone, DropsHaveACause, ExpiredLeasesEmptyClients, GraceWaits, HardIsHard, HardStaysHard, IsHead, IsSafeRun, LeasesAreDatedFromRequests, NoConflictIsSent, OldMessagesChangeNoClient, OldMessagesChangeNoServer, Step, TheHistoryIsTheWorlds, TheReportTellsTheLog, TheftsComeLate, Throughout, is_event, steps}
-use Rattle.st_laws_elders.specs.Runs.{Is_left}
+use Rattle.st_laws_cutters.specs.Runs.{Is_taken_left}
 
 -- Of the promises that make a run safe all but the one on reads are kept at each of its steps.
 pub record IsSafeButReads (xs : List Step) : Type 0 where
@@ -39,10 +39,10 @@ pub record IsPromisedButReads : Type 0 where
   pub clients : OldMessagesChangeNoClient
   pub servers : OldMessagesChangeNoServer
 
--- A run is safe in which each step has what is left owed to the law of reads.
+-- A run is safe in which each step has what is left owed to the law of reads, where a client takes an input.
 abbrev pub Safe_from_what_reads_owe : Type 0
 Safe_from_what_reads_owe =
     (k : Config) (clients servers disks blocks form : ℕ) (es : List Event) → IsHead k clients servers disks blocks form →
     list_all (is_event (clients + servers)) es ≡ true →
-    Throughout Is_left [] (steps es (traced (fresh_world k clients servers disks blocks form))) →
+    Throughout Is_taken_left [] (steps es (traced (fresh_world k clients servers disks blocks form))) →
     IsSafeRun (fresh_world k clients servers disks blocks form) es

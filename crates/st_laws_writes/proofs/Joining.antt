@@ -51,6 +51,7 @@ pub record Is_new (c : ClientId) (site : ClientSite) (size : ℕ) (os : List Out
   pub client : x.client ≡ c
   pub starts : x.starts ≡ site.starts
   pub server : x.server ≡ world.server (pred at.disk.0 % size + 1)
+  pub life : x.life ≡ life_with site.node.state x.server
   pub what_is : d.what ≡ what
 
 -- Commands go by one number at the disks and at their clients.
@@ -59,7 +60,7 @@ pub record Counted (c : ClientId) (site : ClientSite) (size : ℕ) (sc : Scene) 
   pub counts : length sc.world.commands ≡ length sc.world.disks.commands
   pub servers : length sc.world.servers ≡ size
 
-abbrev Is_at : Scene → ℕ → IssuedCommand → DiskCommand → Type 0
+abbrev pub Is_at : Scene → ℕ → IssuedCommand → DiskCommand → Type 0
 Is_at sc k x d = (numbered sc.world.commands k ≡ Some x) × (disks.command_at sc.world.disks.commands k ≡ Some d)
 
 at_more : (cs : List IssuedCommand) (ds : List DiskCommand) (c x : IssuedCommand) (d y : DiskCommand) (k : ℕ) → length cs ≡ length ds → numbered (cs ++ c ∷ []) k ≡ Some x → disks.command_at (ds ++ d ∷ []) k ≡ Some y →
@@ -108,6 +109,7 @@ one_says c before site size (outputs.Submit number at what) sc h = go (site_of s
               client = ap (λ (z : IssuedCommand). z.client) q;
               starts = ap (λ (z : IssuedCommand). z.starts) q ∙ ap (λ (z : ClientSite). z.starts) (some_is e);
               server = ap (λ (z : IssuedCommand). z.server) q ∙ ap (λ n. world.server (pred at.disk.0 % n + 1)) h.servers;
+              life = ap (λ (z : IssuedCommand). z.life) q ∙ ap (λ (z : ClientSite). life_with z.node.state y.server) (some_is e) ∙ ap (life_with site.node.state) (ap (λ (z : IssuedCommand). z.server) (sym q));
               what_is = ap (λ (z : DiskCommand). z.what) r;
             })
 one_says c before site size (outputs.Note n) sc h = note n
@@ -119,7 +121,7 @@ one_says c before site size (outputs.Note n) sc h = note n
     note n = record { counts = h.counts; servers = h.servers; from = λ k x d i. inl i }
 
 new_more : (c : ClientId) (site : ClientSite) (size : ℕ) (os ps : List Output) (x : IssuedCommand) (d : DiskCommand) → ((o : Output) → Has o os → Has o ps) → Is_new c site size os x d → Is_new c site size ps x d
-new_more c site size os ps x d f n = record { at = n.at; what = n.what; said = f _ n.said; client = n.client; starts = n.starts; server = n.server; what_is = n.what_is }
+new_more c site size os ps x d f n = record { at = n.at; what = n.what; said = f _ n.said; client = n.client; starts = n.starts; server = n.server; life = n.life; what_is = n.what_is }
 
 -- all outputs
 pub all_say : (c : ClientId) (before : ClientState) (site : ClientSite) (size : ℕ) (os : List Output) (sc : Scene) → Counted c site size sc → (k : ℕ) (x : IssuedCommand) (d : DiskCommand) → Is_at (After c before sc os) k x d →
@@ -147,7 +149,7 @@ all_say c before site size (o ∷ os) sc h k x d i = go (all_say c before site s
     go (inr n) = inr (new_more c site size os (o ∷ os) x d (λ p j. inr j) n)
 
 -- flush steps leave the disks
-flushes_disks : (c : ClientId) (s : ClientState) (ss : List ServerId) (w : World) → (ev.flushes c s ss w).disks ≡ w.disks
+pub flushes_disks : (c : ClientId) (s : ClientState) (ss : List ServerId) (w : World) → (ev.flushes c s ss w).disks ≡ w.disks
 unfolding ev.flushes
 flushes_disks c s [] w = refl
 flushes_disks c s (y ∷ ss) w = flushes_disks c s ss (ev.flushed_at w c y s) ∙ in_phase (cl.lease_end_with s y) (cl.phase_with s y (clock_of w (nodes.Client c)))
@@ -165,7 +167,7 @@ flushes_disks c s (y ∷ ss) w = flushes_disks c s ss (ev.flushed_at w c y s) �
     in_phase o None = refl
 
 -- A write is for a disk of its file's server.
-placed_at : (size : ℕ) (os : List Output) → Placed size os → (n : ℕ) (at to : BlockAt) (tag : Tag) (bytes : List ℕ) → Has (write_said n at to tag bytes) os → pred at.disk.0 % size + 1 ≡ tag.file.server.0
+pub placed_at : (size : ℕ) (os : List Output) → Placed size os → (n : ℕ) (at to : BlockAt) (tag : Tag) (bytes : List ℕ) → Has (write_said n at to tag bytes) os → pred at.disk.0 % size + 1 ≡ tag.file.server.0
 placed_at size [] h n at to tag bytes i = absurd i
 placed_at size (o ∷ os) h n at to tag bytes (inl e) = subst (Placed_one size) (sym e) h.one
 placed_at size (o ∷ os) h n at to tag bytes (inr i) = placed_at size os h.rest n at to tag bytes i
@@ -192,7 +194,7 @@ life_low w c site there h b i k x is cx sx = go (h.known.commands x (numbered_ha
         let f = ap (λ o. (world.life_at o).0) found in omega (arith, l, f)
 
 -- one before
-pair_before : (R : Association → Association → Type 0) (al bl : List Association) → Pairwise R al bl → (b : Association) → Has b bl → (a : Association) × Has a al × R a b
+pub pair_before : (R : Association → Association → Type 0) (al bl : List Association) → Pairwise R al bl → (b : Association) → Has b bl → (a : Association) × Has a al × R a b
 pair_before R [] [] p b h = absurd h
 pair_before R [] (y ∷ bl) p b h = absurd p
 pair_before R (x ∷ al) [] p b h = absurd p

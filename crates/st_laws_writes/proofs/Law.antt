@@ -67,13 +67,13 @@ use Rattle.st_laws_writes.proofs.Joining.{Ends_reported, client_open, life_low}
 use Rattle.st_laws_writes.proofs.Walking.{Ended_by}
 
 -- Each command that is open was open before, and the same.
-abbrev Opens_from : List DiskCommand → List DiskCommand → Type 0
+abbrev pub Opens_from : List DiskCommand → List DiskCommand → Type 0
 Opens_from ds es = (k : ℕ) (d : DiskCommand) → disks.command_at es k ≡ Some d → d.report ≡ reports.Open → (e : DiskCommand) × (disks.command_at ds k ≡ Some e) × (e.report ≡ reports.Open) × (d.what ≡ e.what)
 
-opens_same : (ds : List DiskCommand) → Opens_from ds ds
+pub opens_same : (ds : List DiskCommand) → Opens_from ds ds
 opens_same ds k d e r = (d, e, r, refl)
 
-opens_set : (ds : List DiskCommand) (n : ℕ) (c d : DiskCommand) → disks.command_at ds (suc n) ≡ Some c → (d.report ≡ reports.Open → c.report ≡ reports.Open) → d.what ≡ c.what → Opens_from ds (set ds n d)
+pub opens_set : (ds : List DiskCommand) (n : ℕ) (c d : DiskCommand) → disks.command_at ds (suc n) ≡ Some c → (d.report ≡ reports.Open → c.report ≡ reports.Open) → d.what ≡ c.what → Opens_from ds (set ds n d)
 opens_set ds n c d is r w k y e o = go (at_set ds n k d y e)
   where
     go : ((k ≡ suc n) × (y ≡ d)) ⊎ ((k ≢ suc n) × (disks.command_at ds k ≡ Some y)) → (x : DiskCommand) × (disks.command_at ds k ≡ Some x) × (x.report ≡ reports.Open) × (y.what ≡ x.what)
@@ -86,7 +86,7 @@ moved w v cs xs f h c site e r a i k x d at tag bytes is js wh op cx sx lx =
     h c site (ap (λ zs. numbered zs c.0) (sym cs) ∙ e) r a i k x z.0 at tag bytes (ap (λ zs. numbered zs k) (sym xs) ∙ is) z.1 (sym z.3 ∙ wh) z.2 cx sx lx
 
 -- an effect
-effect_opens : (d : Disks) (n : ℕ) → Opens_from d.commands (ev.disks_after d (disks.effect d n)).commands
+pub effect_opens : (d : Disks) (n : ℕ) → Opens_from d.commands (ev.disks_after d (disks.effect d n)).commands
 unfolding disks.effect disks.effect_at disks.effect_reported disks.effect_once disks.effect_of
 effect_opens d zero = opens_same d.commands
 effect_opens d (suc n) = at (disks.command d (suc n)) refl

@@ -11,3 +11,12 @@ pub record InMemory : Type 0 where
 -- a count raised by one, up to the end of its range: the number of the next call, and the faults after a failure
 abbrev pub raised : ℕ → ℕ
 raised n = min (n + 1) (2 ^ 64 - 1)
+
+-- the link in memory: the bytes that are left and those that are written, the names that it was attached at, and the calls
+pub record LinkInMemory : Type 0 where
+  pub left : List ℕ
+  pub written : List ℕ
+  pub names : List (List ℕ)
+  pub calls : ℕ
+  pub failing : List ℕ
+  pub faults : ℕ

@@ -3,3 +3,4 @@ pub mod Causes
 pub mod InMemory
 pub mod Prefixes
 pub mod Refusals
+pub mod Names

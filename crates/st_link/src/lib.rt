@@ -6,12 +6,16 @@ mod calls;
 mod ends;
 mod link;
 mod memory;
+mod memory_link;
 mod safe;
+mod unix;
 mod whole;
 
 pub use calls::{ReadCall, WriteCall};
 pub use ends::{ReaderSource, WriterSink};
-pub use link::{Failed, Sink, Source};
+pub use link::{Failed, Link, Sink, Source};
 pub use memory::{MemorySink, MemorySource};
+pub use memory_link::MemoryLink;
 pub use safe::{SafeSink, SafeSource};
-pub use whole::{ReadFault, put_all, read_up_to};
+pub use unix::UnixLink;
+pub use whole::{ReadFault, put_all, read_up_to, send_all};

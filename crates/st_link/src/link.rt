@@ -1,9 +1,10 @@
-// The two traits, and their one error.
-ghost use Rattle.std.specs.Prelude.{ℕ, List, ◌<◌, IfOk, length};
+// The traits, and their one error.
+ghost use Rattle.std.specs.Prelude.{◌≡◌, ℕ, List, ◌<◌, IfOk, OnOk, OnErr, length};
 ghost use Rattle.std.specs.declared.option.Option.{Option};
 ghost use Rattle.std.specs.Io.{ReadsAtMost, WritesAtMost};
 ghost use Rattle.std.specs.Io.KnownBytes.{ReadConsumes, WriteAppends};
 ghost use Rattle.st_link.specs.Causes.{HasCause};
+ghost use Rattle.st_link.specs.Names.{Attaches, MayAttach};
 
 use thiserror::Error;
 
@@ -44,4 +45,36 @@ pub trait Sink {
         ensures some { IfOk result (λ n. 0 < length piece.now → 0 < n) }
         ensures bytes { WriteAppends (written self.old) (written self.new) result piece.now }
         ensures cause { HasCause (faults self.old) (faults self.new) result };
+}
+
+/// A source and a sink in one: the end of a stream that goes both ways. docs/PROTOCOL.md, "Sources and sinks", has the rules.
+pub trait Link: Source + Sink {
+    /// The names that `attach` was called with, if the link knows them.
+    ghost attached: { Self → Option (List (List ℕ)) };
+
+    /// Attaches the link at this name. Where it fails, the link may not tell the name.
+    fn attach(&mut self, name: &str) -> Result<(), Failed>
+        ensures called { OnOk result (Attaches (attached self.old) (attached self.new) name.now) }
+        ensures told { OnErr result (MayAttach (attached self.old) (attached self.new) name.now) }
+        ensures left { Self.left self.new ≡ Self.left self.old }
+        ensures written { Self.written self.new ≡ Self.written self.old }
+        ensures cause { HasCause (Self.Source.faults self.old) (Self.Source.faults self.new) result };
+
+    /// Takes as `take` does, and leaves what was written.
+    fn receive(&mut self, room: &mut [u8]) -> Result<usize, Failed>
+        ensures bound { ReadsAtMost result room.new }
+        ensures bytes { ReadConsumes (Self.left self.old) (Self.left self.new) result room.new }
+        ensures written { Self.written self.new ≡ Self.written self.old }
+        ensures cause { HasCause (Self.Source.faults self.old) (Self.Source.faults self.new) result };
+
+    /// Writes as `put` does, and leaves what is left.
+    fn send(&mut self, piece: &[u8]) -> Result<usize, Failed>
+        ensures bound { WritesAtMost result piece.now }
+        ensures some { IfOk result (λ n. 0 < length piece.now → 0 < n) }
+        ensures bytes { WriteAppends (Self.written self.old) (Self.written self.new) result piece.now }
+        ensures left { Self.left self.new ≡ Self.left self.old }
+        ensures cause { HasCause (Self.Source.faults self.old) (Self.Source.faults self.new) result };
+
+    /// The link has one count of faults.
+    ghost one_count: { (x : Self) → Self.Source.faults x ≡ Self.Sink.faults x };
 }

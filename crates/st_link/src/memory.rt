@@ -12,14 +12,14 @@ use std::marker::Model;
 
 // The number of calls so far, the numbers of the calls that fail, and the number of faults so far.
 #[derive(Drop)]
-struct Plan {
-    calls: u64,
-    failing: Vec<u64>,
-    faults: u64,
+pub(crate) struct Plan {
+    pub(crate) calls: u64,
+    pub(crate) failing: Vec<u64>,
+    pub(crate) faults: u64,
 }
 
 impl Plan {
-    fn new(failing: Vec<u64>) -> Plan
+    pub(crate) fn new(failing: Vec<u64>) -> Plan
         ensures { result ≡ record { calls = 0; failing = failing; faults = 0 } }
     {
         Plan {
@@ -30,7 +30,7 @@ impl Plan {
     }
 
     // Counts a call, and returns whether it must fail.
-    fn call(&mut self) -> bool
+    pub(crate) fn call(&mut self) -> bool
         ensures calls { self.new.calls ≡ raised self.old.calls }
         ensures failing { self.new.failing ≡ self.old.failing }
         ensures faults { self.new.faults ≡ self.old.faults }
@@ -41,7 +41,7 @@ impl Plan {
     }
 
     // Counts a fault.
-    fn fail(&mut self) -> Failed
+    pub(crate) fn fail(&mut self) -> Failed
         ensures calls { self.new.calls ≡ self.old.calls }
         ensures failing { self.new.failing ≡ self.old.failing }
         ensures faults { self.new.faults ≡ raised self.old.faults }

@@ -5,7 +5,7 @@ ghost use Rattle.st_link.specs.Causes.{HasCause, Rose};
 ghost use Rattle.st_link.specs.Prefixes.{AppendsPrefix, LosesFront, LosesSome};
 ghost use Rattle.st_link.specs.declared.whole.ReadFault.TheVariants.{Memory, Fault};
 
-use crate::link::{Failed, Sink, Source};
+use crate::link::{Failed, Link, Sink, Source};
 use std::alloc::{AllocError, Global};
 use thiserror::Error;
 
@@ -45,6 +45,21 @@ pub fn put_all<S: Sink>(sink: &mut S, bytes: &[u8]) -> Result<(), Failed>
     let mut done = 0;
     while done < bytes.len() {
         let n = sink.put(&bytes[done..])?;
+        done += n;
+    }
+    Ok(())
+}
+
+/// Writes all of the bytes to a link. If the link fails, it returns `Failed`, and some of the first bytes were written, maybe none.
+pub fn send_all<L: Link>(link: &mut L, bytes: &[u8]) -> Result<(), Failed>
+    ensures ok { OnOk result (Appends (L.written link.old) (L.written link.new) bytes.now) }
+    ensures failed { OnErr result (AppendsPrefix (L.written link.old) (L.written link.new) bytes.now) }
+    ensures left { L.left link.new ≡ L.left link.old }
+    ensures cause { HasCause (L.Source.faults link.old) (L.Source.faults link.new) result }
+{
+    let mut done = 0;
+    while done < bytes.len() {
+        let n = link.send(&bytes[done..])?;
         done += n;
     }
     Ok(())

@@ -67,6 +67,13 @@ impl ServerNode {
         })
     }
 
+    /// The server's number.
+    pub fn id(&self) -> ServerId
+        ensures { result ≡ self.now.state.id }
+    {
+        self.machine.id
+    }
+
     /// Whether the node runs.
     pub fn running(&self) -> bool
         ensures running { result ≡ self.now.running }

@@ -1,0 +1,15 @@
+pub mod Weights
+pub mod Passing
+pub mod Hearing
+pub mod Stepping
+pub mod Events
+pub mod Clients
+pub mod Tallies
+pub mod Stables
+pub mod Servers
+pub mod Reading
+pub mod Answering
+pub mod Asking
+pub mod Thefts
+pub mod Robbing
+pub mod Law

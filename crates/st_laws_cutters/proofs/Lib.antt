@@ -1,0 +1,17 @@
+pub mod New
+pub mod Walking
+pub mod Hearing
+pub mod Requesting
+pub mod Step
+pub mod World
+pub mod Named
+pub mod Cutting
+pub mod Seen
+pub mod Standing
+pub mod Asked
+pub mod Law
+pub mod Runs
+pub mod Sending
+pub mod Lives
+pub mod Going
+pub mod Former

@@ -1,0 +1,8 @@
+pub mod Events
+pub mod Tracked
+pub mod Still
+pub mod Falling
+pub mod Lasting
+pub mod Cases
+pub mod Growing
+pub mod Alone

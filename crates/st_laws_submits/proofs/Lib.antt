@@ -1,0 +1,12 @@
+pub mod Last
+pub mod Walk
+pub mod Quiet
+pub mod Step
+pub mod Others
+pub mod Owing
+pub mod Taking
+pub mod Client
+pub mod Cutting
+pub mod Run
+pub mod Zeros
+pub mod Rows

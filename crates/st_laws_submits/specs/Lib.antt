@@ -1,0 +1,4 @@
+pub mod Submits
+pub mod Lies
+pub mod Left
+pub mod Rest

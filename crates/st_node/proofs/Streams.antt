@@ -1,0 +1,293 @@
+-- What stands while a link is taken piece by piece, and what is known where that stops.
+use Rattle.std.proofs.Common.{◌≡◌, ℕ, zero, suc, ◌+◌, ◌-◌, ◌<◌, ◌≤◌, List, [], ◌∷◌, ◌++◌, length, take, drop, refl, sym, ◌∙◌, ap, subst, arith, append-nil, take-append-drop, append_assoc}
+use Rattle.std.specs.Prelude.{Option, Some, None, IfSome, Result, Ok, Err}
+use Rattle.std.specs.Io.KnownBytes.{Appends, Consumes, IsAtEnd, Keeps}
+use Rattle.std.proofs.KnownBytes.{Consumes-trans, Consumes-kept, Consumes-nil, Appends-nil, Appends-trans}
+use Rattle.std.proofs.Math.Seq.{take-append_seam}
+use Rattle.st_base.specs.declared.ids.Stamp.{Stamp}
+use Rattle.st_codec.specs.Frames.{Frames, fed, fresh, next, front}
+use Rattle.st_link.specs.Prefixes.{AppendsPrefix}
+use Rattle.st_node.specs.declared.node.Node.{Node}
+use Rattle.st_node.specs.declared.fault.NodeFault.{NodeFault}
+use Rattle.st_node.specs.declared.fault.NodeFault.TheVariants as faults
+use Rattle.st_node.specs.Runs.{Run, MOST, behind, end_at, node_run, run}
+use Rattle.st_node.specs.Serving.{Breaks, Carries, GoesOn, IsCutOff, IsCutShort, IsFront, IsHalted, IsHandled, IsIdle, IsTorn, Pieces, Serves, StopsAt, room_for}
+use Rattle.st_node.proofs.Reading.{part_few}
+use Rattle.st_node.proofs.Runs.{behind_both, fed_nothing, fed_twice, idle_ends}
+
+-- the run goes on from here, behind what was written
+abbrev pub Follows : Node → List ℕ → List ℕ → ℕ → Node → Frames → List Stamp → List Stamp → Type 0
+Follows old taken written k n f before now = (more : List ℕ) → behind written (run k n now (fed f more)) ≡ node_run old before (taken ++ more)
+
+-- bytes were taken and written, and the run goes on from here
+pub record Streams (left_before left_now written_before written_now : Option (List ℕ)) (before now : Option (List Stamp)) (old : Node) (k : ℕ) (n : Node)
+    (f : Frames) : Type 0 where
+  pub taken : List ℕ
+  pub written : List ℕ
+  pub took : Consumes left_before left_now taken
+  pub wrote : Appends written_before written_now written
+  pub goes : Carries before now (Follows old taken written k n f)
+  pub idle : IsIdle k f
+
+-- ---- at the beginning
+
+pub idle_from : (k : ℕ) (f : Frames) → 0 < k → next f ≡ (f, None) → IsIdle k f
+idle_from zero f some e = absurd (omega arith)
+idle_from (suc k) f some e = e
+
+fresh_idle : next fresh ≡ (fresh, None)
+unfolding next front
+fresh_idle = refl
+
+pub begun : (left written : Option (List ℕ)) (readings : Option (List Stamp)) (n : Node) → Streams left left written written readings readings n MOST n fresh
+unfolding MOST
+begun left written readings n = record {
+  taken = [];
+  written = [];
+  took = Consumes-nil left;
+  wrote = Appends-nil written;
+  goes = carries readings;
+  idle = idle_from MOST fresh (omega arith) fresh_idle;
+}
+  where
+    carries : (readings : Option (List Stamp)) → Carries readings readings (Follows n [] [] MOST n fresh)
+    carries None = refl
+    carries (Some rs) = λ more. refl
+
+-- ---- how much may come
+
+idle_small : (k : ℕ) (f : Frames) → IsIdle k f → length f.rest ≤ room_for k
+idle_small zero f idle = let e : length f.rest ≡ 0 = ap length idle in omega (arith, e)
+idle_small (suc k) f idle = let short : length f.rest < 65540 = part_few f f idle in omega (arith, short)
+
+pub room_falls : (k j : ℕ) (f g : Frames) (n : ℕ) → IsIdle k f → IsIdle j g → 0 < n → length f.rest + n + room_for j ≤ length g.rest + room_for k →
+    room_for j - length g.rest < room_for k - length f.rest
+room_falls k j f g n one two some few = let a = idle_small k f one in let b = idle_small j g two in omega (arith, a, b, some, few)
+
+-- ---- a piece more
+
+piece_goes : (before now later : Option (List Stamp)) (old : Node) (taken written piece out : List ℕ) (k j : ℕ) (n p : Node) (f g : Frames) →
+    Carries before now (Follows old taken written k n f) → Carries now later (GoesOn k n (fed f piece) [] j p g out) →
+    Carries before later (Follows old (taken ++ piece) (written ++ out) j p g)
+piece_goes None None later old taken written piece out k j n p f g one two = two
+piece_goes None (Some b) later old taken written piece out k j n p f g one two = absurd cc
+piece_goes (Some a) None later old taken written piece out k j n p f g one two = absurd one
+piece_goes (Some a) (Some b) None old taken written piece out k j n p f g one two = absurd two
+piece_goes (Some a) (Some b) (Some c) old taken written piece out k j n p f g one two = λ more.
+    behind_both written out (run j p c (fed g more))
+    ∙ ap (behind written) (two more)
+    ∙ ap (λ (h : Frames). behind written (run k n b h)) (fed_twice f piece more)
+    ∙ one (piece ++ more)
+    ∙ ap (node_run old a) (sym (append_assoc taken piece more))
+
+pub piece_more : (left now later w wn wl : Option (List ℕ)) (before mid after : Option (List Stamp)) (old : Node) (piece : List ℕ) (k j : ℕ) (n p : Node)
+    (f g : Frames) → Streams left now w wn before mid old k n f → Consumes now later piece → IsHandled k n (fed f piece) mid after wn wl j p g →
+    Streams left later w wl before after old j p g
+piece_more left now later w wn wl before mid after old piece k j n p f g s took h = record {
+  taken = s.taken ++ piece;
+  written = s.written ++ h.out;
+  took = Consumes-trans left now later s.taken piece s.took took;
+  wrote = Appends-trans w wn wl s.written h.out s.wrote h.wrote;
+  goes = piece_goes before mid after old s.taken s.written piece h.out k j n p f g s.goes h.goes;
+  idle = h.idle;
+}
+
+-- ---- what is known
+
+-- the run over what was taken
+taken_run : (old : Node) (taken written : List ℕ) (k : ℕ) (n : Node) (f : Frames) (before now : List Stamp) → Follows old taken written k n f before now → IsIdle k f →
+    node_run old before taken ≡ record { node = n; out = written; stop = end_at f.offset f.rest }
+taken_run old taken written k n f before now goes idle =
+    ap (node_run old before) (sym (append-nil taken)) ∙ sym (goes []) ∙ ap (λ (h : Frames). behind written (run k n now h)) (fed_nothing f)
+    ∙ ap (behind written) (idle_ends k n now f idle)
+    ∙ ap (λ (w : List ℕ). record { node = n; out = w; stop = end_at f.offset f.rest }) (append-nil written)
+
+-- the bytes of the run over all that comes begin with what was written
+front_run : (old : Node) (taken written more : List ℕ) (k : ℕ) (n : Node) (f : Frames) (before now : List Stamp) → Follows old taken written k n f before now →
+    (node_run old before (taken ++ more)).out ≡ written ++ (run k n now (fed f more)).out
+front_run old taken written more k n f before now goes = ap (λ (r : Run). r.out) (sym (goes more))
+
+-- a front of a text was written
+prefix_of : (before now : Option (List ℕ)) (whole t rest : List ℕ) → Appends before now t → whole ≡ t ++ rest → AppendsPrefix before now whole
+prefix_of before now whole t rest h e = (length t, subst (Appends before now) (sym (ap (take (length t)) e ∙ take-append_seam t rest)) h)
+
+-- a front of what comes behind a text was written
+prefix_more : (w wn wl : Option (List ℕ)) (whole written out rest : List ℕ) → Appends w wn written → AppendsPrefix wn wl out → whole ≡ written ++ (out ++ rest) →
+    AppendsPrefix w wl whole
+prefix_more w wn wl whole written out rest one two e =
+    prefix_of w wl whole (written ++ take two.0 out) (drop two.0 out ++ rest) (Appends-trans w wn wl written (take two.0 out) one two.1)
+    (e ∙ ap (λ (x : List ℕ). written ++ (x ++ rest)) (sym (take-append-drop two.0 out))
+    ∙ ap (λ (x : List ℕ). written ++ x) (append_assoc (take two.0 out) (drop two.0 out) rest)
+    ∙ sym (append_assoc written (take two.0 out) (drop two.0 out ++ rest)))
+
+-- ---- where it stops
+
+-- the whole stream was taken
+pub at_end : (result : Result Unit NodeFault) (left now later w wn : Option (List ℕ)) (before mid : Option (List Stamp)) (old : Node) (k : ℕ) (n : Node) (f : Frames) (piece : List ℕ) →
+    Streams left now w wn before mid old k n f → Consumes now later piece → piece ≡ [] → IsAtEnd later → result ≡ end_at f.offset f.rest →
+    IfSome left (λ bytes. IfSome before (λ readings. Serves result w wn n (node_run old readings bytes)))
+at_end result None now later w wn before mid old k n f piece s took empty end is = tt
+at_end result (Some bytes) None later w wn before mid old k n f piece s took empty end is = absurd s.took
+at_end result (Some bytes) (Some xs) None w wn before mid old k n f piece s took empty end is = absurd took
+at_end result (Some bytes) (Some xs) (Some ys) w wn None mid old k n f piece s took empty end is = tt
+at_end result (Some bytes) (Some xs) (Some ys) w wn (Some rs) None old k n f piece s took empty end is = absurd s.goes
+at_end result (Some bytes) (Some xs) (Some ys) w wn (Some rs) (Some now) old k n f piece s took empty end is =
+    let nothing : xs ≡ [] = took ∙ ap (λ (x : List ℕ). x ++ ys) empty ∙ end in
+    let all : bytes ≡ s.taken = s.took ∙ ap (λ (x : List ℕ). s.taken ++ x) nothing ∙ append-nil s.taken in
+    let whole : node_run old rs bytes ≡ record { node = n; out = s.written; stop = end_at f.offset f.rest } =
+    ap (node_run old rs) all ∙ taken_run old s.taken s.written k n f rs now s.goes s.idle in
+    serves result f.offset f.rest (node_run old rs bytes) is whole s.wrote
+  where
+    serves : (result : Result Unit NodeFault) (offset : ℕ) (rest : List ℕ) (r : Run) → result ≡ end_at offset rest →
+        r ≡ record { node = n; out = s.written; stop = end_at offset rest } → Appends w wn s.written → Serves result w wn n r
+    serves result offset [] r is e wrote =
+        subst (λ x. Serves x w wn n r) (sym is) (subst (Serves (Ok tt) w wn n) (sym e) (refl, refl, wrote))
+    serves result offset (b ∷ bs) r is e wrote =
+        subst (λ x. Serves x w wn n r) (sym is) (subst (Serves (Err (faults.Cut offset)) w wn n) (sym e) (refl, refl, wrote))
+
+-- a read failed
+pub cut_off : (left now later w wn : Option (List ℕ)) (before mid : Option (List Stamp)) (old : Node) (k : ℕ) (n : Node) (f : Frames) →
+    Streams left now w wn before mid old k n f → Keeps now later → IfSome before (λ readings. IsCutOff old n readings left later w wn)
+cut_off left now later w wn None mid old k n f s kept = tt
+cut_off left now later w wn (Some rs) None old k n f s kept = absurd s.goes
+cut_off left now later w wn (Some rs) (Some now_rs) old k n f s kept =
+    let is = taken_run old s.taken s.written k n f rs now_rs s.goes s.idle in
+    record {
+      taken = s.taken;
+      took = Consumes-kept left now later s.taken s.took kept;
+      stands = ap (λ (r : Run). r.node) is;
+      wrote = subst (Appends w wn) (sym (ap (λ (r : Run). r.out) is)) s.wrote;
+    }
+
+-- a front was written so far
+pub so_far : (left now w wn : Option (List ℕ)) (before mid : Option (List Stamp)) (old : Node) (k : ℕ) (n : Node) (f : Frames) →
+    Streams left now w wn before mid old k n f →
+    IfSome left (λ bytes. IfSome before (λ readings. AppendsPrefix w wn (node_run old readings bytes).out))
+so_far None now w wn before mid old k n f s = tt
+so_far (Some bytes) None w wn before mid old k n f s = absurd s.took
+so_far (Some bytes) (Some xs) w wn None mid old k n f s = tt
+so_far (Some bytes) (Some xs) w wn (Some rs) None old k n f s = absurd s.goes
+so_far (Some bytes) (Some xs) w wn (Some rs) (Some now) old k n f s =
+    prefix_of w wn (node_run old rs bytes).out s.written (run k n now (fed f xs)).out s.wrote
+    (ap (λ (b : List ℕ). (node_run old rs b).out) s.took ∙ front_run old s.taken s.written xs k n f rs now s.goes)
+
+-- the run stopped in a piece
+stop_run : (old : Node) (taken written piece out more : List ℕ) (k : ℕ) (n p : Node) (f : Frames) (stop : NodeFault) (before now : List Stamp) →
+    Follows old taken written k n f before now → StopsAt k n (fed f piece) [] p out stop now →
+    node_run old before (taken ++ (piece ++ more)) ≡ record { node = p; out = written ++ out; stop = Err stop }
+stop_run old taken written piece out more k n p f stop before now goes stops =
+    sym (goes (piece ++ more)) ∙ ap (λ (h : Frames). behind written (run k n now h)) (sym (fed_twice f piece more)) ∙ ap (behind written) (sym (stops more))
+
+pub halted : (left now later w wn wl : Option (List ℕ)) (before mid : Option (List Stamp)) (old : Node) (piece : List ℕ) (k : ℕ) (n p : Node) (f : Frames) (stop : NodeFault) →
+    Streams left now w wn before mid old k n f → Consumes now later piece → IsHalted k n (fed f piece) mid wn wl p stop →
+    IfSome left (λ bytes. IfSome before (λ readings.
+    ((node_run old readings bytes).stop ≡ Err stop) × ((node_run old readings bytes).node ≡ p) × Appends w wl (node_run old readings bytes).out))
+halted None now later w wn wl before mid old piece k n p f stop s took h = tt
+halted (Some bytes) None later w wn wl before mid old piece k n p f stop s took h = absurd s.took
+halted (Some bytes) (Some xs) None w wn wl before mid old piece k n p f stop s took h = absurd took
+halted (Some bytes) (Some xs) (Some ys) w wn wl None mid old piece k n p f stop s took h = tt
+halted (Some bytes) (Some xs) (Some ys) w wn wl (Some rs) None old piece k n p f stop s took h = absurd s.goes
+halted (Some bytes) (Some xs) (Some ys) w wn wl (Some rs) (Some now) old piece k n p f stop s took h =
+    let all : bytes ≡ s.taken ++ (piece ++ ys) = s.took ∙ ap (λ (x : List ℕ). s.taken ++ x) took in
+    let whole : node_run old rs bytes ≡ record { node = p; out = s.written ++ h.out; stop = Err stop } =
+    ap (node_run old rs) all ∙ stop_run old s.taken s.written piece h.out ys k n p f stop rs now s.goes h.stops in (
+      ap (λ (r : Run). r.stop) whole,
+      ap (λ (r : Run). r.node) whole,
+      subst (Appends w wl) (sym (ap (λ (r : Run). r.out) whole)) (Appends-trans w wn wl s.written h.out s.wrote h.wrote),
+    )
+
+-- a write failed
+pub torn : (left now later w wn wl : Option (List ℕ)) (before mid : Option (List Stamp)) (old : Node) (piece : List ℕ) (k : ℕ) (n p : Node) (f : Frames) →
+    Streams left now w wn before mid old k n f → Consumes now later piece → IsTorn k n (fed f piece) mid wn wl p →
+    IfSome left (λ bytes. IfSome before (λ readings. AppendsPrefix w wl (node_run old readings bytes).out))
+torn None now later w wn wl before mid old piece k n p f s took h = tt
+torn (Some bytes) None later w wn wl before mid old piece k n p f s took h = absurd s.took
+torn (Some bytes) (Some xs) None w wn wl before mid old piece k n p f s took h = absurd took
+torn (Some bytes) (Some xs) (Some ys) w wn wl None mid old piece k n p f s took h = tt
+torn (Some bytes) (Some xs) (Some ys) w wn wl (Some rs) None old piece k n p f s took h = absurd s.goes
+torn (Some bytes) (Some xs) (Some ys) w wn wl (Some rs) (Some now) old piece k n p f s took h =
+    let all : bytes ≡ s.taken ++ (piece ++ ys) = s.took ∙ ap (λ (x : List ℕ). s.taken ++ x) took in
+    let more = h.front.first ys in
+    prefix_more w wn wl (node_run old rs bytes).out s.written h.out more.0 s.wrote h.wrote
+    (ap (λ (b : List ℕ). (node_run old rs b).out) all ∙ front_run old s.taken s.written (piece ++ ys) k n f rs now s.goes
+    ∙ ap (λ (g : Frames). s.written ++ (run k n now g).out) (sym (fed_twice f piece ys)) ∙ ap (λ (x : List ℕ). s.written ++ x) more.1)
+
+pub cut_short : (left now later w wn wl : Option (List ℕ)) (before mid : Option (List Stamp)) (old : Node) (piece : List ℕ) (k : ℕ) (n p : Node) (f : Frames) →
+    Streams left now w wn before mid old k n f → Consumes now later piece → IsTorn k n (fed f piece) mid wn wl p →
+    IfSome before (λ readings. IsCutShort old p readings left later w wl)
+cut_short left now later w wn wl None mid old piece k n p f s took h = tt
+cut_short left now later w wn wl (Some rs) None old piece k n p f s took h = absurd s.goes
+cut_short left now later w wn wl (Some rs) (Some now_rs) old piece k n p f s took h =
+    let is : node_run old rs (s.taken ++ piece) ≡ behind s.written (run k n now_rs (fed f piece)) = sym (s.goes piece) in
+    record {
+      taken = s.taken ++ piece;
+      took = Consumes-trans left now later s.taken piece s.took took;
+      stands = ap (λ (r : Run). r.node) is ∙ h.front.stands;
+      wrote = prefix_more w wn wl (node_run old rs (s.taken ++ piece)).out s.written h.out [] s.wrote h.wrote
+          (ap (λ (r : Run). r.out) is ∙ ap (λ (x : List ℕ). s.written ++ x) (h.front.is ∙ sym (append-nil h.out)));
+    }
+
+-- ---- a piece
+
+-- what a call that went on leaves of a piece is a front of its run
+pub front_of_going : (before now : Option (List Stamp)) (k j : ℕ) (n p : Node) (f g : Frames) (out : List ℕ) → Carries before now (GoesOn k n f [] j p g out) → IsIdle j g →
+    IfSome before (IsFront k n f p out)
+front_of_going None now k j n p f g out goes idle = tt
+front_of_going (Some rs) None k j n p f g out goes idle = absurd goes
+front_of_going (Some rs) (Some ts) k j n p f g out goes idle =
+    let is : run k n rs f ≡ record { node = p; out = out; stop = end_at g.offset g.rest } =
+    ap (run k n rs) (sym (fed_nothing f)) ∙ sym (goes []) ∙ ap (λ (h : Frames). behind out (run j p ts h)) (fed_nothing g) ∙ ap (behind out) (idle_ends j p ts g idle)
+    ∙ ap (λ (w : List ℕ). record { node = p; out = w; stop = end_at g.offset g.rest }) (append-nil out) in
+    record {
+      stands = ap (λ (r : Run). r.node) is;
+      is = ap (λ (r : Run). r.out) is;
+      first = λ more. ((run j p ts (fed g more)).out, ap (λ (r : Run). r.out) (sym (goes more)));
+    }
+
+-- so is what a call that stopped leaves
+pub front_of_stop : (before : Option (List Stamp)) (k : ℕ) (n p : Node) (f : Frames) (out : List ℕ) (stop : NodeFault) → IfSome before (StopsAt k n f [] p out stop) →
+    IfSome before (IsFront k n f p out)
+front_of_stop None k n p f out stop h = tt
+front_of_stop (Some rs) k n p f out stop h =
+    let is : run k n rs f ≡ record { node = p; out = out; stop = Err stop } = ap (run k n rs) (sym (fed_nothing f)) ∙ sym (h []) in
+    record {
+      stands = ap (λ (r : Run). r.node) is;
+      is = ap (λ (r : Run). r.out) is;
+      first = λ more. ([], ap (λ (r : Run). r.out) (sym (h more)) ∙ sym (append-nil out));
+    }
+
+-- ---- a call that stopped in a piece
+
+-- the link's bytes by another name
+pub written_as : (left now w wn wm : Option (List ℕ)) (before mid : Option (List Stamp)) (old : Node) (k : ℕ) (n : Node) (f : Frames) → wm ≡ wn →
+    Streams left now w wn before mid old k n f → Streams left now w wm before mid old k n f
+written_as left now w wn wm before mid old k n f e s = subst (λ x. Streams left now w x before mid old k n f) (sym e) s
+
+pub piece_serves : (e : NodeFault) (left now later w wn wl : Option (List ℕ)) (before mid after : Option (List Stamp)) (old : Node) (piece : List ℕ) (k j : ℕ)
+    (n p : Node) (f g : Frames) → Streams left now w wn before mid old k n f → Consumes now later piece →
+    Pieces (Err e) k n (fed f piece) mid after wn wl j p g →
+    IfSome left (λ bytes. IfSome before (λ readings. Serves (Err e) w wl p (node_run old readings bytes)))
+piece_serves faults.Memory left now later w wn wl before mid after old piece k j n p f g s took h =
+    so_far left now w wl before mid old k n f (written_as left now w wn wl before mid old k n f h s)
+piece_serves faults.Write left now later w wn wl before mid after old piece k j n p f g s took h = torn left now later w wn wl before mid old piece k n p f s took h
+piece_serves faults.Read left now later w wn wl before mid after old piece k j n p f g s took h = absurd h
+piece_serves (faults.Cut at) left now later w wn wl before mid after old piece k j n p f g s took h = absurd h
+piece_serves (faults.Frame at r) left now later w wn wl before mid after old piece k j n p f g s took h =
+    halted left now later w wn wl before mid old piece k n p f (faults.Frame at r) s took h
+piece_serves faults.TooManyFrames left now later w wn wl before mid after old piece k j n p f g s took h =
+    halted left now later w wn wl before mid old piece k n p f faults.TooManyFrames s took h
+
+nothing_breaks : (before : Option (List Stamp)) → IfSome before (λ readings. Unit {0})
+nothing_breaks None = tt
+nothing_breaks (Some rs) = tt
+
+pub piece_breaks : (e : NodeFault) (left now later w wn wl : Option (List ℕ)) (before mid after : Option (List Stamp)) (old : Node) (piece : List ℕ) (k j : ℕ)
+    (n p : Node) (f g : Frames) → Streams left now w wn before mid old k n f → Consumes now later piece →
+    Pieces (Err e) k n (fed f piece) mid after wn wl j p g →
+    IfSome before (λ readings. Breaks (Err e) old p readings left later w wl)
+piece_breaks faults.Memory left now later w wn wl before mid after old piece k j n p f g s took h = nothing_breaks before
+piece_breaks faults.Write left now later w wn wl before mid after old piece k j n p f g s took h = cut_short left now later w wn wl before mid old piece k n p f s took h
+piece_breaks faults.Read left now later w wn wl before mid after old piece k j n p f g s took h = absurd h
+piece_breaks (faults.Cut at) left now later w wn wl before mid after old piece k j n p f g s took h = absurd h
+piece_breaks (faults.Frame at r) left now later w wn wl before mid after old piece k j n p f g s took h = nothing_breaks before
+piece_breaks faults.TooManyFrames left now later w wn wl before mid after old piece k j n p f g s took h = nothing_breaks before

@@ -1,0 +1,14 @@
+//! One node served over a link: frames in, frames out. `docs/PROTOCOL.md`, "A node over a stream", has the rules.
+#![tactic(auto)]
+
+mod fault;
+mod frames;
+mod law;
+mod node;
+mod server;
+mod serving;
+
+pub use fault::NodeFault;
+pub use law::whole_frames_run_through;
+pub use node::Node;
+pub use serving::serve;
