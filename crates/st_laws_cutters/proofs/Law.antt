@@ -56,6 +56,8 @@ use Rattle.st_laws_cutters.proofs.Standing.{given_held}
 use Rattle.st_laws_cutters.proofs.World.{stand_again}
 use Rattle.st_laws_cutters.proofs.Going.{event_goes}
 use Rattle.st_laws_cutters.specs.Former.{Goes_between}
+use Rattle.st_laws_cutters.specs.Fresh.{Fresh_are_outstanding}
+use Rattle.st_laws_cutters.proofs.Fresh.{outstanding}
 
 -- What stands behind every event.
 pub record Hold (k : Config) (count : ℕ) (past : List Step) (t : Traced) : Type 0 where
@@ -187,4 +189,11 @@ pub goes : In_every_run Goes_between
 goes k clients servers disks blocks form es head events =
     throughout_events (clients + servers) Goes_between (Hold (terms_of k) (clients + servers))
     (λ past t e sc r h taken. (event_goes past t h.replies e sc (owed (terms_of k) (clients + servers) past t e sc r h taken) taken, (one (terms_of k) (clients + servers) past t e sc r h taken).1)) es events []
+    (traced (fresh_world k clients servers disks blocks form)) (first k clients servers disks blocks form head)
+
+-- and what is served anew is outstanding
+pub fresh : In_every_run Fresh_are_outstanding
+fresh k clients servers disks blocks form es head events =
+    throughout_events (clients + servers) Fresh_are_outstanding (Hold (terms_of k) (clients + servers))
+    (λ past t e sc r h taken. (outstanding (terms_of k) (clients + servers) past t h.cuts h.all h.asks, (one (terms_of k) (clients + servers) past t e sc r h taken).1)) es events []
     (traced (fresh_world k clients servers disks blocks form)) (first k clients servers disks blocks form head)

@@ -8,6 +8,7 @@ pub mod Named
 pub mod Cutting
 pub mod Seen
 pub mod Standing
+pub mod Fresh
 pub mod Asked
 pub mod Law
 pub mod Runs

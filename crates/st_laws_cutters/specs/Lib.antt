@@ -5,3 +5,4 @@ pub mod Cut
 pub mod Law
 pub mod Runs
 pub mod Former
+pub mod Fresh

@@ -4,6 +4,7 @@
 ghost use Rattle.st_laws.specs.Law.{In_every_run};
 ghost use Rattle.st_laws_askers.specs.Reached.{Reassertions_new, Replies_after};
 ghost use Rattle.st_laws_cutters.specs.Former.{Goes_between};
+ghost use Rattle.st_laws_cutters.specs.Fresh.{Fresh_are_outstanding};
 ghost use Rattle.st_laws_cutters.specs.Law.{Cuts_are_asked};
 ghost use Rattle.st_laws_cutters.specs.Named.{Numbers_name_files};
 ghost use Rattle.st_laws_cutters.specs.Runs.{In_runs_taken};
@@ -25,6 +26,12 @@ pub fn replies_are_reached()
 /// row and each lock of the client has a number that was given on its file.
 pub fn numbers_name_files()
     ensures { Numbers_name_files }
+{}
+
+/// In every run, before each step: a message with the next number of its client's session, of its life and epoch, is the outstanding request
+/// of that client, where it runs and its lease there is not over.
+pub fn fresh_requests_are_outstanding()
+    ensures { In_every_run Fresh_are_outstanding }
 {}
 
 /// In every run each cut that a step logs is asked: a client that has the file alone, with a lock of it under a lease that is not over,

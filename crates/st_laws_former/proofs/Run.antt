@@ -41,7 +41,7 @@ module _ (k : Config) (count : ℕ) (past : List Step) (t : Traced) (s : All_hol
       record {
         taken = left.taken;
         cuts = (cutters.one k count past t e sc ranges s.hold taken).0;
-        pages = record { submits = left.submits; cuts = elders_uncut k count past t s.hold s.safe s.pages.writes s.pages.open_ s.pages.pages e sc taken };
+        pages = record { submits = left.submits; cuts = elders_uncut k count past t s.hold s.safe s.pages.pages e sc };
       }
 
   next : Kept past (step t e sc) × All_hold k count (past ++ step t e sc ∷ []) (traced_after e t sc)
