@@ -9,13 +9,13 @@ fn server_id(word: &[u8]) -> Option<ServerId>
     ensures least { IfSome result (λ s. 1 ≤ s.0) }
     ensures most { IfSome result (λ s. s.0 ≤ 4) }
 {
-    if word == b"1" {
+    if word == b"1".as_slice() {
         Some(ServerId(1))
-    } else if word == b"2" {
+    } else if word == b"2".as_slice() {
         Some(ServerId(2))
-    } else if word == b"3" {
+    } else if word == b"3".as_slice() {
         Some(ServerId(3))
-    } else if word == b"4" {
+    } else if word == b"4".as_slice() {
         Some(ServerId(4))
     } else {
         None
@@ -34,7 +34,7 @@ fn is_name(name: &[u8]) -> bool
 fn is_service(first: &[u8], kind: &[u8], name: &[u8]) -> bool
     ensures { result ≡ words_of.is_service first.now kind.now name.now }
 {
-    first == b"node" && (kind == b"server" && is_name(name))
+    first == b"node".as_slice() && (kind == b"server".as_slice() && is_name(name))
 }
 
 /// The server that these words start, where they are `node server ID NAME` with an ID from 1 to 4 and a right NAME.
