@@ -2,3 +2,4 @@ pub mod Kept
 pub mod Sending
 pub mod LostRows
 pub mod Done
+pub mod Emptiness

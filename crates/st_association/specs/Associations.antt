@@ -1,5 +1,5 @@
 -- What a client has of a server between steps; what always stands of it, and what a step needs of its counters.
-use Rattle.std.specs.Prelude.{◌≡◌, ℕ, ◌<◌, ◌≤◌, true, List, length, Option, Some, None, Ok, ⊤}
+use Rattle.std.specs.Prelude.{◌≡◌, ℕ, ◌<◌, ◌≤◌, ◌^◌, Bool, true, ◌&&◌, nat_lt, List, length, Option, Some, None, Ok, ⊤}
 use Rattle.std.specs.List.{list_all}
 use Rattle.st_base.specs.Config.{check}
 use Rattle.st_base.specs.declared.config.Config.{Config}
@@ -31,6 +31,15 @@ pub record IsAssociation (client : ClientId) (config : Config) (server : ServerI
 abbrev pub RequestsBelow : ℕ → Option ClientSession → Type 0
 RequestsBelow most None = ⊤
 RequestsBelow most (Some s) = s.requests.next < most
+
+-- a number is left for one more request
+abbrev pub may_ask : Option ClientSession → Bool
+may_ask None = true
+may_ask (Some s) = nat_lt s.requests.next (2 ^ 62)
+
+-- no counter of the association is at its end
+abbrev pub has_room_at : Association → Bool
+has_room_at a = nat_lt a.store.pages.next_version (2 ^ 62) && (nat_lt a.life.0 (2 ^ 62) && may_ask a.session)
 
 -- Numbers of commands were given, and no counter is at its end.
 pub record IsCounted (a : Association) (next : ℕ) (out : List Output) : Type 0 where

@@ -16,14 +16,14 @@ use std::marker::Model;
 /// What a client has of one server. Contracts see the client, the settings, and the definitions' association.
 #[derive(Drop)]
 pub struct Association {
-    id: ClientId,
-    config: Config,
-    server: ServerId,
-    life: Life,
-    greeting: Option<Stamp>,
-    session: Option<Session>,
-    store: Store,
-    lost: LostPages,
+    pub(crate) id: ClientId,
+    pub(crate) config: Config,
+    pub(crate) server: ServerId,
+    pub(crate) life: Life,
+    pub(crate) greeting: Option<Stamp>,
+    pub(crate) session: Option<Session>,
+    pub(crate) store: Store,
+    pub(crate) lost: LostPages,
 }
 
 impl Model for Association {

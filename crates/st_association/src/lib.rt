@@ -9,6 +9,7 @@ mod outputs;
 mod pending;
 mod sessions;
 mod stores;
+mod told;
 mod turn;
 
 pub use association::Association;

@@ -1,3 +1,16 @@
+pub mod NodeSteps
+pub mod Elsewhere
+pub mod Emptied
+pub mod Unused
+pub mod Discards
+pub mod SoundLists
+pub mod SoundMessages
+pub mod SoundLocks
+pub mod SoundHears
+pub mod SoundInputs
+pub mod SoundPasses
+pub mod SoundRequests
+pub mod Sends
 pub mod Growing
 pub mod Advancing
 pub mod HearGrows
@@ -5,3 +18,7 @@ pub mod InputsGrow
 pub mod PassesGrow
 pub mod HearLasts
 pub mod AllLast
+pub mod Crashing
+pub mod Servers
+pub mod Resting
+pub mod Running

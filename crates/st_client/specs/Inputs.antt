@@ -1,5 +1,5 @@
 -- What comes to a client and goes out of it, and what its steps leave.
-use Rattle.std.specs.Prelude.{◌≡◌, ◌⊎◌, ◌+◌, Bool, true, nat_le, List, length, Result, Ok, Err}
+use Rattle.std.specs.Prelude.{◌≡◌, ◌+◌, Bool, true, nat_le, List, length, Result, Ok, Err}
 use Rattle.st_messages.specs.declared.output.Note.{Note}
 use Rattle.st_messages.specs.declared.output.Note.TheVariants as notes
 use Rattle.st_messages.specs.declared.output.Output.{Output}
@@ -31,13 +31,15 @@ is_sent (outputs.Send m) = fits m
 is_sent (outputs.Note n) = is_noted n
 is_sent o = true
 
--- the node that a step leaves, or the node before it
-abbrev pub node_after : ClientNode → Result NodeTurn StepRefusal → ClientNode
-node_after old (Ok t) = t.node
-node_after old (Err r) = old
+-- What a step of a client that runs returns and leaves.
+abbrev pub Runs : ClientNode → ClientNode → Result (List Output) StepFault → NodeTurn → Type 0
+Runs old new (Ok out) rule = rule ≡ record { node = new; out = out }
+Runs old new (Err Crashed) rule = ⊥
+Runs old new (Err Memory) rule = new ≡ crash_node old
 
--- what a step returns and leaves
+-- What a node's step returns and leaves: the outputs and the node of the definition; a node that does not run stays as it is;
+-- and where memory runs out the node is crashed, in the lives from before the step.
 abbrev pub Steps : ClientNode → ClientNode → Result (List Output) StepFault → Result NodeTurn StepRefusal → Type 0
 Steps old new (Ok out) rule = rule ≡ Ok (record { node = new; out = out })
 Steps old new (Err Crashed) rule = (rule ≡ Err refusals.Crashed) × (new ≡ old)
-Steps old new (Err Memory) rule = (new ≡ crash_node old) ⊎ (new ≡ crash_node (node_after old rule))
+Steps old new (Err Memory) rule = new ≡ crash_node old

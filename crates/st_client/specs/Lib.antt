@@ -1,3 +1,7 @@
+pub mod Discarding
+pub mod Sound
 pub mod Machines
 pub mod Inputs
 pub mod Ends
+pub mod Room
+pub mod Nodes

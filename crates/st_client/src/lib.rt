@@ -4,10 +4,14 @@
 
 mod ends;
 mod fresh;
+mod lives;
 mod machine;
+mod node;
 mod rule;
 mod rules;
+mod state;
 mod step;
 
 pub use ends::LeaseEnds;
 pub use machine::Machine;
+pub use node::ClientNode;

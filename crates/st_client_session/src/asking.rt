@@ -1,5 +1,5 @@
 // The requests of a session.
-ghost use Rattle.std.specs.Prelude.{◌≡◌, ◌+◌, ◌<◌, ◌^◌, true, None, IfOk, OnOk, OnErr, option_map, is_some};
+ghost use Rattle.std.specs.Prelude.{◌≡◌, ◌+◌, ◌<◌, ◌^◌, true, None, IfOk, OnOk, OnErr, option_map, is_some, nat_lt};
 ghost use Rattle.st_client_session.specs.Sessions.{Again, TakesRelease, message, with_session};
 ghost use Rattle.st_requests.specs.ServerRequests.{body_of, copied, ended, shown};
 ghost use Rattle.st_rules.specs.ClientReplies as replies;
@@ -55,6 +55,13 @@ impl Session {
         ensures { result ≡ is_some self.now.session.requests.asked }
     {
         self.requests.waiting()
+    }
+
+    /// Whether a number is left for one more request.
+    pub fn has_room(&self) -> bool
+        ensures { result ≡ nat_lt self.now.session.requests.next (2 ^ 62) }
+    {
+        self.requests.has_room()
     }
 
     /// Whether the outstanding request is this release.

@@ -1,4 +1,4 @@
-ghost use Rattle.std.specs.Prelude.{◌≡◌, ◌<◌, ◌+◌, ◌^◌, true, false, None, Some, IfOk, OnOk, OnErr, is_some, length, slice_get};
+ghost use Rattle.std.specs.Prelude.{◌≡◌, ◌<◌, ◌+◌, ◌^◌, true, false, None, Some, IfOk, OnOk, OnErr, is_some, length, nat_lt, slice_get};
 ghost use Rattle.std.specs.List.{list_any};
 ghost use Rattle.std.specs.Option.{option_copied, option_map};
 ghost use Rattle.st_flush.specs.Calls.{AreApart, told, told_on};
@@ -155,6 +155,13 @@ impl Store {
         ensures { result ≡ list_any pages.is_any_write self.now.store.commands }
     {
         self.commands.has_write_out()
+    }
+
+    /// Whether a version is left for one more change of a page.
+    pub fn has_room(&self) -> bool
+        ensures { result ≡ nat_lt self.now.store.pages.next_version (2 ^ 62) }
+    {
+        self.pages.next_version() < 4_611_686_018_427_387_904
     }
 
     /// Whether the file has no dirty page and no outstanding command.

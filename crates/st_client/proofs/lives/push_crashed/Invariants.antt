@@ -1,0 +1,6 @@
+use Rattle.std.proofs.Common.{◌≡◌, ◌++◌, drop}
+use Rattle.st_client.specs.Nodes.{crashed_lives}
+use Rattle.st_client.proofs.lives.push_crashed.Given as goal
+
+abbrev pub invariant-loop-i : goal.invariant-loop-i
+invariant-loop-i l = l.found.items ++ crashed_lives l.client (drop l.i l.servers) (drop l.i l.lives) ≡ l.fn.found.items ++ crashed_lives l.client l.servers l.lives

@@ -1,0 +1,13 @@
+use Rattle.std.proofs.Common.{ap}
+use Rattle.st_rules.specs.ClientState.{ClientState}
+use Rattle.st_client.proofs.Running.{start_is}
+use Rattle.st_client.proofs.lives.started.Goals as goal
+
+pub loop-i-init : goal.loop-i-init
+loop-i-init c =
+    record {
+      is = start_is c.args.id c.args.config.now c.args.servers.now c.args.lives.now c.new-state.result c.new-state.ensures;
+      config = ap (λ (s : ClientState). s.config) c.new-state.ensures;
+      known = c.requires.known;
+      low = c.requires.low;
+    }

@@ -1,0 +1,10 @@
+use Rattle.std.proofs.Common.{refl, vec_capacity}
+use Rattle.std.specs.Prelude.{None}
+use Rattle.st_client.proofs.Running.{crashed_is, crashes_in}
+use Rattle.st_client.proofs.node.ClientNode.crash.Goals as goal
+
+pub invariant_of-self : goal.invariant_of-self
+invariant_of-self c = crashes_in c.self.inside.id c.self.inside.config c.self.inside.servers.items c.self.inside.lives.items (vec_capacity c.self.inside.lives) c.self.inside.state None refl c.self.invariant
+
+pub returns : goal.returns
+returns c = crashed_is c.self.inside.id c.self.inside.config c.self.inside.servers.items c.self.inside.lives.items (vec_capacity c.self.inside.lives) c.self.inside.state None c.args.self.now refl c.self.invariant c.self.view_is

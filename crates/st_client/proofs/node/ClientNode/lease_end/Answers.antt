@@ -1,0 +1,12 @@
+use Rattle.std.proofs.Common.{ap, sym, ◌∙◌}
+use Rattle.st_rules.specs.Client.{ClientNode, lease_end_with}
+use Rattle.st_rules.specs.ClientState.{ClientState}
+use Rattle.st_client.proofs.Crashing.{no_end}
+use Rattle.st_client.specs.Nodes.{state_of}
+use Rattle.st_client.proofs.node.ClientNode.lease_end.Goals as goal
+
+pub returns-in-None : goal.returns-in-None
+returns-in-None c =
+    no_end c.self.inside.id c.self.inside.config c.self.inside.servers.items c.self.inside.lives.items c.args.server
+    ∙ ap (λ o. lease_end_with (state_of c.self.inside.id c.self.inside.config c.self.inside.servers.items c.self.inside.lives.items o) c.args.server) (sym c.in-None.is)
+    ∙ ap (λ (n : ClientNode). lease_end_with n.state c.args.server) c.self.view_is

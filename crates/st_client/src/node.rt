@@ -1,0 +1,240 @@
+// A client of a world: it runs, or it is crashed.
+ghost use Rattle.std.specs.Prelude.{◌≡◌, ◌≤◌, ◌^◌, ◌++◌, true, false, IsOk, IfOk, OnOk, IsTrue, ◌↔◌};
+ghost use Rattle.std.specs.List.{list_all};
+ghost use Rattle.st_base.specs.Config as settings;
+ghost use Rattle.st_base.specs.declared.ids.ServerId.{ServerId};
+ghost use Rattle.st_client.specs.Discarding.{Discards, IsOver};
+ghost use Rattle.st_client.specs.Ends.{end_in};
+ghost use Rattle.st_client.specs.Inputs.{comes_fit, is_sent, Runs, Steps};
+ghost use Rattle.st_client.specs.Room.{HasRoom};
+ghost use Rattle.st_rules.specs.Client as client;
+ghost use Rattle.st_rules.specs.World as world;
+
+use crate::ends::LeaseEnds;
+use crate::lives::{are_low, life_among, push_crashed, started};
+use crate::machine::Machine;
+use crate::state::State;
+use st_base::{ClientId, Config, Life, ServerId, Stamp};
+use st_messages::{Outputs, StepFault};
+use st_rules::{ClientInput, LeaseLife, Phase};
+use std::alloc::{AllocError, Global};
+use std::marker::Model;
+
+/// A client of a world. Contracts see it as its machine's state, and whether it runs.
+#[derive(Drop)]
+pub struct ClientNode {
+    alloc: Global,
+    id: ClientId,
+    config: Config,
+    servers: Vec<ServerId>,
+    lives: Vec<Life>,
+    state: Option<State>,
+}
+
+impl Model for ClientNode {
+    ghost use Rattle.std.specs.Prelude.{vec_capacity};
+    ghost use Rattle.st_client.specs.Nodes.{IsNode, node_of};
+    ghost use Rattle.st_rules.specs.Client as shared;
+
+    ghost Value = { shared.ClientNode };
+
+    ghost view = { λ n. node_of n.id n.config n.servers.items n.lives.items n.state };
+
+    ghost invariant = { λ n. IsNode n.id n.config n.servers.items n.lives.items (vec_capacity n.lives) n.state };
+}
+
+impl ClientNode {
+    /// A client that was never started before: it runs, in life 1 at each server. `id` is from 1 to 16, and there are at most four
+    /// servers.
+    pub fn fresh(
+        alloc: Global,
+        id: ClientId,
+        config: &Config,
+        servers: u16,
+    ) -> Result<ClientNode, AllocError>
+        requires checked { IsOk (settings.check config.now) }
+        requires client { 1 ≤ id.0 }
+        requires clients { id.0 ≤ 16 }
+        requires servers { servers ≤ 4 }
+        ensures { IfOk result (λ n. n ≡ client.fresh_node id config.now servers) }
+    {
+        let (state, _) = Machine::fresh(alloc, id, config, servers)?.rest();
+        let servers = state.servers()?;
+        let mut lives = Vec::with_capacity(alloc, servers.len())?;
+        state.tell_lives(&mut lives);
+        Ok(ClientNode {
+            alloc,
+            id,
+            config: *config,
+            servers,
+            lives,
+            state: Some(state),
+        })
+    }
+
+    /// Whether the node runs.
+    pub fn running(&self) -> bool
+        ensures { result ≡ self.now.running }
+    {
+        self.state.is_some()
+    }
+
+    /// The lives, by rising server.
+    pub fn lives(&self) -> &[Life]
+        ensures { result.now ≡ client.lives self.now.state }
+    {
+        self.lives.as_slice()
+    }
+
+    /// The life at a server, or life 0 where there is no such server.
+    pub fn life(&self, server: ServerId) -> Life
+        ensures { result ≡ world.life_with self.now.state server }
+    {
+        life_among(self.servers.as_slice(), self.lives.as_slice(), server)
+    }
+
+    /// The phase of the lease at a server, where one is held.
+    pub fn phase(&self, server: ServerId, now: Stamp) -> Option<Phase>
+        ensures { result ≡ client.phase_with self.now.state server now }
+    {
+        match &self.state {
+            Some(state) => state.phase(server, now),
+            None => None,
+        }
+    }
+
+    /// The end of the lease at a server, where one is held.
+    pub fn lease_end(&self, server: ServerId) -> Option<Stamp>
+        ensures { result ≡ client.lease_end_with self.now.state server }
+    {
+        match &self.state {
+            Some(state) => state.lease_end(server),
+            None => None,
+        }
+    }
+
+    /// The ends of the leases at all servers.
+    pub fn lease_ends(&self) -> LeaseEnds
+        ensures { (s : ServerId) → end_in result s ≡ client.lease_end_with self.now.state s }
+    {
+        let _alloc = &self.alloc;
+        LeaseEnds {
+            ends: [
+                self.lease_end(ServerId(1)),
+                self.lease_end(ServerId(2)),
+                self.lease_end(ServerId(3)),
+                self.lease_end(ServerId(4)),
+            ],
+        }
+    }
+
+    /// Whether a page of the server is dirty.
+    pub fn has_dirty(&self, server: ServerId) -> bool
+        ensures { result ≡ client.has_dirty_with self.now.state server }
+    {
+        match &self.state {
+            Some(state) => state.has_dirty(server),
+            None => false,
+        }
+    }
+
+    /// Whether a write of a page of the server is outstanding.
+    pub fn has_write_out(&self, server: ServerId) -> bool
+        ensures { result ≡ client.has_write_with self.now.state server }
+    {
+        match &self.state {
+            Some(state) => state.has_write_out(server),
+            None => false,
+        }
+    }
+
+    /// Adds its present lives, with the ends of their leases.
+    pub fn push_lives(&self, found: &mut Vec<LeaseLife>) -> Result<(), AllocError>
+        ensures { OnOk result (found.new.items ≡ found.old.items ++ world.lives_of self.now.state) }
+    {
+        match &self.state {
+            Some(state) => state.push_lives(found),
+            None => push_crashed(self.id, self.servers.as_slice(), self.lives.as_slice(), found),
+        }
+    }
+
+    /// Whether a step may be taken, as far as the counters go.
+    pub fn has_room(&self) -> bool
+        ensures { IsTrue result ↔ HasRoom self.now.state }
+    {
+        match &self.state {
+            Some(state) => state.has_room(),
+            None => are_low(self.lives.as_slice()),
+        }
+    }
+
+    /// The node crashes: only its lives are left, and it does not run.
+    pub fn crash(&mut self)
+        ensures { self.new ≡ client.crash_node self.old }
+    {
+        self.state = None;
+    }
+
+    /// A node that does not run is started, in its next life at every server.
+    pub fn start(&mut self) -> Result<(), AllocError>
+        requires crashed { self.old.running ≡ false }
+        requires room { HasRoom self.old.state }
+        ensures { OnOk result (self.new ≡ client.start_node self.old) }
+    {
+        let state = started(
+            self.alloc,
+            self.id,
+            &self.config,
+            self.servers.as_slice(),
+            self.lives.as_slice(),
+        )?;
+        state.tell_lives(&mut self.lives);
+        self.state = Some(state);
+        Ok(())
+    }
+
+    /// Takes a step of a client that runs.
+    fn step_running(&mut self, now: Stamp, input: ClientInput) -> Result<Outputs, StepFault>
+        requires time { now.0 ≤ 2 ^ 62 }
+        requires fits { comes_fit input ≡ true }
+        requires room { HasRoom self.old.state }
+        requires running { self.old.running ≡ true }
+        ensures { Runs self.old self.new result (client.node_turn self.old (client.client_step self.old.state now input)) }
+    {
+        let state = match self.state.take() {
+            Some(state) => state,
+            None => return Err(StepFault::Crashed),
+        };
+        match state.step(now, input) {
+            Ok((state, out)) => {
+                state.tell_lives(&mut self.lives);
+                self.state = Some(state);
+                Ok(out)
+            }
+            Err(_) => Err(StepFault::Memory),
+        }
+    }
+
+    /// Takes a step at this moment, and returns its outputs in order. Moments never fall.
+    ///
+    /// # Errors
+    /// `Crashed` where the node does not run; then nothing changes. `Memory` where memory runs out: then the node is crashed, in
+    /// the lives from before the step.
+    ///
+    /// Where the lease of a server is over at this moment, nothing of that server is left, and nothing of it goes out.
+    #[tactic(auto, unfolding(st_rules::specs::Client::node_step))]
+    pub fn step(&mut self, now: Stamp, input: ClientInput) -> Result<Outputs, StepFault>
+        requires time { now.0 ≤ 2 ^ 62 }
+        requires fits { comes_fit input ≡ true }
+        requires room { HasRoom self.old.state }
+        ensures exact { Steps self.old self.new result (client.node_step self.old now input) }
+        ensures sent { IfOk result (λ out. list_all is_sent out ≡ true) }
+        ensures discarding { (s : ServerId) → IsOver s self.old.state now → IfOk result (λ out. Discards s self.old.state input self.new.state out) }
+    {
+        if self.state.is_some() {
+            self.step_running(now, input)
+        } else {
+            Err(StepFault::Crashed)
+        }
+    }
+}

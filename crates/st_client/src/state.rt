@@ -1,0 +1,245 @@
+// A client that runs, between its steps.
+ghost use Rattle.std.specs.Prelude.{◌≡◌, ◌≤◌, ◌^◌, ◌++◌, [], true, map, length, vec_capacity, ◌∷◌, ◌<◌, IsOk, IfOk, OnOk};
+ghost use Rattle.std.specs.Option.{option_copied, option_map};
+ghost use Rattle.st_base.specs.Config as settings;
+ghost use Rattle.st_client.specs.Inputs.{comes_fit};
+ghost use Rattle.st_client.specs.Nodes.{association_told, server_at, with_more};
+ghost use Rattle.st_client.specs.Room.{HasRoom, has_room};
+ghost use Rattle.st_rules.specs.Client as client;
+ghost use Rattle.st_rules.specs.ClientState.{client_turn};
+ghost use Rattle.st_rules.specs.World as world;
+
+use crate::machine::Machine;
+use st_association::Association;
+use st_base::{ClientId, Config, Life, ServerId, Stamp};
+use st_messages::Outputs;
+use st_operations::Operations;
+use st_rules::{ClientInput, LeaseLife, Phase};
+use std::alloc::{AllocError, Global};
+use std::collections::VecDeque;
+use std::marker::Model;
+
+/// A client that runs, between its steps. Contracts see the definitions' client.
+#[derive(Drop)]
+pub struct State {
+    pub(crate) alloc: Global,
+    pub(crate) id: ClientId,
+    pub(crate) config: Config,
+    pub(crate) associations: VecDeque<Association>,
+    pub(crate) operations: Operations,
+    pub(crate) next_command: u64,
+}
+
+impl Model for State {
+    ghost use Rattle.std.specs.Prelude.{map};
+    ghost use Rattle.st_client.specs.Machines.{here_of};
+    ghost use Rattle.st_client.specs.Nodes.{AreGiven};
+    ghost use Rattle.st_rules.specs.ClientState as shared;
+
+    ghost Value = { shared.ClientState };
+
+    ghost view = { λ s. record {
+      id = s.id;
+      config = s.config;
+      associations = map here_of s.associations.items;
+      operations = s.operations;
+      next_command = s.next_command;
+    } };
+
+    ghost invariant = { λ s. AreGiven s.id s.config s.next_command s.associations.items };
+}
+
+impl State {
+    /// A step begins.
+    fn begin(self) -> Machine
+        requires { HasRoom self }
+        ensures { result ≡ client_turn self [] }
+    {
+        let State {
+            alloc,
+            id,
+            config,
+            associations,
+            operations,
+            next_command,
+        } = self;
+        Machine {
+            alloc,
+            id,
+            config,
+            associations,
+            operations,
+            next_command,
+            out: Vec::new(alloc),
+        }
+    }
+
+    /// A step: what it leaves, and its outputs.
+    pub(crate) fn step(
+        self,
+        now: Stamp,
+        input: ClientInput,
+    ) -> Result<(State, Outputs), AllocError>
+        requires time { now.0 ≤ 2 ^ 62 }
+        requires fits { comes_fit input ≡ true }
+        requires room { HasRoom self }
+        ensures { IfOk result (λ r. client_turn r.0 r.1 ≡ client.client_step self now input) }
+    {
+        let machine = self.begin().step(now, input)?;
+        Ok(machine.rest())
+    }
+
+    /// The servers, in order.
+    pub(crate) fn servers(&self) -> Result<Vec<ServerId>, AllocError>
+        ensures { IfOk result (λ v. v.items ≡ map server_at self.now.associations) }
+    {
+        let mut servers = Vec::new(self.alloc);
+        for a in self.associations.iter() {
+            servers.push(a.server())?;
+        }
+        Ok(servers)
+    }
+
+    /// Writes the lives anew, in place of those that stood there.
+    pub(crate) fn tell_lives(&self, lives: &mut Vec<Life>)
+        requires { length self.now.associations ≤ vec_capacity lives.old }
+        ensures told { lives.new.items ≡ client.lives self.now }
+        ensures room { vec_capacity lives.new ≡ vec_capacity lives.old }
+    {
+        lives.clear();
+        for a in self.associations.iter() {
+            lives.push_reserved(a.life());
+        }
+    }
+
+    /// Whether a step may be taken, as far as the counters go.
+    pub(crate) fn has_room(&self) -> bool
+        ensures { result ≡ has_room self.now }
+    {
+        let mut each = true;
+        for a in self.associations.iter() {
+            each = each && a.has_room();
+        }
+        self.next_command < 4_611_686_018_427_387_904 && each
+    }
+
+    /// The association with a server.
+    fn at(&self, server: ServerId) -> Option<&Association>
+        ensures { option_copied result ≡ option_map (association_told self.now.id self.now.config) (client.association_with self.now server) }
+    {
+        for a in self.associations.iter() {
+            if a.server().0 == server.0 {
+                return Some(a);
+            }
+        }
+        None
+    }
+
+    /// The phase of the lease at a server, where one is held.
+    pub(crate) fn phase(&self, server: ServerId, now: Stamp) -> Option<Phase>
+        ensures { result ≡ client.phase_with self.now server now }
+    {
+        match self.at(server) {
+            Some(a) => a.phase(now),
+            None => None,
+        }
+    }
+
+    /// The end of the lease at a server, where one is held.
+    pub(crate) fn lease_end(&self, server: ServerId) -> Option<Stamp>
+        ensures { result ≡ client.lease_end_with self.now server }
+    {
+        match self.at(server) {
+            Some(a) => a.lease_end(),
+            None => None,
+        }
+    }
+
+    /// Whether a page of the server is dirty.
+    pub(crate) fn has_dirty(&self, server: ServerId) -> bool
+        ensures { result ≡ client.has_dirty_with self.now server }
+    {
+        match self.at(server) {
+            Some(a) => a.has_dirty(),
+            None => false,
+        }
+    }
+
+    /// Whether a write of a page of the server is outstanding.
+    pub(crate) fn has_write_out(&self, server: ServerId) -> bool
+        ensures { result ≡ client.has_write_with self.now server }
+    {
+        match self.at(server) {
+            Some(a) => a.has_write_out(),
+            None => false,
+        }
+    }
+
+    /// Adds its present lives, with the ends of their leases.
+    pub(crate) fn push_lives(&self, found: &mut Vec<LeaseLife>) -> Result<(), AllocError>
+        ensures { OnOk result (found.new.items ≡ found.old.items ++ world.lives_of self.now) }
+    {
+        for a in self.associations.iter() {
+            found.push(LeaseLife {
+                client: self.id,
+                server: a.server(),
+                life: a.life(),
+                end: a.lease_end(),
+                crashed: false,
+            })?;
+        }
+        Ok(())
+    }
+
+    /// A client without servers.
+    pub(crate) fn new(alloc: Global, id: ClientId, config: &Config) -> State
+        ensures { result ≡ record { id = id; config = config.now; associations = []; operations = []; next_command = 1 } }
+    {
+        State {
+            alloc,
+            id,
+            config: *config,
+            associations: VecDeque::new(alloc),
+            operations: Operations::new(alloc),
+            next_command: 1,
+        }
+    }
+
+    /// One more server, of which the client has nothing in this life.
+    pub(crate) fn with_server(self, server: ServerId, life: Life) -> Result<State, AllocError>
+        requires checked { IsOk (settings.check self.config) }
+        requires node { server.0 < 32768 }
+        ensures { IfOk result (λ s. s ≡ with_more (client.association_of life server ∷ []) self) }
+    {
+        let mut state = self;
+        let a = Association::new(state.alloc, state.id, &state.config, server, life)?;
+        state.associations.push_back(a)?;
+        Ok(state)
+    }
+}
+
+impl Machine {
+    /// A step ends: what the machine rests in, and its outputs.
+    pub(crate) fn rest(self) -> (State, Outputs)
+        ensures { client_turn result.0 result.1 ≡ self }
+    {
+        let Machine {
+            alloc,
+            id,
+            config,
+            associations,
+            operations,
+            next_command,
+            out,
+        } = self;
+        let state = State {
+            alloc,
+            id,
+            config,
+            associations,
+            operations,
+            next_command,
+        };
+        (state, Outputs::from_vec(out))
+    }
+}
