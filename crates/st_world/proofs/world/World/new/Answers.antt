@@ -1,0 +1,12 @@
+use Rattle.st_world.proofs.Goes.{quiet_fresh}
+use Rattle.st_world.proofs.Shaped.{head_counts}
+use Rattle.st_world.proofs.world.World.new.Goals as goal
+
+pub fresh-requires-2-clause-counts : goal.fresh-requires-2-clause-counts
+fresh-requires-2-clause-counts c = head_counts c.args.config c.args.counts c.args.form c.requires.head
+
+pub invariant_of-result : goal.invariant_of-result
+invariant_of-result c =
+    let k = c.args.counts in
+    (quiet_fresh c.args.config k.clients k.servers k.disks k.blocks c.args.form c.in_ok-machine.machine c.requires.head c.in_ok-machine.ensures,
+    λ whole. quiet_fresh c.args.config k.clients k.servers k.disks k.blocks c.args.form c.in_ok-first.first c.requires.head c.in_ok-first.ensures)
