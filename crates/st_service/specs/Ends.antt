@@ -1,7 +1,7 @@
 -- How a node that was served ended: the status of the program, and the text on its error sink. docs/PROTOCOL.md, "The program".
 use Rattle.std.specs.Prelude.{◌≡◌, ◌⊎◌, ◌==◌, if◌then◌else◌, ℕ, List, [], ◌++◌, codes, Option, Result, Ok, Err, IfSome}
 use Rattle.std.specs.Io.KnownBytes.{Appends}
-use Rattle.st_base.specs.declared.ids.ServerId.{ServerId}
+use Rattle.st_base.specs.declared.ids.NodeId.{NodeId}
 use Rattle.st_base.specs.declared.ids.Stamp.{Stamp}
 use Rattle.st_codec.specs.declared.refusal.CodecRefusal.{CodecRefusal}
 use Rattle.st_codec.specs.declared.refusal.CodecRefusal.TheVariants as refusals
@@ -12,7 +12,7 @@ use Rattle.st_node.specs.declared.fault.NodeFault.{NodeFault}
 use Rattle.st_node.specs.declared.fault.NodeFault.TheVariants as faults
 use Rattle.st_node.specs.Runs.{Run}
 use Rattle.st_node.specs.Serving.{HasCauses}
-use Rattle.st_service.specs.Words.{server_run}
+use Rattle.st_service.specs.Words.{started_run}
 
 -- why bytes are no message
 abbrev pub refusal_text : CodecRefusal → List ℕ
@@ -76,10 +76,10 @@ pub record IsReported (ended : Result Unit NodeFault) (status : ℕ) (before now
   pub may : MayTell ended said
   pub told : IsTold said status before now faults_before faults_now
 
--- a server was served: how that ended, what was written of its run, whether the link's count rose, and the status and its text
-pub record IsServed (id : ServerId) (status : ℕ) (left written_before written_now : Option (List ℕ)) (readings : Option (List Stamp)) (link_before link_now : ℕ)
+-- a node was served: how that ended, what was written of its run, whether the link's count rose, and the status and its text
+pub record IsServed (id : NodeId) (status : ℕ) (left written_before written_now : Option (List ℕ)) (readings : Option (List Stamp)) (link_before link_now : ℕ)
     (err_before err_now : Option (List ℕ)) (faults_before faults_now : ℕ) : Type 0 where
   pub ended : Result Unit NodeFault
-  pub run : IfSome left (λ bytes. IfSome readings (λ rs. Writes ended written_before written_now (server_run id rs bytes)))
+  pub run : IfSome left (λ bytes. IfSome readings (λ rs. Writes ended written_before written_now (started_run id rs bytes)))
   pub causes : HasCauses ended link_before link_now
   pub told : IsTold ended status err_before err_now faults_before faults_now

@@ -1,4 +1,5 @@
-//! The words `node server ID NAME`: the server that they start, its settings, and the status and the text of each end.
+//! The words `node server ID NAME` and `node client ID NAME`: the node that they start, its settings, and the status and the text of each
+//! end.
 //! `docs/PROTOCOL.md`, "The program", has the rules.
 #![tactic(auto)]
 
@@ -6,5 +7,5 @@ mod ends;
 mod service;
 mod words;
 
-pub use service::serve_server;
-pub use words::server_of;
+pub use service::serve_node;
+pub use words::node_of;

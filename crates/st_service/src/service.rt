@@ -1,13 +1,14 @@
-// A server that is served over a link.
-ghost use Rattle.std.specs.Prelude.{◌≡◌, ◌≤◌, ◌<◌, OnOk, OnErr, IfSome, IfOk};
+// A node that is served over a link.
+ghost use Rattle.std.specs.Prelude.{◌≡◌, IfSome, IfOk};
 ghost use Rattle.st_node.specs.Room.{HasRoomFor};
 ghost use Rattle.st_node.specs.Runs.{MOST};
 ghost use Rattle.st_node.specs.Serving.{HasCauses};
 ghost use Rattle.st_service.specs.Ends.{IsServed, Writes};
+ghost use Rattle.st_service.specs.Known.{IsKnown};
 ghost use Rattle.st_service.specs.Words as words_of;
 
 use crate::ends::tell;
-use st_base::{Config, ServerId};
+use st_base::{Config, NodeId};
 use st_clock::Clock;
 use st_link::{Link, Sink};
 use st_node::{Node, NodeFault, serve};
@@ -26,50 +27,52 @@ const CONFIG: Config = Config {
     grain: 1,
 };
 
-#[tactic(auto, unfolding(crate::specs::Words::started_server))]
-fn start(alloc: Global, id: ServerId) -> Result<Node, AllocError>
-    requires least { 1 ≤ id.0 }
-    requires most { id.0 ≤ 4 }
-    ensures started { IfOk result (λ n. n ≡ words_of.started_server id) }
+#[tactic(auto, unfolding(crate::specs::Words::started))]
+fn start(alloc: Global, id: NodeId) -> Result<Node, AllocError>
+    requires { IsKnown id }
+    ensures started { IfOk result (λ n. n ≡ words_of.started id) }
     ensures room { IfOk result (λ n. HasRoomFor MOST n) }
 {
-    Node::server(alloc, id, &CONFIG, 4, 4, 4096)
+    match id {
+        NodeId::Server(server) => Node::server(alloc, server, &CONFIG, 4, 4, 4096),
+        NodeId::Client(client) => Node::client(alloc, client, &CONFIG, 4),
+    }
 }
 
-/// Starts a server, attaches the link at the name, and serves the server over it.
+/// Starts a node, attaches the link at the name, and serves the node over it.
 fn attach_and_serve<L: Link, C: Clock>(
     alloc: Global,
-    id: ServerId,
+    id: NodeId,
     name: &str,
     link: &mut L,
     clock: &mut C,
 ) -> Result<(), NodeFault>
-    requires least { 1 ≤ id.0 }
-    requires most { id.0 ≤ 4 }
+    requires { IsKnown id }
     ensures run { IfSome (L.left link.old) (λ bytes. IfSome (C.readings clock.old) (λ readings.
-        Writes result (L.written link.old) (L.written link.new) (words_of.server_run id readings bytes))) }
+        Writes result (L.written link.old) (L.written link.new) (words_of.started_run id readings bytes))) }
     ensures causes { HasCauses result (L.Source.faults link.old) (L.Source.faults link.new) }
 {
-    let mut node = start(alloc, id)?;
+    let Ok(mut node) = start(alloc, id) else {
+        return Err(NodeFault::Memory);
+    };
     match link.attach(name) {
         Ok(()) => serve(alloc, link, clock, &mut node),
         Err(_) => Err(NodeFault::Read),
     }
 }
 
-/// Starts a server, attaches the link at the name, serves the server over it, and writes the text of how that ended. Returns the
+/// Starts a node, attaches the link at the name, serves the node over it, and writes the text of how that ended. Returns the
 /// program's status: 0 where the stream ended at a frame's boundary, 1 where the run stopped, 4 where that could not be told, 5 where
 /// memory ran out, and 6 where the link failed.
-pub fn serve_server<E: Sink, L: Link, C: Clock>(
+pub fn serve_node<E: Sink, L: Link, C: Clock>(
     alloc: Global,
-    id: ServerId,
+    id: NodeId,
     name: &str,
     err: &mut E,
     link: &mut L,
     clock: &mut C,
 ) -> u8
-    requires least { 1 ≤ id.0 }
-    requires most { id.0 ≤ 4 }
+    requires { IsKnown id }
     ensures { IsServed id result (L.left link.old) (L.written link.old) (L.written link.new) (C.readings clock.old)
         (L.Source.faults link.old) (L.Source.faults link.new) (E.written err.old) (E.written err.new) (E.faults err.old) (E.faults err.new) }
 {

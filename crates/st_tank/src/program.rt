@@ -1,15 +1,20 @@
-ghost use Rattle.std.specs.Prelude.{◌≡◌, ◌≤◌, ◌⊎◌, false, IfSome, IsTrue};
+ghost use Rattle.std.specs.Prelude.{◌≡◌, ◌≤◌, ◌⊎◌, false, IfNone, IfSome, IsTrue, map, string_bytes};
 ghost use Rattle.std.specs.Io.KnownBytes.{Appends, IsAtEnd};
 ghost use Rattle.st_link.specs.Causes.{Rose};
 ghost use Rattle.st_link.specs.Prefixes.{AppendsPrefix};
 ghost use Rattle.st_replay.specs.Ends.{IsCutOff};
 ghost use Rattle.st_replay.specs.Replay.{replay_of, report_of};
 ghost use Rattle.st_tank.specs.Status.{status_of};
+ghost use Rattle.st_service.specs.Ends.{IsServed};
+ghost use Rattle.st_tank.specs.Replayed.{IsReplayed};
 ghost use Rattle.st_tank.specs.Words as words_of;
+ghost use Rattle.st_service.specs.Words as services;
 ghost use Rattle.st_tank.specs.Words.{complaint};
 
-use st_link::{Sink, Source, put_all};
+use st_clock::Clock;
+use st_link::{Link, Sink, Source, put_all};
 use st_replay::ReplayFault;
+use st_service::{node_of, serve_node};
 use std::alloc::Global;
 
 const REPLAY: &[u8] = b"replay";
@@ -92,11 +97,8 @@ fn tell_fault<E: Sink>(err: &mut E, status: u8)
     }
 }
 
-/// The program. With the one word `replay` it reads a schedule from `input` and writes the schedule's report to `out`. It
-/// returns 0 where the schedule was read and run through its end, 1 where a line was refused, 2 for wrong words, 3 for a
-/// failed read, 4 for a failed write, and 5 where memory ran out. `docs/PROTOCOL.md`, "The program", has the texts that are
-/// written to `err`.
-pub fn run<I: Source, O: Sink, E: Sink>(
+/// The words other than those of a node: a replay, or wrong words.
+fn run_replay<I: Source, O: Sink, E: Sink>(
     alloc: Global,
     words: &[String],
     input: &mut I,
@@ -132,4 +134,44 @@ pub fn run<I: Source, O: Sink, E: Sink>(
     let status = replay(alloc, input, out);
     tell_fault(err, status);
     status
+}
+
+/// The name among the words of a node.
+fn name_of(words: &[String]) -> &str {
+    match words {
+        [_, _, _, name] => name.as_str(),
+        _ => "",
+    }
+}
+
+/// The program. With the one word `replay` it reads a schedule from `input` and writes the schedule's report to `out`. It
+/// returns 0 where the schedule was read and run through its end, 1 where a line was refused, 3 for a failed read, 4 for a failed
+/// write, and 5 where memory ran out. With the words `node server ID NAME` or `node client ID NAME` it attaches `link` at NAME and serves that node over it,
+/// on the readings of `clock`: 0 where the stream ended at a frame's boundary, 1 where the run stopped, 5 where memory ran out, and 6
+/// where the link failed. All other words are wrong: 2. Where the text of 1 or 2 cannot be written to `err` it is 4.
+/// `docs/PROTOCOL.md`, "The program", has the texts that are written to `err`.
+pub fn run<I: Source, O: Sink, E: Sink, L: Link, C: Clock>(
+    alloc: Global,
+    words: &[String],
+    input: &mut I,
+    out: &mut O,
+    err: &mut E,
+    link: &mut L,
+    clock: &mut C,
+) -> u8
+    // The words of a node: how its run over the stream ended, with the status and the text of that. Nothing else is used.
+    ensures node { IfSome (services.node_of (map string_bytes words.now)) (λ id. IsServed id result (L.left link.old) (L.written link.old) (L.written link.new) (C.readings clock.old)
+        (L.Source.faults link.old) (L.Source.faults link.new) (E.written err.old) (E.written err.new) (E.faults err.old) (E.faults err.new)) }
+    ensures node_alone { IfSome (services.node_of (map string_bytes words.now)) (λ id. (input.new ≡ input.old) × (out.new ≡ out.old)) }
+    // All other words: a replay with its report, or wrong words. Neither the link nor the clock is used.
+    ensures replay { IfNone (services.node_of (map string_bytes words.now)) (IsReplayed (words_of.right words.now) result (I.left input.old) (I.left input.new)
+        (O.written out.old) (O.written out.new) (I.faults input.old) (I.faults input.new) (O.faults out.old) (O.faults out.new)
+        (E.written err.old) (E.written err.new) (E.faults err.old) (E.faults err.new)) }
+    ensures wrong { IfNone (services.node_of (map string_bytes words.now)) (words_of.right words.now ≡ false → (input.new ≡ input.old) × (out.new ≡ out.old)) }
+    ensures replay_alone { IfNone (services.node_of (map string_bytes words.now)) ((link.new ≡ link.old) × (clock.new ≡ clock.old)) }
+{
+    match node_of(words) {
+        Some(id) => serve_node(alloc, id, name_of(words), err, link, clock),
+        None => run_replay(alloc, words, input, out, err),
+    }
 }
