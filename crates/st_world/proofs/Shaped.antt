@@ -219,6 +219,11 @@ few_clients w r =
     let s = (shaped w r).sites in
     omega (arith, most, s)
 
+-- a head stays one with one node of each kind
+pub least_head : (k : Config) (clients servers disks blocks form : ℕ) → IsHead k clients servers disks blocks form → IsHead k 1 1 1 blocks form
+least_head k clients servers disks blocks form h =
+    record { sound = h.sound; some_clients = refl; some_servers = refl; enough_disks = refl; some_blocks = h.some_blocks; known_form = h.known_form }
+
 -- the counts of a head are in their ranges
 pub head_counts : (k : Config) (n : Counts) (form : ℕ) → IsHead k n.clients n.servers n.disks n.blocks form → HasCounts n
 head_counts k n form h =

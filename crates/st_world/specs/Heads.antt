@@ -1,5 +1,5 @@
 -- The counts of a head.
-use Rattle.std.specs.Prelude.{◌≤◌, List, map}
+use Rattle.std.specs.Prelude.{◌≤◌, ℕ, List, map}
 use Rattle.st_base.specs.declared.config.Config.{Config}
 use Rattle.st_messages.specs.declared.event.Counts.{Counts}
 use Rattle.st_rules.specs.Extents.{numbers}
@@ -20,3 +20,7 @@ pub record HasCounts (k : Counts) : Type 0 where
 -- the servers of a world at the start
 abbrev pub nodes_at_start : Config → Counts → List ServerNode
 nodes_at_start k n = map (node_at_start k n.servers n.disks n.blocks) (numbers 1 n.servers)
+
+-- one client, one server and one disk of this number of blocks
+abbrev pub least : ℕ → Counts
+least blocks = record { clients = 1; servers = 1; disks = 1; blocks = blocks }

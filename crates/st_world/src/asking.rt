@@ -13,8 +13,8 @@ use crate::index::index_of;
 use crate::machine::Machine;
 use crate::site::Site;
 use st_base::ClientId;
-use st_client::ClientInput;
 use st_messages::Ask;
+use st_rules::ClientInput;
 use std::alloc::AllocError;
 
 impl Site {
@@ -51,7 +51,7 @@ fn raise_asks(clients: &mut Vec<Site>, i: usize) -> u32
 }
 
 impl Machine {
-    /// The client at this place, which runs, is asked. Where its count of asks is at its end, memory is said to run out.
+    /// The client at this place, which runs, is asked. Where its count of asks is at its end, it returns an error of memory.
     pub(crate) fn ask_at(&mut self, client: ClientId, i: usize, ask: Ask) -> Result<(), AllocError>
         requires begins { self.old.seen ≡ [] }
         requires ready { IsReady self.old.world }

@@ -43,8 +43,8 @@ impl Site {
         self.node.crash();
     }
 
-    /// The client starts again. Where the count of its starts, or another of its counters, is at its end, memory is said to run
-    /// out.
+    /// The client starts again. Where the count of its starts, or another of its counters, is at its end, it returns an error of
+    /// memory.
     fn start(&mut self) -> Result<(), AllocError>
         requires crashed { self.old.node.running ≡ false }
         ensures { OnOk result (self.new ≡ events.started_site self.old) }
@@ -100,7 +100,7 @@ fn crash_node(servers: &mut Vec<ServerNode>, i: usize)
     node.crash();
 }
 
-/// The server at a place starts. Where it was in its last epoch, memory is said to run out.
+/// The server at a place starts. Where it was in its last epoch, it returns an error of memory.
 fn start_node(servers: &mut Vec<ServerNode>, i: usize, now: Stamp) -> Result<(), AllocError>
     requires there { i < length servers.old.items }
     requires time { now.0 ≤ 2 ^ 62 }

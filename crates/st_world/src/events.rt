@@ -15,9 +15,8 @@ use crate::index::index_of;
 use crate::machine::Machine;
 use crate::site::Site;
 use st_base::{ClientId, NodeId, ServerId};
-use st_client::ClientInput;
 use st_messages::Message;
-use st_rules::{IssuedCommand, ServerInput};
+use st_rules::{ClientInput, IssuedCommand, ServerInput};
 use std::alloc::AllocError;
 
 /// The node of a number in a message.

@@ -8,8 +8,8 @@ ghost use Rattle.st_rules.specs.World as world;
 ghost use Rattle.st_world.specs.Flushing.{flush_each, flush_end, in_flush, with_end};
 
 use st_base::{ClientId, ServerId, Stamp};
-use st_client::{ClientNode, Phase};
-use st_rules::FlushStep;
+use st_client::ClientNode;
+use st_rules::{FlushStep, Phase};
 use std::alloc::AllocError;
 
 fn is_flush_of(step: &FlushStep, client: ClientId, server: ServerId) -> bool

@@ -68,7 +68,7 @@ impl Machine {
         }
     }
 
-    /// Runs one event, and returns what is observed of it. Where a count of reads or thefts is at its end, memory is said to run out.
+    /// Runs one event, and returns what is observed of it. Where a count of reads or thefts is at its end, it returns `Memory`.
     #[tactic(auto, unfolding(st_rules::specs::Events::world_step, st_rules::specs::Events::world_by))]
     pub fn step(&mut self, event: Event) -> Result<Vec<Observation>, WorldFault>
         requires begins { self.old.seen ≡ [] }

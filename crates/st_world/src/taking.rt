@@ -21,14 +21,14 @@ use crate::flushes::flush_all;
 use crate::machine::Machine;
 use crate::site::Site;
 use st_base::{ClientId, NodeId, ServerId, Stamp};
-use st_client::{ClientInput, LeaseEnds};
+use st_client::LeaseEnds;
 use st_messages::{Outputs, StepFault};
-use st_rules::ServerInput;
+use st_rules::{ClientInput, ServerInput};
 use st_server::ServerNode;
 use std::alloc::AllocError;
 
 impl Site {
-    /// The client takes an input at this moment. Where one of its counters is at its end, memory is said to run out.
+    /// The client takes an input at this moment. Where one of its counters is at its end, it returns an error of memory.
     fn step(&mut self, now: Stamp, input: ClientInput) -> Result<Outputs, StepFault>
         requires time { now.0 ≤ 2 ^ 62 }
         requires fits { comes_fit input ≡ true }
@@ -75,7 +75,7 @@ fn step_site(
     site.step(now, input)
 }
 
-/// The server at a place takes an input. Where one of its counters is at its end, memory is said to run out.
+/// The server at a place takes an input. Where one of its counters is at its end, it returns an error of memory.
 fn step_node(
     servers: &mut Vec<ServerNode>,
     i: usize,

@@ -8,7 +8,7 @@ ghost use Rattle.st_rules.specs.Safety.{IsHead, is_event};
 ghost use Rattle.st_rules.specs.World as rules;
 ghost use Rattle.st_rules.specs.World.{fresh_world};
 ghost use Rattle.st_network.specs.Pieces as pieces;
-ghost use Rattle.st_world.specs.Heads.{HasCounts};
+ghost use Rattle.st_world.specs.Heads.{HasCounts, least};
 ghost use Rattle.st_world.specs.Steps.{StepsAs};
 
 use crate::fault::WorldFault;
@@ -28,12 +28,12 @@ use std::alloc::{AllocError, Global};
 use std::marker::Model;
 use std::mem;
 
-/// A world. Contracts see it as the definitions' record: a run from the world of a head leads to it. It keeps the world of its
-/// head beside it, which takes its place when memory runs out; it takes no event then.
+/// A world. Contracts see it as the definitions' record: a run from the world of a head leads to it. It keeps a world with one node
+/// of each kind beside it, which takes its place when memory runs out; it takes no event then.
 #[derive(Drop)]
 pub struct World {
     machine: Machine,
-    first: Machine,
+    spare: Machine,
     broken: bool,
 }
 
@@ -46,7 +46,7 @@ impl Model for World {
 
     ghost view = { λ w. w.machine.world };
 
-    ghost invariant = { λ w. IsQuiet w.machine × (w.broken ≡ false → IsQuiet w.first) };
+    ghost invariant = { λ w. IsQuiet w.machine × (w.broken ≡ false → IsQuiet w.spare) };
 }
 
 fn fresh_lives(alloc: Global, counts: &Counts) -> Result<Lives, AllocError>
@@ -90,6 +90,18 @@ fn fresh(alloc: Global, config: Config, counts: &Counts, form: u8) -> Result<Mac
     })
 }
 
+/// One client, one server, one disk.
+fn least_counts(blocks: u32) -> Counts
+    ensures { result ≡ least blocks }
+{
+    Counts {
+        clients: 1,
+        servers: 1,
+        disks: 1,
+        blocks,
+    }
+}
+
 impl World {
     /// The world of a head.
     pub fn new(alloc: Global, config: Config, counts: Counts, form: u8) -> Result<World, AllocError>
@@ -97,16 +109,16 @@ impl World {
         ensures { IfOk result (λ w. w ≡ fresh_world config counts.clients counts.servers counts.disks counts.blocks form) }
     {
         let machine = fresh(alloc, config, &counts, form)?;
-        let first = fresh(alloc, config, &counts, form)?;
+        let spare = fresh(alloc, config, &least_counts(counts.blocks), form)?;
         Ok(World {
             machine,
-            first,
+            spare,
             broken: false,
         })
     }
 
     /// Runs one event, and returns what is observed of it, in order. A refusal changes nothing. Where memory runs out nothing is
-    /// known of the world, and every later step is refused for want of memory: discard it.
+    /// known of the world, and every later step returns `Memory`: discard it.
     pub fn step(&mut self, event: Event) -> Result<Vec<Observation>, WorldFault>
         requires event { is_event (length self.old.clocks) event ≡ true }
         requires room { self.old.tally.events < 2 ^ 29 }
@@ -122,7 +134,7 @@ impl World {
             Ok(seen) => Ok(seen),
             Err(WorldFault::Refused(refusal)) => Err(WorldFault::Refused(refusal)),
             Err(WorldFault::Memory) => {
-                mem::swap(&mut self.machine, &mut self.first);
+                mem::swap(&mut self.machine, &mut self.spare);
                 self.broken = true;
                 Err(WorldFault::Memory)
             }
