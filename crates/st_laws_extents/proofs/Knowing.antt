@@ -444,7 +444,7 @@ module _ (R : Fact) where
       sent true = plus _
       sent false = unsent o.ask
 
-  said_each : (s : ClientSession) (os : List Operation) (t : Turn) → Outputs_as R t.out → Outputs_as R (cl.end_each s os t).out
+  pub said_each : (s : ClientSession) (os : List Operation) (t : Turn) → Outputs_as R t.out → Outputs_as R (cl.end_each s os t).out
   unfolding cl.end_each
   said_each s [] t h = h
   said_each s (o ∷ os) t h = said_each s os (cl.end_operation t s o) (said_more t s o h)

@@ -1,3 +1,5 @@
 pub mod Locks
 pub mod Knowing
 pub mod Hearing
+pub mod Step
+pub mod Moved
