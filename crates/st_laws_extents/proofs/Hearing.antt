@@ -1,5 +1,5 @@
 -- What a message that is heard leaves of what is known of where pages lie.
-use Rattle.std.proofs.Common.{◌≡◌, ◌⊎◌, ℕ, Bool, true, false, not, ◌==◌, List, [], ◌∷◌, Option, Some, None, refl, sym, ap, ◌∙◌, subst, inl, inr, arith, if◌then◌else◌}
+use Rattle.std.proofs.Common.{◌≡◌, ◌⊎◌, ℕ, Bool, true, false, ◌==◌, List, [], ◌∷◌, Option, Some, None, refl, sym, ap, subst, inl, inr, arith, if◌then◌else◌}
 use Rattle.std.proofs.lemmas.Bool.{eqb-true}
 use Rattle.st_base.specs.declared.ids.Epoch.{Epoch}
 use Rattle.st_base.specs.declared.ids.GrantNo.{GrantNo}
@@ -7,7 +7,6 @@ use Rattle.st_base.specs.declared.ids.PageNo.{PageNo}
 use Rattle.st_base.specs.declared.ids.ServerId.{ServerId}
 use Rattle.st_base.specs.declared.ids.Stamp.{Stamp}
 use Rattle.st_base.specs.declared.mode.Mode.{Mode}
-use Rattle.st_base.specs.declared.mode.Mode.TheVariants as modes
 use Rattle.st_base.specs.declared.rows.ExtentRow.{ExtentRow}
 use Rattle.st_messages.specs.declared.answer.AppAnswer.TheVariants as answers
 use Rattle.st_messages.specs.declared.message.Body.{Body}
@@ -17,10 +16,8 @@ use Rattle.st_messages.specs.declared.message.NameReply.{NameReply}
 use Rattle.st_messages.specs.declared.message.NameReply.TheVariants.{Ino, Listed, Refused}
 use Rattle.st_messages.specs.declared.message.Why.{Why}
 use Rattle.st_messages.specs.declared.message.Why.TheVariants as why
-use Rattle.st_messages.specs.declared.output.Output.{Output}
 use Rattle.st_rules.specs.declared.client.HeldLock.{HeldLock}
 use Rattle.st_rules.specs.declared.client.KnownExtent.{KnownExtent}
-use Rattle.st_rules.specs.declared.client.Mapping.{Mapping}
 use Rattle.st_rules.specs.declared.client.Request.{Request}
 use Rattle.st_rules.specs.ClientLease as lease
 use Rattle.st_rules.specs.ClientLocks as locks
@@ -33,8 +30,8 @@ use Rattle.st_lemmas.specs.Lists.{Has}
 use Rattle.st_lemmas.proofs.Lookups.{some_is}
 use Rattle.st_lemmas.proofs.Puts.{has_put}
 use Rattle.st_lemmas.proofs.Tables.{and_true}
-use Rattle.st_laws_reads.specs.Clear.{Clear, Cleared, Cuts, cuts_from}
-use Rattle.st_laws_extents.specs.Known.{Fact, Has_lock, Known_as, Locked, Outputs_as, Tells, told_at}
+use Rattle.st_laws_reads.specs.Clear.{Cleared, cuts_from}
+use Rattle.st_laws_extents.specs.Known.{Fact, Has_lock, Known_as, Locked, Tells, told_at}
 use Rattle.st_laws_extents.proofs.Knowing as walk
 use Rattle.st_laws_extents.proofs.Locks.{filter_keeps, lock_found}
 

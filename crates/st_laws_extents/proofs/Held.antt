@@ -1,8 +1,7 @@
 -- Locks of files that are known of have a mode; and what is known of a page is found.
-use Rattle.std.proofs.Common.{◌≡◌, ◌⊎◌, ℕ, ◌≤◌, Bool, true, false, ◌==◌, List, [], ◌∷◌, Option, Some, None, refl, sym, ap, ◌∙◌, subst, inl, inr, if◌then◌else◌}
+use Rattle.std.proofs.Common.{◌≡◌, ◌⊎◌, ℕ, ◌≤◌, Bool, true, false, ◌==◌, List, [], ◌∷◌, Option, Some, None, refl, sym, ◌∙◌, subst, inl, inr, if◌then◌else◌}
 use Rattle.std.specs.Prelude.{find}
 use Rattle.std.proofs.lemmas.Bool.{eq-eqb}
-use Rattle.st_base.specs.declared.ids.PageNo.{PageNo}
 use Rattle.st_base.specs.Mode.{number_of}
 use Rattle.st_rules.specs.declared.client.HeldLock.{HeldLock}
 use Rattle.st_rules.specs.declared.client.KnownExtent.{KnownExtent}
@@ -10,7 +9,7 @@ use Rattle.st_rules.specs.ClientLocks as locks
 use Rattle.st_rules.specs.ClientPages as pages
 use Rattle.st_rules.specs.ClientState.{Association, ClientSession}
 use Rattle.st_rules.specs.Keys.{client}
-use Rattle.st_rules.specs.World.{World, ClientSite, numbered, site_of}
+use Rattle.st_rules.specs.World.{World, ClientSite, site_of}
 use Rattle.st_assoc.specs.Assoc.{Config}
 use Rattle.st_lemmas.specs.Lists.{Has}
 use Rattle.st_lemmas.proofs.Tables.{and_both, found_at}

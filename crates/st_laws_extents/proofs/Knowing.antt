@@ -1,5 +1,5 @@
 -- The rules of a client: what is known of where pages lie stays known of files that are locked, and writes go there.
-use Rattle.std.proofs.Common.{◌≡◌, ◌⊎◌, ℕ, Bool, true, false, not, ◌==◌, List, [], ◌∷◌, ◌++◌, Option, Some, None, Ok, Err, refl, sym, ap, ◌∙◌, subst, inl, inr, arith, if◌then◌else◌}
+use Rattle.std.proofs.Common.{◌≡◌, ◌⊎◌, ℕ, Bool, true, false, not, ◌==◌, List, [], ◌∷◌, ◌++◌, Option, Some, None, Ok, Err, refl, sym, subst, inl, inr, arith, if◌then◌else◌}
 use Rattle.std.specs.Prelude.{map, nat_le}
 use Rattle.st_base.specs.declared.disk.Tag.{Tag}
 use Rattle.st_base.specs.declared.ids.FileId.{FileId}
@@ -43,9 +43,8 @@ use Rattle.st_rules.specs.ClientState as state
 use Rattle.st_rules.specs.ClientState.{Association, ClientSession, Turn, answer_each, answered, is_at, is_file, is_open_file, keep, only_at, send, with_session, with_store}
 use Rattle.st_lemmas.specs.Lists.{Has}
 use Rattle.std.proofs.lemmas.Bool.{eq-eqb, eqb-true, le-leb}
-use Rattle.st_lemmas.proofs.Lookups.{some_is}
 use Rattle.st_lemmas.proofs.Tables.{and_both, and_true, found_at, has_append, has_filter, has_map, not_true}
-use Rattle.st_laws_extents.specs.Known.{Command_as, Fact, Has_lock, Known_as, Locked, Output_as, Outputs_as}
+use Rattle.st_laws_extents.specs.Known.{Fact, Has_lock, Known_as, Locked, Output_as, Outputs_as}
 use Rattle.st_laws_extents.proofs.Locks.{demand_keeps, put_keeps, reduce_keeps}
 
 -- nothing is known from the first page on

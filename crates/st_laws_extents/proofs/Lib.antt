@@ -6,3 +6,4 @@ pub mod Moved
 pub mod Held
 pub mod World
 pub mod Locked
+pub mod Law

@@ -1,5 +1,5 @@
 -- What a server's step leaves of an extent: it stays, or its page was cut.
-use Rattle.std.proofs.Common.{◌≡◌, ◌⊎◌, ℕ, ◌≤◌, Bool, true, false, ◌&&◌, not, ◌==◌, List, [], ◌∷◌, ◌++◌, Option, Some, None, refl, sym, ap, ◌∙◌, subst, inl, inr, if◌then◌else◌}
+use Rattle.std.proofs.Common.{◌≡◌, ◌⊎◌, ◌≤◌, Bool, true, false, not, ◌==◌, List, [], ◌∷◌, ◌++◌, Option, Some, refl, sym, ap, ◌∙◌, subst, inl, inr, if◌then◌else◌}
 use Rattle.std.specs.Prelude.{find, filter, nat_le}
 use Rattle.std.proofs.lemmas.Bool.{eqb-true, leb-true}
 use Rattle.st_base.specs.declared.disk.BlockAt.{BlockAt}
@@ -14,7 +14,7 @@ use Rattle.st_rules.specs.Extents as extents
 use Rattle.st_rules.specs.Extents.{Extents}
 use Rattle.st_rules.specs.Keys.{same_file, same_page, same_server}
 use Rattle.st_lemmas.specs.Lists.{Has}
-use Rattle.st_lemmas.proofs.Tables.{and_true, found_at, has_filter_in}
+use Rattle.st_lemmas.proofs.Tables.{and_true, found_at}
 use Rattle.st_laws_pages.specs.World.{Cuts, Extents_move, Maps, One_cut, Stays}
 
 -- what is found first is found before more

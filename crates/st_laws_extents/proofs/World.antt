@@ -1,13 +1,11 @@
 -- Every event keeps what clients know of where pages lie: it is as their servers have it.
-use Rattle.std.proofs.Common.{◌≡◌, ◌≢◌, ◌⊎◌, ℕ, ◌≤◌, Bool, true, false, List, [], ◌∷◌, Option, Some, None, Result, Ok, Err, refl, sym, ap, ◌∙◌, subst, inl, inr, arith, if◌then◌else◌}
-use Rattle.std.specs.Prelude.{map}
+use Rattle.std.proofs.Common.{◌≡◌, ◌≢◌, ◌⊎◌, ℕ, ◌≤◌, Bool, true, false, List, [], ◌∷◌, Option, Some, None, Ok, Err, refl, sym, ap, ◌∙◌, subst, inl, inr, arith, if◌then◌else◌}
 use Rattle.st_base.specs.declared.ids.ClientId.{ClientId}
 use Rattle.st_base.specs.declared.ids.FileId.{FileId}
 use Rattle.st_base.specs.declared.ids.NodeId.{NodeId}
 use Rattle.st_base.specs.declared.ids.NodeId.TheVariants as nodes
 use Rattle.st_base.specs.declared.ids.PageNo.{PageNo}
 use Rattle.st_base.specs.declared.ids.ServerId.{ServerId}
-use Rattle.st_base.specs.declared.ids.Stamp.{Stamp}
 use Rattle.st_messages.specs.declared.ask.Ask.{Ask}
 use Rattle.st_messages.specs.declared.event.Event.{Event}
 use Rattle.st_messages.specs.declared.event.Event.TheVariants as events
@@ -19,13 +17,10 @@ use Rattle.st_rules.specs.declared.client.Mapping.{Mapping}
 use Rattle.st_rules.specs.declared.extents.Extent.{Extent}
 use Rattle.st_rules.specs.declared.input.ServerInput.{ServerInput}
 use Rattle.st_rules.specs.declared.input.ServerInput.TheVariants as serving
-use Rattle.st_rules.specs.declared.node.StepRefusal.{StepRefusal}
 use Rattle.st_rules.specs.declared.node.StepRefusal.TheVariants.{Crashed}
 use Rattle.st_rules.specs.declared.world.IssuedCommand.{IssuedCommand}
 use Rattle.st_rules.specs.declared.world.SentMessage.{SentMessage}
 use Rattle.st_rules.specs.Client as cl
-use Rattle.st_rules.specs.ClientPages as pages
-use Rattle.st_rules.specs.ClientPages.{empty_store}
 use Rattle.st_rules.specs.ClientState.{Association, ClientSession, ClientState, client_turn}
 use Rattle.st_rules.specs.Disks as disks
 use Rattle.st_rules.specs.Events as ev
@@ -34,7 +29,6 @@ use Rattle.st_rules.specs.Extents as extents
 use Rattle.st_rules.specs.Keys.{client}
 use Rattle.st_rules.specs.Server as server
 use Rattle.st_rules.specs.Server.{ServerNode}
-use Rattle.st_rules.specs.World as world
 use Rattle.st_rules.specs.World.{World, ClientSite, clock_of, issued_of, message_of, node_of, numbered, receiver_of, site_of, with_numbered}
 use Rattle.st_lemmas.specs.Lists.{Has}
 use Rattle.st_lemmas.proofs.Lookups.{some_is}
@@ -46,7 +40,7 @@ use Rattle.st_laws_client.specs.World.{World_left, site_left, world_left}
 use Rattle.st_laws_client.proofs.Sim.{world_is}
 use Rattle.st_laws_pages.specs.Lives.{clock_in}
 use Rattle.st_laws_pages.specs.Losses.{Fit}
-use Rattle.st_laws_pages.specs.World.{Extents_move, mapped_at, mapped_in}
+use Rattle.st_laws_pages.specs.World.{mapped_at}
 use Rattle.st_laws_pages.proofs.Moves.{clock_up}
 use Rattle.st_laws_pages.proofs.Walk.{step_moves}
 use Rattle.st_laws_server.proofs.Delivery.{all_parts}
@@ -54,12 +48,11 @@ use Rattle.st_laws.specs.World.{There}
 use Rattle.st_laws_copies.specs.Copies.{Nothing, file_at}
 use Rattle.st_laws_copies.specs.World.{Taking, asking, hearing, hearing_of, now_at, taken, taking, told_at, told_of, turn_of}
 use Rattle.st_laws_reads.specs.Clear.{AllCleared, Cleared}
-use Rattle.st_laws_reads.specs.Events.{Cut_free, Cut_free_of, Message_free, Others_owed, Receiver_free, Server_free, Turn_free}
-use Rattle.st_laws_reads.specs.Law.{Running}
+use Rattle.st_laws_reads.specs.Events.{Cut_free, Cut_free_of, Message_free, Receiver_free, Server_free, Turn_free}
 use Rattle.st_laws_reads.proofs.Behind.{Behind, behind}
 use Rattle.st_laws_reads.proofs.Takings.{Takes}
-use Rattle.st_laws_extents.specs.Known.{Fact, Known_as, Knows, Locked}
-use Rattle.st_laws_extents.specs.Lies.{All_know, All_locked, Input_told, Lies_as, Site_knows, Submits_lie, anything, lies}
+use Rattle.st_laws_extents.specs.Known.{Fact, Knows, Locked}
+use Rattle.st_laws_extents.specs.Lies.{All_know, All_locked, Cuts_owed, Input_told, Lies_as, Site_knows, Submits_lie, anything, lies}
 use Rattle.st_laws_extents.proofs.Held.{known_found}
 use Rattle.st_laws_extents.proofs.Moved.{Cut_noted, moved}
 use Rattle.st_laws_extents.proofs.Step.{Each, Fine, Told, lost_knows, step_fine}
@@ -104,8 +97,8 @@ placed w v c old new there cs ss ts n h d site at = go (set_cases w.clients c.0 
     go (inr z) = record { knows = λ run a i l. knows_by (lies w) (lies v) a (λ ino p m k. lies_same w v ss a.server ino p m) ((h d site z.1).knows run a i (lasts_before _ _ _ a.session (let q = ap (λ xs. (clock_in xs d).0) ts in omega (arith, q)) l)) }
 
 -- A client takes an input.
-module _ (w : World) (sc : Scene) (x : Taking) (t : Takes (counted w) sc x) (fits : (a : Association) → Has a t.old.node.state.associations → Fit a) (clear : AllCleared w) (locked : All_locked w) (h : All_know w) where
-  module _ (runs : x.site.node.running ≡ true) (told : Input_told x x.input) where
+module _ (w : World) (sc : Scene) (x : Taking) (t : Takes (counted w) sc x) (fits : (a : Association) → Has a t.old.node.state.associations → Fit a) (stopped : t.old.node.running ≡ false → (a : Association) → Has a t.old.node.state.associations → a.session ≡ None) (clear : AllCleared w) (locked : All_locked w) (h : All_know w) where
+  module _ (told : Input_told x x.input) where
     abbrev s : ClientState
     s = x.site.node.state
 
@@ -123,13 +116,13 @@ module _ (w : World) (sc : Scene) (x : Taking) (t : Takes (counted w) sc x) (fit
       where
         go : (o : Option ClientSession) → a.session ≡ o → Knows (lies x.world) a
         go None e = λ y j. absurd (subst (λ o. Locked o y.ino) e (lost_knows anything s (now_at x) (of_old (Knows anything) (locked x.client t.old old_there)) a i y j).locked)
-        go (Some u) e = knows_by (lies w) (lies x.world) a (λ ino p m k. lies_same w x.world t.servers a.server ino p m) ((h x.client t.old old_there).knows old_runs a was lasts)
+        go (Some u) e = by t.old.node.running refl
           where
             b : Behind s (now_at x) a
             b = behind x.client s (now_at x) (of_old Fit fits) a i u e
 
-            old_runs : t.old.node.running ≡ true
-            old_runs = ap (λ (n : cl.ClientNode). n.running) t.same ∙ runs
+            none : {A : Type 0} → ◌≡◌ {A = Option ClientSession} None (Some u) → A
+            none q = cc
 
             was : Has a t.old.node.state.associations
             was = subst (λ (n : cl.ClientNode). Has a n.state.associations) (sym t.same) b.was
@@ -138,6 +131,10 @@ module _ (w : World) (sc : Scene) (x : Taking) (t : Takes (counted w) sc x) (fit
             lasts =
                 subst (λ (n : cl.ClientNode). Lasts n.state.config.lease (clock_of w (nodes.Client x.client)).0 a.session) (sym t.same)
                 (subst (λ ts. Lasts s.config.lease (clock_in ts x.client).0 a.session) t.clocks b.lasts)
+
+            by : (b : Bool) → t.old.node.running ≡ b → Knows (lies x.world) a
+            by true r = knows_by (lies w) (lies x.world) a (λ ino p m k. lies_same w x.world t.servers a.server ino p m) ((h x.client t.old old_there).knows r a was lasts)
+            by false r = none (sym (stopped r a was) ∙ e)
 
     hears : (i : ClientInput) → Input_told x i → Told (lies x.world) left i
     hears (inputs.Control m) k = k
@@ -154,20 +151,20 @@ module _ (w : World) (sc : Scene) (x : Taking) (t : Takes (counted w) sc x) (fit
     world_left_is : World_left x.world x.client x.site x.input
     world_left_is = world_is x.world x.client x.site x.input
 
-    goes : sc.world ≡ world_left x.world x.client x.site x.input
+    goes : x.site.node.running ≡ true → sc.world ≡ world_left x.world x.client x.site x.input
     unfolding ev.client_takes cl.node_step
-    goes =
+    goes runs =
         ap (λ (z : Scene). z.world) t.is
         ∙ ap (λ b. (ev.client_took x.world x.client x.site (if b then Ok (cl.node_turn x.site.node (turn_of x)) else Err Crashed)).world) runs
 
-    servers : sc.world.servers ≡ x.world.servers
-    servers = ap (λ (z : World). z.servers) goes ∙ world_left_is.servers
+    servers : x.site.node.running ≡ true → sc.world.servers ≡ x.world.servers
+    servers runs = ap (λ (z : World). z.servers) (goes runs) ∙ world_left_is.servers
 
-    pub runs_know : All_know sc.world
-    runs_know =
-        placed w sc.world x.client t.old (site_left x.world x.client x.site x.input) old_there (ap (λ (z : World). z.clients) goes ∙ world_left_is.clients ∙ ap (λ cs. with_numbered x.client.0 (site_left x.world x.client x.site x.input) cs) t.clients)
-        (servers ∙ t.servers) (ap (λ (z : World). z.clocks) goes ∙ world_left_is.clocks ∙ t.clocks)
-        (record { knows = λ run a i l. knows_by (lies x.world) (lies sc.world) a (λ ino p m k. lies_same x.world sc.world servers a.server ino p m) (fine.knows a i) }) h
+    pub runs_know : x.site.node.running ≡ true → All_know sc.world
+    runs_know runs =
+        placed w sc.world x.client t.old (site_left x.world x.client x.site x.input) old_there (ap (λ (z : World). z.clients) (goes runs) ∙ world_left_is.clients ∙ ap (λ cs. with_numbered x.client.0 (site_left x.world x.client x.site x.input) cs) t.clients)
+        (servers runs ∙ t.servers) (ap (λ (z : World). z.clocks) (goes runs) ∙ world_left_is.clocks ∙ t.clocks)
+        (record { knows = λ run a i l. knows_by (lies x.world) (lies sc.world) a (λ ino p m k. lies_same x.world sc.world (servers runs) a.server ino p m) (fine.knows a i) }) h
 
   -- One that does not run takes nothing.
   pub stops_know : x.site.node.running ≡ false → All_know sc.world
@@ -260,7 +257,7 @@ none_some : {A : Type 0} (x : A) → ◌≡◌ {A = Option A} (Some x) None → 
 none_some x e = cc
 
 -- a client without sessions knows nothing
-empty_knows : (v : World) (c : ClientId) (site : ClientSite) → ((a : Association) → Has a site.node.state.associations → a.store.extents ≡ []) → Site_knows v c site
+pub empty_knows : (v : World) (c : ClientId) (site : ClientSite) → ((a : Association) → Has a site.node.state.associations → a.store.extents ≡ []) → Site_knows v c site
 empty_knows v c site f = record { knows = λ run a i l e j. absurd (subst (Has e) (f a i) j) }
 
 -- Nobody takes an input.
@@ -305,7 +302,7 @@ module _ (w : World) (modes : Modes_held w) (ids : (s : ServerId) (n : ServerNod
   placed_node : (s : ServerId) (node new : ServerNode) → node_of w s ≡ Some node → new.state.stable.extents ≡ node.state.stable.extents → (v : World) → v.clients ≡ w.clients → v.clocks ≡ w.clocks → v.servers ≡ with_numbered s.0 new w.servers → All_know v
   placed_node s node new at same v cs ts ss = node_knows w modes h s node new at v cs ts ss (λ g p e q. inl (ap (λ x. extents.extent_of x g p) same ∙ q))
 
-  pub none_know : (e : Event) → taken w e ≡ None → Others_owed w e → All_know (happens w e).world
+  pub none_know : (e : Event) → taken w e ≡ None → Cuts_owed w e → All_know (happens w e).world
   unfolding ev.happens ev.ticks ev.loses_message ev.reports_of ev.advances ev.effects ev.marks ev.crashes ev.crashes_client ev.crashes_server ev.starts ev.starts_client ev.starts_server cl.crash cl.start server.crash server.start server.begin_epoch
   none_know (events.Tick (nodes.Client c)) t o = client_none c inputs.Tick (site_of w c) t
   none_know (events.Tick (nodes.Server s)) t o = at_node s serving.Tick o

@@ -5,8 +5,8 @@ use Rattle.st_base.specs.declared.disk.Command.TheVariants as commands
 use Rattle.st_base.specs.declared.disk.Tag.{Tag}
 use Rattle.st_base.specs.declared.ids.ClientId.{ClientId}
 use Rattle.st_base.specs.declared.ids.NodeId.TheVariants as nodes
-use Rattle.st_base.specs.declared.ids.PageNo.{PageNo}
-use Rattle.st_base.specs.declared.ids.ServerId.{ServerId}
+use Rattle.st_messages.specs.declared.event.Event.{Event}
+use Rattle.st_messages.specs.declared.event.Event.TheVariants as events
 use Rattle.st_messages.specs.declared.message.Body.{Body}
 use Rattle.st_messages.specs.declared.message.Header.{Header}
 use Rattle.st_messages.specs.declared.output.Output.TheVariants as outputs
@@ -14,14 +14,16 @@ use Rattle.st_rules.specs.declared.client.ClientInput.{ClientInput}
 use Rattle.st_rules.specs.declared.client.ClientInput.TheVariants as inputs
 use Rattle.st_rules.specs.declared.client.Mapping.{Mapping}
 use Rattle.st_rules.specs.declared.extents.Extent.{Extent}
+use Rattle.st_rules.specs.declared.input.ServerInput.TheVariants as serving
 use Rattle.st_rules.specs.Client.{losses}
 use Rattle.st_rules.specs.ClientState.{Association, client_turn}
-use Rattle.st_rules.specs.World.{World, ClientSite, clock_of, site_of}
+use Rattle.st_rules.specs.World.{World, ClientSite, clock_of, message_of, node_of, site_of}
 use Rattle.st_lemmas.specs.Lists.{Has}
 use Rattle.st_laws_client.specs.Shown.{Lasts}
 use Rattle.st_laws_pages.specs.World.{mapped_in}
 use Rattle.st_laws_copies.specs.Copies.{file_at}
 use Rattle.st_laws_copies.specs.World.{Taking, now_at, turn_of}
+use Rattle.st_laws_reads.specs.Events.{Message_free, Server_free}
 use Rattle.st_laws_extents.specs.Known.{Fact, Knows, Tells}
 
 -- a page lies as it is known
@@ -71,3 +73,9 @@ pub record Site_knows (w : World) (c : ClientId) (site : ClientSite) : Type 0 wh
 -- all clients
 abbrev pub All_know : World → Type 0
 All_know w = (c : ClientId) (site : ClientSite) → site_of w c ≡ Some site → Site_knows w c site
+
+-- what is owed of the cuts of an event: they are of files that no client knows, or of which nothing is at hand
+abbrev pub Cuts_owed : World → Event → Type 0
+Cuts_owed w (events.Tick (nodes.Server s)) = Server_free w s serving.Tick (node_of w s)
+Cuts_owed w (events.Deliver k) = Message_free w (message_of w k)
+Cuts_owed w e = Unit {0}
