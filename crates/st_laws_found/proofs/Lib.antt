@@ -1,0 +1,5 @@
+pub mod Rules
+pub mod Working
+pub mod Asking
+pub mod Replying
+pub mod Losing

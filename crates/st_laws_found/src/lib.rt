@@ -1,0 +1,2 @@
+//! What reads of pages find that are submitted and not reported.
+#![tactic(auto)]
