@@ -3,3 +3,4 @@ pub mod Working
 pub mod Asking
 pub mod Replying
 pub mod Losing
+pub mod Step
