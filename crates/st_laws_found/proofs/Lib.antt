@@ -4,3 +4,4 @@ pub mod Asking
 pub mod Replying
 pub mod Losing
 pub mod Step
+pub mod Contents
