@@ -5,3 +5,4 @@ pub mod Replying
 pub mod Losing
 pub mod Step
 pub mod Contents
+pub mod Client
