@@ -6,3 +6,4 @@ pub mod Losing
 pub mod Step
 pub mod Contents
 pub mod Client
+pub mod Others

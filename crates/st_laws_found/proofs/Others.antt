@@ -1,0 +1,283 @@
+-- Outstanding reads through each event at which no client takes an input.
+use Rattle.std.proofs.Common.{◌≡◌, ◌≢◌, ℕ, zero, suc, ◌+◌, ◌<◌, ◌≤◌, ◌⊎◌, Bool, true, false, ◌&&◌, ◌==◌, not, List, [], ◌∷◌, ◌++◌, Option, Some, None, Ok, Err, refl, sym, ap, ◌∙◌, subst, inl, inr, arith, if◌then◌else◌}
+use Rattle.std.specs.Prelude.{Result, filter, find, length, map, nat_le, set}
+use Rattle.std.proofs.lemmas.Bool.{eqb-true, leb-true}
+use Rattle.st_base.specs.Page.{filled}
+use Rattle.st_base.specs.declared.disk.BlockAt.{BlockAt}
+use Rattle.st_base.specs.declared.disk.Command.{Command}
+use Rattle.st_base.specs.declared.disk.Command.TheVariants as commands
+use Rattle.st_base.specs.declared.ids.ClientId.{ClientId}
+use Rattle.st_base.specs.declared.ids.FileId.{FileId}
+use Rattle.st_base.specs.declared.ids.NodeId.{NodeId}
+use Rattle.st_base.specs.declared.ids.NodeId.TheVariants as nodes
+use Rattle.st_base.specs.declared.ids.PageNo.{PageNo}
+use Rattle.st_base.specs.declared.ids.ServerId.{ServerId}
+use Rattle.st_base.specs.declared.ids.Stamp.{Stamp}
+use Rattle.st_messages.specs.declared.ask.Ask.{Ask}
+use Rattle.st_messages.specs.declared.event.Event.{Event}
+use Rattle.st_messages.specs.declared.event.Event.TheVariants as events
+use Rattle.st_messages.specs.declared.message.Message.{Message}
+use Rattle.st_messages.specs.declared.output.Note.{Note}
+use Rattle.st_messages.specs.declared.output.Note.TheVariants as notes
+use Rattle.st_messages.specs.declared.output.Output.{Output}
+use Rattle.st_messages.specs.declared.output.Output.TheVariants as outputs
+use Rattle.st_rules.specs.declared.client.ClientInput.{ClientInput}
+use Rattle.st_rules.specs.declared.client.ClientInput.TheVariants as inputs
+use Rattle.st_rules.specs.declared.client.IoKind.TheVariants as io
+use Rattle.st_rules.specs.declared.client.PageCommand.{PageCommand}
+use Rattle.st_rules.specs.declared.disks.Block.{Block}
+use Rattle.st_rules.specs.declared.disks.DiskCommand.{DiskCommand}
+use Rattle.st_rules.specs.declared.extents.Extent.{Extent}
+use Rattle.st_rules.specs.declared.input.ServerInput.{ServerInput}
+use Rattle.st_rules.specs.declared.input.ServerInput.TheVariants as serving
+use Rattle.st_rules.specs.declared.log.LogEntry.{LogEntry}
+use Rattle.st_rules.specs.declared.node.StepRefusal.{StepRefusal}
+use Rattle.st_rules.specs.declared.node.StepRefusal.TheVariants.{Crashed}
+use Rattle.st_rules.specs.declared.world.Carried.{Carried}
+use Rattle.st_rules.specs.declared.world.IssuedCommand.{IssuedCommand}
+use Rattle.st_rules.specs.declared.world.LeaseLife.{LeaseLife}
+use Rattle.st_rules.specs.declared.world.SentMessage.{SentMessage}
+use Rattle.st_rules.specs.Admissible as adm
+use Rattle.st_rules.specs.Client as cl
+use Rattle.st_rules.specs.ClientPages as pages
+use Rattle.st_rules.specs.ClientPages.{found_under}
+use Rattle.st_rules.specs.ClientState.{Association, ClientSession}
+use Rattle.st_rules.specs.Disks as disks
+use Rattle.st_rules.specs.Events as ev
+use Rattle.st_rules.specs.Events.{counted, happens}
+use Rattle.st_rules.specs.Extents as extents
+use Rattle.st_rules.specs.Extents.{Extents}
+use Rattle.st_rules.specs.FlatLog as log
+use Rattle.st_rules.specs.FlatLog.{content, hard_cut, touches}
+use Rattle.st_rules.specs.Keys.{client, same_file, same_page}
+use Rattle.st_rules.specs.Server as server
+use Rattle.st_rules.specs.Server.{ServerNode}
+use Rattle.st_rules.specs.World as world
+use Rattle.st_rules.specs.World.{World, ClientSite, clock_of, issued_of, message_of, node_of, numbered, receiver_of, site_of, with_numbered}
+use Rattle.st_assoc.specs.Assoc.{Config}
+use Rattle.st_lemmas.specs.Lists.{Has}
+use Rattle.st_lemmas.proofs.Lookups.{some_is}
+use Rattle.st_lemmas.proofs.Marks.{content_hard}
+use Rattle.st_lemmas.proofs.Numbers.{numbered_below, numbered_other, numbered_own}
+use Rattle.st_lemmas.proofs.Tables.{and_true, find_kept, has_map, same_or_not}
+use Rattle.st_views.specs.Halves.{held_in}
+use Rattle.st_laws_client.specs.Shown.{Lasts}
+use Rattle.st_laws_pages.specs.Flush.{Is_its, file_at}
+use Rattle.st_laws_pages.specs.Folds.{Settled_on}
+use Rattle.st_laws_pages.specs.Lives.{clock_in}
+use Rattle.st_laws_pages.specs.Pages.{mapping_of}
+use Rattle.st_laws_pages.specs.World.{Cuts, Extents_move, Maps, One_cut, PagesHold, Stays, block_in, mapped_at, mapped_in}
+use Rattle.st_laws_pages.proofs.Data.{block_law}
+use Rattle.st_laws_pages.proofs.Effects.{Effect_finds, effect_finds, effect_is}
+use Rattle.st_laws_pages.proofs.Folds.{alike_content, alike_drop, alike_settled}
+use Rattle.st_laws_pages.proofs.Lives.{find_front}
+use Rattle.st_laws_pages.proofs.Moves.{clock_up}
+use Rattle.st_laws_pages.proofs.Walk.{step_id, step_moves}
+use Rattle.st_laws_pages.proofs.World.{at_set}
+use Rattle.st_laws.specs.World.{AllStand}
+use Rattle.st_laws_copies.specs.Copies.{Nothing}
+use Rattle.st_laws_copies.specs.Law.{Stands_at}
+use Rattle.st_laws_copies.specs.World.{asking, hearing, hearing_of, taken, taking, told_at, told_of}
+use Rattle.st_laws_reads.specs.Events.{Cut_free, Cut_free_of, Cuts_free, Elders_alone, Message_free, Others_owed, Receiver_free, Server_free, Turn_free}
+use Rattle.st_laws_reads.specs.Law.{Running}
+use Rattle.st_laws_reads.specs.World.{CopiesHold}
+use Rattle.st_laws_reads.proofs.Alone.{while_at}
+use Rattle.st_laws_reads.proofs.Settled.{law as settled_law}
+use Rattle.st_laws_submits.proofs.Taking.{Was_command, report_open}
+use Rattle.st_laws_found.specs.Found.{Reads_clean}
+use Rattle.st_laws_found.specs.Reads.{Each_right, Read_right, Reads_hold}
+use Rattle.st_laws_found.proofs.Client.{being_read}
+use Rattle.st_laws_found.proofs.Contents.{content_more}
+
+none_some : {A : Type 0} (x : A) → ◌≡◌ {A = Option A} (Some x) None → ⊥
+none_some x e = cc
+
+-- Contents of logs that harden, or of which what is pending elsewhere is dropped.
+content_log_hard : (f : FileId) (p : PageNo) (es : List LogEntry) (x : Option Carried) → content (ev.log_hard es x) f p ≡ content es f p
+unfolding content log.harden log.harden_at
+content_log_hard f p es None = refl
+content_log_hard f p es (Some x) = go (log.entry_at es x.index)
+  where
+    go : (o : Option LogEntry) → log.content_from (filled 0) f p (log.harden_at es x.index o) ≡ log.content_from (filled 0) f p es
+    go None = refl
+    go (Some e) = content_hard (filled 0) f p 1 x.index e.of es
+
+content_ended : (f : FileId) (p : PageNo) (cs : List IssuedCommand) (ls : List LeaseLife) (es : List LogEntry) → Settled_on f p es → content (ev.log_ended_all cs ls es) f p ≡ content es f p
+unfolding content ev.log_ended_all ev.log_ended log.drop_picked
+content_ended f p cs [] es s = refl
+content_ended f p cs (l ∷ ls) es s =
+    let a = alike_drop 1 _ _ f p es s in
+    content_ended f p cs ls (ev.log_ended cs l es) (alike_settled f p es (ev.log_ended cs l es) a s) ∙ alike_content (filled 0) f p es (ev.log_ended cs l es) a
+
+module _ (asks : ℕ → ℕ → Option Ask) (k : Config) (count : ℕ) (w : World) (all : AllStand k count w) (copies : CopiesHold asks w) (elders : Elders_alone w) (pages_w : PagesHold w) (reads : Reads_hold w w.log) where
+  -- what stands of an outstanding read under a lease that lasts
+  module _ (c : ℕ) (site : ClientSite) (run : Running w c site) (a : Association) (i : Has a site.node.state.associations) (l : Lasts site.node.state.config.lease (clock_of w (nodes.Client (client c))).0 a.session) (pc : PageCommand) (m : Has pc a.store.commands) (r : pc.kind ≡ io.Read) where
+    stands : Stands_at (client c) w.log a
+    stands = (while_at _ _ (client c) w.log site.node.state.associations a ((copies c site run.there).runs run.runs).copies i).lasting l
+
+    held : 1 ≤ (held_in a.session pc.ino).mode
+    held = (stands.pages pc.ino pc.page).reading (being_read a pc m r)
+
+    settled : Settled_on (file_at a pc.ino) pc.page w.log
+    settled = settled_law asks k count w c site a pc.ino pc.page all copies elders pages_w.pages.cuts run i l held (reads.clean c site run a i pc m r).0
+
+  -- where the page of each outstanding read lies as it did, and has the content that it had
+  record Fits_page (v : World) (es : List LogEntry) (f : FileId) (p : PageNo) : Type 0 where
+    mapped : (e : Extent) → mapped_in w f p ≡ Some e → mapped_in v f p ≡ Some e
+    same : content es f p ≡ content w.log f p
+
+  abbrev Fits : World → List LogEntry → Type 0
+  Fits v es =
+      (c : ℕ) (site : ClientSite) → Running w c site → (a : Association) → Has a site.node.state.associations → Lasts site.node.state.config.lease (clock_of w (nodes.Client (client c))).0 a.session → (pc : PageCommand) → Has pc a.store.commands → pc.kind ≡ io.Read →
+      Fits_page v es (file_at a pc.ino) pc.page
+
+  -- a read that samples its block now
+  record Sampled_now (n : ℕ) (d : DiskCommand) : Type 0 where
+    command : DiskCommand
+    is : disks.command_at w.disks.commands n ≡ Some command
+    at : BlockAt
+    reads_at : command.what ≡ commands.Read at
+    what : d.what ≡ command.what
+    sample : d.sample ≡ Some (block_in w at)
+
+  abbrev Commands_on : World → Type 0
+  Commands_on v = (n : ℕ) (d : DiskCommand) → disks.command_at v.disks.commands n ≡ Some d → Was_command w.disks n d ⊎ Sampled_now n d
+
+  same_commands : (v : World) → v.disks ≡ w.disks → Commands_on v
+  same_commands v e n d i = inl (record { command = d; is = ap (λ (z : disks.Disks). disks.command_at z.commands n) (sym e) ∙ i; what = refl; sample = refl })
+
+  -- clients as they were, or with nothing outstanding
+  abbrev Back : World → Type 0
+  Back v = (c : ℕ) (site : ClientSite) → Running v c site → (a : Association) → Has a site.node.state.associations → Running w c site ⊎ ((pc : PageCommand) → Has pc a.store.commands → ⊥)
+
+  same_clients : (v : World) → v.clients ≡ w.clients → Back v
+  same_clients v e c site run a i = inl (record { there = ap (λ z. numbered z c) (sym e) ∙ run.there; runs = run.runs })
+
+  moved : (v : World) (es : List LogEntry) → Back v → ((c : ℕ) → (clock_of w (nodes.Client (client c))).0 ≤ (clock_of v (nodes.Client (client c))).0) → v.commands ≡ w.commands → Commands_on v → Fits v es → Reads_hold v es
+  moved v es back clocks cs on fits = record { clean = λ c site run a i. clean c site a i (back c site run a i); right = λ c site run a i l pc m r n y d yi its di. right c site a i l pc m r n y d yi its di (back c site run a i) }
+    where
+      clean : (c : ℕ) (site : ClientSite) (a : Association) → Has a site.node.state.associations → Running w c site ⊎ ((pc : PageCommand) → Has pc a.store.commands → ⊥) → Reads_clean a.store
+      clean c site a i (inl run) = reads.clean c site run a i
+      clean c site a i (inr n) = λ pc m r. absurd (n pc m)
+
+      earlier : (c lease : ℕ) (s : Option ClientSession) → Lasts lease (clock_of v (nodes.Client (client c))).0 s → Lasts lease (clock_of w (nodes.Client (client c))).0 s
+      earlier c lease None l = tt
+      earlier c lease (Some s) l = let z = clocks c in omega (arith, l, z)
+
+      right : (c : ℕ) (site : ClientSite) (a : Association) → Has a site.node.state.associations → Lasts site.node.state.config.lease (clock_of v (nodes.Client (client c))).0 a.session → (pc : PageCommand) → Has pc a.store.commands → pc.kind ≡ io.Read →
+          (n : ℕ) (y : IssuedCommand) (d : DiskCommand) → numbered v.commands n ≡ Some y → Is_its (client c) site.starts pc.number y → disks.command_at v.disks.commands n ≡ Some d → Running w c site ⊎ ((pc : PageCommand) → Has pc a.store.commands → ⊥) → Read_right v es a pc d
+      right c site a i l pc m r n y d yi its di (inr z) = absurd (z pc m)
+      right c site a i l pc m r n y d yi its di (inl run) = go (on n d di)
+        where
+          l0 : Lasts site.node.state.config.lease (clock_of w (nodes.Client (client c))).0 a.session
+          l0 = earlier c site.node.state.config.lease a.session l
+
+          fit : Fits_page v es (file_at a pc.ino) pc.page
+          fit = fits c site run a i l0 pc m r
+
+          was : (x : DiskCommand) → disks.command_at w.disks.commands n ≡ Some x → Read_right w w.log a pc x
+          was x xi = reads.right c site run a i l0 pc m r n y x (ap (λ z. numbered z n) (sym cs) ∙ yi) its xi
+
+          at_is : (b e : BlockAt) → commands.Read b ≡ commands.Read e → b ≡ e
+          at_is b e z = cc
+
+          go : Was_command w.disks n d ⊎ Sampled_now n d → Read_right v es a pc d
+          go (inl x) = let z = was x.command x.is in record { extent = z.extent; is = fit.mapped z.extent z.is; what = x.what ∙ z.what; sampled = λ u g. z.sampled u (sym x.sample ∙ g) ∙ sym fit.same }
+          go (inr x) =
+              let z = was x.command x.is in
+              record {
+                extent = z.extent;
+                is = fit.mapped z.extent z.is;
+                what = x.what ∙ z.what;
+                sampled = λ u g.
+                    ap (λ (b : Block). found_under (file_at a pc.ino) pc.page b.tag b.bytes (mapping_of z.extent)) (some_is (sym g ∙ x.sample) ∙ ap (block_in w) (at_is x.at z.extent.at (sym x.reads_at ∙ z.what)))
+                    ∙ block_law w (file_at a pc.ino) pc.page z.extent pages_w z.is (settled c site run a i l0 pc m r) ∙ sym fit.same;
+              }
+
+  -- the clocks, servers and log are as they were
+  quiet : (v : World) → v.clients ≡ w.clients → v.clocks ≡ w.clocks → v.commands ≡ w.commands → Commands_on v → v.servers ≡ w.servers → v.log ≡ w.log → Reads_hold v v.log
+  quiet v cs ts xs on ss ls =
+      moved v v.log (same_clients v cs) (λ c. subst (λ z. (clock_in w.clocks (client c)).0 ≤ (clock_in z (client c)).0) (sym ts) (omega arith)) xs on
+      (λ c site run a i l pc m r. record { mapped = λ e z. ap (λ ns. mapped_at (file_at a pc.ino) pc.page (numbered ns a.server.0)) ss ∙ z; same = ap (λ l. content l (file_at a pc.ino) pc.page) ls })
+
+  -- an effect
+  effect_commands : (n : ℕ) (d : DiskCommand) → disks.command w.disks (suc n) ≡ Some d → Commands_on (ev.with_disks (disks.effect_of w.disks (suc n) d d.what) w)
+  unfolding disks.effect_of
+  effect_commands n d is = go d.what refl
+    where
+      other : (x y : DiskCommand) (j : ℕ) → ((j ≡ suc n) × (y ≡ x)) ⊎ ((j ≢ suc n) × (disks.command_at w.disks.commands j ≡ Some y)) → ((j ≡ suc n) → (y ≡ x) → Was_command w.disks j y ⊎ Sampled_now j y) → Was_command w.disks j y ⊎ Sampled_now j y
+      other x y j (inl q) f = f q.0 q.1
+      other x y j (inr q) f = inl (record { command = y; is = q.1; what = refl; sample = refl })
+
+      go : (c : Command) → d.what ≡ c → Commands_on (ev.with_disks (disks.effect_of w.disks (suc n) d c) w)
+      go (commands.Read at) e j y i =
+          other (disks.sampled (disks.block w.disks at) d) y j (at_set w.disks.commands n j (disks.sampled (disks.block w.disks at) d) y i)
+          (λ p q. inr (record { command = d; is = ap (disks.command_at w.disks.commands) p ∙ is; at = at; reads_at = e; what = ap (λ (z : DiskCommand). z.what) q; sample = ap (λ (z : DiskCommand). z.sample) q }))
+      go (commands.Write at tag bytes) e j y i =
+          other (disks.effected d) y j (at_set w.disks.commands n j (disks.effected d) y i)
+          (λ p q. inl (record { command = d; is = ap (disks.command_at w.disks.commands) p ∙ is; what = ap (λ (z : DiskCommand). z.what) q; sample = ap (λ (z : DiskCommand). z.sample) q }))
+
+  effect : (n : ℕ) → adm.refusal w (events.Effect n) ≡ None → Reads_hold (ev.effects w n).world (ev.effects w n).world.log
+  unfolding adm.refusal adm.refused_effect
+  effect n ref = by n (disks.command w.disks n) refl ref
+    where
+      log_same : (es : List LogEntry) (x : Option Carried) (v : World) → v.servers ≡ w.servers → es ≡ ev.log_hard w.log x → Fits v es
+      log_same es x v ss e c site run a i l pc m r =
+          record {
+            mapped = λ g z. ap (λ ns. mapped_at (file_at a pc.ino) pc.page (numbered ns a.server.0)) ss ∙ z;
+            same = ap (λ l. content l (file_at a pc.ino) pc.page) e ∙ content_log_hard (file_at a pc.ino) pc.page w.log x;
+          }
+
+      no : (m : ℕ) → disks.command w.disks m ≡ None → adm.refused_effect w m (disks.command w.disks m) ≡ None → ⊥
+      no m e q = let z : adm.refused_effect w m None ≡ None = subst (λ o. adm.refused_effect w m o ≡ None) e q in cc z
+
+      by : (m : ℕ) (o : Option DiskCommand) → disks.command w.disks m ≡ o → adm.refused_effect w m (disks.command w.disks m) ≡ None → Reads_hold (ev.effects w m).world (ev.effects w m).world.log
+      by m None e q = absurd (no m e q)
+      by zero (Some d) e q = cc e
+      by (suc m) (Some d) e q =
+          let f : Effect_finds w (suc m) d = effect_finds w (suc m) d e q in
+          let v : World = ev.with_log (ev.log_hard w.log (ev.carried_by (issued_of w (suc m)))) (ev.with_disks (disks.effect_of w.disks (suc m) d d.what) w) in
+          subst (λ (z : World). Reads_hold z z.log) (sym (effect_is w (suc m) d f))
+          (moved v v.log (same_clients v refl) (λ c. omega arith) refl (effect_commands m d e) (log_same v.log (ev.carried_by (issued_of w (suc m))) v refl refl))
+
+  -- an advance
+  advance : (steps : List ℕ) → Reads_hold (ev.advances w steps).world (ev.advances w steps).world.log
+  unfolding ev.advances ev.marks
+  advance steps =
+      moved (ev.advances w steps).world (ev.advances w steps).world.log (same_clients (ev.advances w steps).world refl) (λ c. clock_up w steps (client c)) refl (same_commands (ev.advances w steps).world refl)
+      (λ c site run a i l pc m r. record { mapped = λ e z. z; same = content_ended (file_at a pc.ino) pc.page w.commands (ev.lives_reached w steps) w.log (settled c site run a i l pc m r) })
+
+  -- a client's crash and start
+  swapped : (v : World) (c : ClientId) (old new : ClientSite) → site_of w c ≡ Some old → v.clients ≡ with_numbered c.0 new w.clients → (new.node.running ≡ true → (a : Association) → Has a new.node.state.associations → (pc : PageCommand) → Has pc a.store.commands → ⊥) → Back v
+  swapped v c old new there cs none d site run a i = go (same_or_not d c.0)
+    where
+      its : numbered (with_numbered c.0 new w.clients) d ≡ Some site
+      its = ap (λ z. numbered z d) (sym cs) ∙ run.there
+
+      go : (d ≡ c.0) ⊎ (d ≢ c.0) → Running w d site ⊎ ((pc : PageCommand) → Has pc a.store.commands → ⊥)
+      go (inr n) = inl (record { there = sym (numbered_other w.clients c.0 d new (numbered_below w.clients c.0 old there).0 n) ∙ its; runs = run.runs })
+      go (inl q) =
+          let s : new ≡ site = some_is (sym (numbered_own w.clients c.0 new old there) ∙ ap (numbered (with_numbered c.0 new w.clients)) (sym q) ∙ its) in
+          inr (λ pc m. none (ap (λ (z : ClientSite). z.node.running) s ∙ run.runs) a (subst (λ (z : ClientSite). Has a z.node.state.associations) (sym s) i) pc m)
+
+  crash : (c : ClientId) (site : ClientSite) → site_of w c ≡ Some site → Reads_hold (ev.crashes_client w c (Some site)).world (ev.crashes_client w c (Some site)).world.log
+  unfolding ev.crashes_client ev.marks ev.log_crashed log.drop_picked content
+  crash c site there =
+      moved (ev.crashes_client w c (Some site)).world (ev.crashes_client w c (Some site)).world.log
+      (swapped (ev.crashes_client w c (Some site)).world c site (ev.stopped_site site) there refl (λ r. absurd (no r))) (λ d. omega arith) refl (same_commands (ev.crashes_client w c (Some site)).world refl)
+      (λ d other run a i l pc m r.
+      record { mapped = λ e z. z; same = alike_content (filled 0) (file_at a pc.ino) pc.page w.log (ev.crashes_client w c (Some site)).world.log (alike_drop 1 _ _ (file_at a pc.ino) pc.page w.log (settled d other run a i l pc m r)) })
+    where
+      no : false ≡ true → ⊥
+      no r = cc
+
+  start : (c : ClientId) (site : ClientSite) → site_of w c ≡ Some site → Reads_hold (ev.starts_client w c (Some site)) (ev.starts_client w c (Some site)).log
+  unfolding ev.starts_client cl.start
+  start c site there =
+      moved (ev.starts_client w c (Some site)) (ev.starts_client w c (Some site)).log
+      (swapped (ev.starts_client w c (Some site)) c site (ev.started_site site) there refl
+      (λ r a i pc m. let z = has_map cl.started_association site.node.state.associations a i in none pc (subst (λ (b : Association). Has pc b.store.commands) z.2 m)))
+      (λ d. omega arith) refl (same_commands (ev.starts_client w c (Some site)) refl) (λ d other run a i l pc m r. record { mapped = λ e z. z; same = refl })
+    where
+      none : (pc : PageCommand) → Has pc [] → ⊥
+      none pc m = m
