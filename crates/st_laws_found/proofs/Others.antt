@@ -56,6 +56,7 @@ use Rattle.st_rules.specs.World as world
 use Rattle.st_rules.specs.World.{World, ClientSite, clock_of, issued_of, message_of, node_of, numbered, receiver_of, site_of, with_numbered}
 use Rattle.st_assoc.specs.Assoc.{Config}
 use Rattle.st_lemmas.specs.Lists.{Has}
+use Rattle.st_lemmas.proofs.Contents.{find_stays}
 use Rattle.st_lemmas.proofs.Lookups.{some_is}
 use Rattle.st_lemmas.proofs.Marks.{content_hard}
 use Rattle.st_lemmas.proofs.Numbers.{numbered_below, numbered_other, numbered_own}
@@ -71,6 +72,7 @@ use Rattle.st_laws_pages.proofs.Data.{block_law}
 use Rattle.st_laws_pages.proofs.Effects.{Effect_finds, effect_finds, effect_is}
 use Rattle.st_laws_pages.proofs.Folds.{alike_content, alike_drop, alike_settled}
 use Rattle.st_laws_pages.proofs.Lives.{find_front}
+use Rattle.st_laws_pages.proofs.Law.{same_file_is, same_place_is, self_file}
 use Rattle.st_laws_pages.proofs.Moves.{clock_up}
 use Rattle.st_laws_pages.proofs.Walk.{step_id, step_moves}
 use Rattle.st_laws_pages.proofs.World.{at_set}
@@ -83,6 +85,7 @@ use Rattle.st_laws_reads.specs.Law.{Running}
 use Rattle.st_laws_reads.specs.World.{CopiesHold}
 use Rattle.st_laws_reads.proofs.Alone.{while_at}
 use Rattle.st_laws_reads.proofs.Settled.{law as settled_law}
+use Rattle.st_laws_submits.proofs.Others.{free_at}
 use Rattle.st_laws_submits.proofs.Taking.{Was_command, report_open}
 use Rattle.st_laws_found.specs.Found.{Reads_clean}
 use Rattle.st_laws_found.specs.Reads.{Each_right, Read_right, Reads_hold}
@@ -281,3 +284,160 @@ module _ (asks : ℕ → ℕ → Option Ask) (k : Config) (count : ℕ) (w : Wor
     where
       none : (pc : PageCommand) → Has pc [] → ⊥
       none pc m = m
+
+  -- what a server says
+  record Same_as (v u : World) : Type 0 where
+    clients : u.clients ≡ v.clients
+    clocks : u.clocks ≡ v.clocks
+    commands : u.commands ≡ v.commands
+    disks : u.disks ≡ v.disks
+    servers : u.servers ≡ v.servers
+
+  same_here : (v : World) → Same_as v v
+  same_here v = record { clients = refl; clocks = refl; commands = refl; disks = refl; servers = refl }
+
+  same_then : (v u z : World) → Same_as v u → Same_as u z → Same_as v z
+  same_then v u z a b = record { clients = b.clients ∙ a.clients; clocks = b.clocks ∙ a.clocks; commands = b.commands ∙ a.commands; disks = b.disks ∙ a.disks; servers = b.servers ∙ a.servers }
+
+  same_one : (s : ServerId) (o : Output) (sc : ev.Scene) → Same_as sc.world (ev.server_says sc s o).world
+  unfolding ev.server_says ev.server_notes ev.cuts ev.sends
+  same_one s (outputs.Send m) sc = record { clients = refl; clocks = refl; commands = refl; disks = refl; servers = refl }
+  same_one s (outputs.Note n) sc = noted n
+    where
+      noted : (n : Note) → Same_as sc.world (ev.server_notes sc s n).world
+      noted (notes.CutDone g p) = record { clients = refl; clocks = refl; commands = refl; disks = refl; servers = refl }
+      noted (notes.Stolen c life) = record { clients = refl; clocks = refl; commands = refl; disks = refl; servers = refl }
+      noted (notes.Suspected c t) = same_here sc.world
+      noted n = same_here sc.world
+  same_one s o sc = same_here sc.world
+
+  same_all : (s : ServerId) (os : List Output) (sc : ev.Scene) → Same_as sc.world (ev.server_says_all s os sc).world
+  unfolding ev.server_says_all
+  same_all s [] sc = same_here sc.world
+  same_all s (o ∷ os) sc = same_then sc.world (ev.server_says sc s o).world _ (same_one s o sc) (same_all s os (ev.server_says sc s o))
+
+  content_one : (f : FileId) (p : PageNo) (s : ServerId) (o : Output) (sc : ev.Scene) → ((g : FileId) (q : PageNo) → outputs.Note (notes.CutDone g q) ≡ o → touches f p (hard_cut g q) ≡ false) → content (ev.server_says sc s o).world.log f p ≡ content sc.world.log f p
+  unfolding ev.server_says ev.server_notes ev.cuts ev.sends log.cut
+  content_one f p s (outputs.Send m) sc n = refl
+  content_one f p s (outputs.Note x) sc n = noted x n
+    where
+      noted : (x : Note) → ((g : FileId) (q : PageNo) → outputs.Note (notes.CutDone g q) ≡ outputs.Note x → touches f p (hard_cut g q) ≡ false) → content (ev.server_notes sc s x).world.log f p ≡ content sc.world.log f p
+      noted (notes.CutDone g q) n = content_more f p sc.world.log (hard_cut g q) (n g q refl)
+      noted (notes.Stolen c life) n = refl
+      noted (notes.Suspected c t) n = refl
+      noted x n = refl
+  content_one f p s o sc n = refl
+
+  content_all : (f : FileId) (p : PageNo) (s : ServerId) (os : List Output) (sc : ev.Scene) → ((g : FileId) (q : PageNo) → Has (outputs.Note (notes.CutDone g q)) os → touches f p (hard_cut g q) ≡ false) → content (ev.server_says_all s os sc).world.log f p ≡ content sc.world.log f p
+  unfolding ev.server_says_all
+  content_all f p s [] sc n = refl
+  content_all f p s (o ∷ os) sc n = content_all f p s os (ev.server_says sc s o) (λ g q i. n g q (inr i)) ∙ content_one f p s o sc (λ g q e. n g q (inl e))
+
+  -- no page of an outstanding read is behind a cut
+  cut_apart : (f : FileId) (p : PageNo) → Cut_free w f p → (c : ℕ) (site : ClientSite) → Running w c site → (a : Association) → Has a site.node.state.associations → Lasts site.node.state.config.lease (clock_of w (nodes.Client (client c))).0 a.session →
+      (pc : PageCommand) → Has pc a.store.commands → pc.kind ≡ io.Read → touches (file_at a pc.ino) pc.page (hard_cut f p) ≡ true → ⊥
+  cut_apart f p free c site run a i l pc m r t = go (free_at asks w copies f p site.node.state.config.lease (clock_of w (nodes.Client (client c))).0 site.node.state.associations (free c site run) a i l sv)
+    where
+      x : (same_file f (file_at a pc.ino) ≡ true) × (nat_le p.0 pc.page.0 ≡ true)
+      x = and_true (same_file f (file_at a pc.ino)) (nat_le p.0 pc.page.0) t
+
+      y : (Rattle.st_rules.specs.Keys.same_server f.server a.server ≡ true) × ((f.ino == pc.ino) ≡ true)
+      y = and_true _ _ x.0
+
+      sv : f.server ≡ a.server
+      sv = ap (λ n. record { 0 = n }) (eqb-true f.server.0 a.server.0 y.0)
+
+      file : f.ino ≡ pc.ino
+      file = eqb-true f.ino pc.ino y.1
+
+      none : true ≡ false → ⊥
+      none z = cc
+
+      go : ((held_in a.session f.ino).mode ≡ 0) ⊎ ((q : PageNo) → p.0 ≤ q.0 → Nothing a.store f.ino q) → ⊥
+      go (inl z) =
+          let m = held c site run a i l pc m r in
+          let n = ap (λ j. (held_in a.session j).mode) file in absurd (omega (arith, z, m, n))
+      go (inr z) = none (sym (being_read a pc m r) ∙ ap (λ j. pages.is_being_read a.store.commands j pc.page) (sym file) ∙ (z pc.page (leb-true p.0 pc.page.0 x.1)).reading)
+
+  apart : (f : FileId) (p : PageNo) → Cut_free w f p → (c : ℕ) (site : ClientSite) → Running w c site → (a : Association) → Has a site.node.state.associations → Lasts site.node.state.config.lease (clock_of w (nodes.Client (client c))).0 a.session →
+      (pc : PageCommand) → Has pc a.store.commands → pc.kind ≡ io.Read → touches (file_at a pc.ino) pc.page (hard_cut f p) ≡ false
+  apart f p free c site run a i l pc m r = go (touches (file_at a pc.ino) pc.page (hard_cut f p)) refl
+    where
+      go : (b : Bool) → touches (file_at a pc.ino) pc.page (hard_cut f p) ≡ b → b ≡ false
+      go true t = absurd (cut_apart f p free c site run a i l pc m r t)
+      go false t = refl
+
+  -- what a server's extents keep
+  placed_keeps : (f : FileId) (ps : List PageNo) (x : Extents) (g : FileId) (q : PageNo) (e : Extent) → extents.extent_of x g q ≡ Some e → extents.extent_of (extents.place_pages f ps x) g q ≡ Some e
+  unfolding extents.place_pages extents.place_on
+  placed_keeps f [] x g q e h = h
+  placed_keeps f (p ∷ ps) x g q e h = placed_keeps f ps (extents.place_on x f p (extents.free_blocks x)) g q e (go (extents.free_blocks x))
+    where
+      go : (bs : List BlockAt) → extents.extent_of (extents.place_on x f p bs) g q ≡ Some e
+      go [] = h
+      go (b ∷ bs) = find_front (extents.is_extent_of g q) x.rows _ e h
+
+  cut_keeps : (f : FileId) (p : PageNo) (x : Extents) (g : FileId) (q : PageNo) (e : Extent) → touches g q (hard_cut f p) ≡ false → extents.extent_of x g q ≡ Some e → extents.extent_of (extents.release_from x f p) g q ≡ Some e
+  unfolding extents.release_from
+  cut_keeps f p x g q e n h = find_stays (extents.is_extent_of g q) (extents.is_at_or_behind f p) other x.rows ∙ h
+    where
+      clash : true ≡ false → ⊥
+      clash z = cc
+
+      swap : (a b : FileId) → same_file a b ≡ true → same_file b a ≡ true
+      swap a b z = let y = same_file_is a b z in ap (λ u. same_file u a) (sym y) ∙ self_file a
+
+      other : (y : Extent) → extents.is_extent_of g q y ≡ true → extents.is_at_or_behind f p y ≡ false
+      other y z = go (extents.is_at_or_behind f p y) refl
+        where
+          its : (y.file ≡ g) × (y.page ≡ q)
+          its = same_place_is y.file g y.page q z
+
+          go : (b : Bool) → extents.is_at_or_behind f p y ≡ b → b ≡ false
+          go false u = refl
+          go true u =
+              let t = and_true (same_file y.file f) (nat_le p.0 y.page.0) u in
+              let k = swap g f (ap (λ v. same_file v f) (sym its.0) ∙ t.0) in
+              absurd (clash (sym (ap (λ v. v && nat_le p.0 q.0) k ∙ ap (λ (v : PageNo). nat_le p.0 v.0) (sym its.1) ∙ t.1) ∙ n))
+
+  -- a step of a server
+  mapped_kept : (v : World) (s : ServerId) (node n : ServerNode) → node_of w s ≡ Some node → v.servers ≡ with_numbered s.0 n w.servers → (f : FileId) (p : PageNo) (e : Extent) →
+      (extents.extent_of node.state.stable.extents f p ≡ Some e → extents.extent_of n.state.stable.extents f p ≡ Some e) → mapped_in w f p ≡ Some e → mapped_in v f p ≡ Some e
+  mapped_kept v s node n there ss f p e k h = go (same_or_not f.server.0 s.0)
+    where
+      here : (f.server.0 ≡ s.0) → numbered v.servers f.server.0 ≡ Some n
+      here q = ap (λ z. numbered z f.server.0) ss ∙ ap (numbered (with_numbered s.0 n w.servers)) q ∙ numbered_own w.servers s.0 n node there
+
+      go : (f.server.0 ≡ s.0) ⊎ (f.server.0 ≢ s.0) → mapped_in v f p ≡ Some e
+      go (inl q) = ap (mapped_at f p) (here q) ∙ k (ap (mapped_at f p) (sym there) ∙ ap (λ z. mapped_at f p (numbered w.servers z)) (sym q) ∙ h)
+      go (inr q) = ap (λ z. mapped_at f p (numbered z f.server.0)) ss ∙ ap (mapped_at f p) (numbered_other w.servers s.0 f.server.0 n (numbered_below w.servers s.0 node there).0 q) ∙ h
+
+  has_cut : (f : FileId) (p : PageNo) (os : List Output) → One_cut f p os → Has (outputs.Note (notes.CutDone f p)) os
+  has_cut f p [] n = absurd n
+  has_cut f p (o ∷ os) (inl n) = inl (sym n.here)
+  has_cut f p (o ∷ os) (inr n) = inr (has_cut f p os n.rest)
+
+  server_step : (s : ServerId) (node n : ServerNode) (os : List Output) → node_of w s ≡ Some node → Extents_move s node.state.stable.extents n.state.stable.extents os → Cuts_free w os →
+      Reads_hold (ev.server_says_all s os (ev.quiet (ev.with_node s n w))).world (ev.server_says_all s os (ev.quiet (ev.with_node s n w))).world.log
+  server_step s node n os there move free = moved v v.log (same_clients v told.clients) clocks told.commands (same_commands v told.disks) fits
+    where
+      v : World
+      v = (ev.server_says_all s os (ev.quiet (ev.with_node s n w))).world
+
+      told : Same_as (ev.with_node s n w) (ev.server_says_all s os (ev.quiet (ev.with_node s n w))).world
+      told = same_all s os (ev.quiet (ev.with_node s n w))
+
+      clocks : (c : ℕ) → (clock_of w (nodes.Client (client c))).0 ≤ (clock_of v (nodes.Client (client c))).0
+      clocks c = subst (λ z. (clock_in w.clocks (client c)).0 ≤ (clock_in z (client c)).0) (sym told.clocks) (omega arith)
+
+      by_move : (f : FileId) (p : PageNo) (e : Extent) → ((g : FileId) (q : PageNo) → Cut_free w g q → touches f p (hard_cut g q) ≡ false) → (y : Extents) → Extents_move s node.state.stable.extents y os → extents.extent_of node.state.stable.extents f p ≡ Some e → extents.extent_of y f p ≡ Some e
+      by_move f p e ok y (Stays _ none) h = h
+      by_move f p e ok y (Maps _ g ps own none) h = placed_keeps g ps node.state.stable.extents f p e h
+      by_move f p e ok y (Cuts _ g q own one) h = cut_keeps g q node.state.stable.extents f p e (ok g q (free g q (has_cut g q os one))) h
+
+      fits : Fits v v.log
+      fits c site run a i l pc m r =
+          record {
+            mapped = λ e h. mapped_kept v s node n there told.servers (file_at a pc.ino) pc.page e (by_move (file_at a pc.ino) pc.page e (λ g q z. apart g q z c site run a i l pc m r) n.state.stable.extents move) h;
+            same = content_all (file_at a pc.ino) pc.page s os (ev.quiet (ev.with_node s n w)) (λ g q z. apart g q (free g q z) c site run a i l pc m r);
+          }
