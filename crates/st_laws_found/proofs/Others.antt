@@ -112,17 +112,17 @@ content_ended f p cs (l ∷ ls) es s =
     let a = alike_drop 1 _ _ f p es s in
     content_ended f p cs ls (ev.log_ended cs l es) (alike_settled f p es (ev.log_ended cs l es) a s) ∙ alike_content (filled 0) f p es (ev.log_ended cs l es) a
 
-module _ (asks : ℕ → ℕ → Option Ask) (k : Config) (count : ℕ) (w : World) (all : AllStand k count w) (copies : CopiesHold asks w) (elders : Elders_alone w) (pages_w : PagesHold w) (reads : Reads_hold w w.log) where
-  -- what stands of an outstanding read under a lease that lasts
-  module _ (c : ℕ) (site : ClientSite) (run : Running w c site) (a : Association) (i : Has a site.node.state.associations) (l : Lasts site.node.state.config.lease (clock_of w (nodes.Client (client c))).0 a.session) (pc : PageCommand) (m : Has pc a.store.commands) (r : pc.kind ≡ io.Read) where
-    stands : Stands_at (client c) w.log a
-    stands = (while_at _ _ (client c) w.log site.node.state.associations a ((copies c site run.there).runs run.runs).copies i).lasting l
+-- where the page of each outstanding read is settled
+abbrev pub Reads_settled : World → Type 0
+Reads_settled w =
+    (c : ℕ) (site : ClientSite) → Running w c site → (a : Association) → Has a site.node.state.associations → Lasts site.node.state.config.lease (clock_of w (nodes.Client (client c))).0 a.session → (pc : PageCommand) → Has pc a.store.commands → pc.kind ≡ io.Read →
+    Settled_on (file_at a pc.ino) pc.page w.log
 
-    held : 1 ≤ (held_in a.session pc.ino).mode
-    held = (stands.pages pc.ino pc.page).reading (being_read a pc m r)
-
-    settled : Settled_on (file_at a pc.ino) pc.page w.log
-    settled = settled_law asks k count w c site a pc.ino pc.page all copies elders pages_w.pages.cuts run i l held (reads.clean c site run a i pc m r).0
+module _ (asks : ℕ → ℕ → Option Ask) (w : World) (copies : CopiesHold asks w) (pages_w : PagesHold w) (reads : Reads_hold w w.log) (settled : Reads_settled w) where
+  held : (c : ℕ) (site : ClientSite) → Running w c site → (a : Association) → Has a site.node.state.associations → Lasts site.node.state.config.lease (clock_of w (nodes.Client (client c))).0 a.session → (pc : PageCommand) → Has pc a.store.commands → pc.kind ≡ io.Read → 1 ≤ (held_in a.session pc.ino).mode
+  held c site run a i l pc m r =
+      let s : Stands_at (client c) w.log a = (while_at _ _ (client c) w.log site.node.state.associations a ((copies c site run.there).runs run.runs).copies i).lasting l in
+      (s.pages pc.ino pc.page).reading (being_read a pc m r)
 
   -- where the page of each outstanding read lies as it did, and has the content that it had
   record Fits_page (v : World) (es : List LogEntry) (f : FileId) (p : PageNo) : Type 0 where
@@ -441,3 +441,108 @@ module _ (asks : ℕ → ℕ → Option Ask) (k : Config) (count : ℕ) (w : Wor
             mapped = λ e h. mapped_kept v s node n there told.servers (file_at a pc.ino) pc.page e (by_move (file_at a pc.ino) pc.page e (λ g q z. apart g q z c site run a i l pc m r) n.state.stable.extents move) h;
             same = content_all (file_at a pc.ino) pc.page s os (ev.quiet (ev.with_node s n w)) (λ g q z. apart g q (free g q z) c site run a i l pc m r);
           }
+
+  -- at a server, in each way
+  server_reads : (s : ServerId) (input : ServerInput) (o : Option ServerNode) → node_of w s ≡ o → Server_free w s input o → Reads_hold (ev.at_server w s input o).world (ev.at_server w s input o).world.log
+  unfolding ev.at_server ev.server_takes ev.server_took server.node_step
+  server_reads s input None e g = reads
+  server_reads s input (Some node) e g = go node.running g
+    where
+      now : Stamp
+      now = clock_of w (nodes.Server s)
+
+      t : server.Turn
+      t = server.server_step node.state now input
+
+      go : (b : Bool) → Turn_free w (if b then Ok (server.node_turn node t) else Err Crashed) → Reads_hold (ev.server_took w s (if b then Ok (server.node_turn node t) else Err Crashed)).world (ev.server_took w s (if b then Ok (server.node_turn node t) else Err Crashed)).world.log
+      go true g = server_step s node (record node { state = t.state }) t.out e (subst (λ i. Extents_move i node.state.stable.extents t.state.stable.extents t.out) (pages_w.extents.ids s node e) (step_moves node.state now input)) g
+      go false g = reads
+
+  same_node : (v : World) (s : ServerId) (node n : ServerNode) → node_of w s ≡ Some node → n.state.stable.extents ≡ node.state.stable.extents → v.clients ≡ w.clients → v.clocks ≡ w.clocks → v.commands ≡ w.commands → v.disks ≡ w.disks → v.servers ≡ with_numbered s.0 n w.servers → v.log ≡ w.log → Reads_hold v v.log
+  same_node v s node n there same cs ts xs ds ss ls =
+      moved v v.log (same_clients v cs) (λ c. subst (λ z. (clock_in w.clocks (client c)).0 ≤ (clock_in z (client c)).0) (sym ts) (omega arith)) xs (same_commands v ds)
+      (λ c site run a i l pc m r.
+      record { mapped = λ e h. mapped_kept v s node n there ss (file_at a pc.ino) pc.page e (λ z. ap (λ x. extents.extent_of x (file_at a pc.ino) pc.page) same ∙ z) h; same = ap (λ l. content l (file_at a pc.ino) pc.page) ls })
+
+  receiver_reads : (m : Message) (n : NodeId) → hearing w m n ≡ None → Receiver_free w m n → Reads_hold (ev.delivers_to w m n).world (ev.delivers_to w m n).world.log
+  unfolding ev.delivers_to ev.at_client
+  receiver_reads m (nodes.Client c) e g = go (site_of w c) e
+    where
+      go : (o : Option ClientSite) → taking w c (inputs.Control m) o ≡ None → Reads_hold (ev.at_client w c (inputs.Control m) o).world (ev.at_client w c (inputs.Control m) o).world.log
+      go None e = reads
+      go (Some site) e = absurd (none_some _ e)
+  receiver_reads m (nodes.Server s) e g = server_reads s (serving.Control m) (node_of w s) refl g
+
+  message_reads : (o : Option SentMessage) → hearing_of w o ≡ None → Message_free w o → Reads_hold (ev.delivers w o).world (ev.delivers w o).world.log
+  unfolding ev.delivers
+  message_reads None e g = reads
+  message_reads (Some m) e g = receiver_reads m.message (receiver_of m) e g
+
+  -- Each event at which no client takes an input.
+  pub others_reads : (e : Event) → adm.refusal w e ≡ None → taken w e ≡ None → Others_owed w e → Reads_hold (happens w e).world (happens w e).world.log
+  unfolding ev.happens ev.ticks ev.loses_message ev.reports_of ev.crashes ev.crashes_server ev.starts ev.starts_server ev.at_client ev.asks_at ev.tells ev.tells_client ev.tells_site ev.crashes_client ev.starts_client server.crash server.start server.begin_epoch
+  others_reads (events.Tick (nodes.Client c)) ref t o = go (site_of w c) t
+    where
+      go : (s : Option ClientSite) → taking w c inputs.Tick s ≡ None → Reads_hold (ev.at_client w c inputs.Tick s).world (ev.at_client w c inputs.Tick s).world.log
+      go None t = reads
+      go (Some site) t = absurd (none_some _ t)
+  others_reads (events.Tick (nodes.Server s)) ref t o = server_reads s serving.Tick (node_of w s) refl o
+  others_reads (events.App c ask) ref t o = go (site_of w c) t
+    where
+      go : (s : Option ClientSite) → asking w c ask s ≡ None → Reads_hold (ev.asks_at w c ask s).world (ev.asks_at w c ask s).world.log
+      go None t = reads
+      go (Some site) t = absurd (none_some _ t)
+  others_reads (events.Deliver n) ref t o = message_reads (message_of w n) t o
+  others_reads (events.Lose n) ref t o = go (message_of w n)
+    where
+      go : (m : Option SentMessage) → Reads_hold (ev.loses_message w n m) (ev.loses_message w n m).log
+      go None = reads
+      go (Some m) = quiet (ev.with_lost n m w) refl refl refl (same_commands (ev.with_lost n m w) refl) refl refl
+  others_reads (events.Cut x y) ref t o = quiet (ev.with_cut x y w) refl refl refl (same_commands (ev.with_cut x y w) refl) refl refl
+  others_reads (events.Heal x y) ref t o = quiet (ev.without_cut x y w) refl refl refl (same_commands (ev.without_cut x y w) refl) refl refl
+  others_reads (events.Advance steps) ref t o = advance steps
+  others_reads (events.Effect n) ref t o = effect n ref
+  others_reads (events.Report n ok) ref t o = go (issued_of w n) t
+    where
+      h_v : Reads_hold (ev.with_disks (ev.disks_after w.disks (disks.done w.disks n ok)) w) w.log
+      h_v = quiet (ev.with_disks (ev.disks_after w.disks (disks.done w.disks n ok)) w) refl refl refl (λ n2 d i. inl ((report_open w.disks n ok).was n2 d i)) refl refl
+
+      by : (y : IssuedCommand) (site : ClientSite) (b : Bool) → (if b then taking (ev.with_disks (ev.disks_after w.disks (disks.done w.disks n ok)) w) y.client (ev.end_told (ev.with_disks (ev.disks_after w.disks (disks.done w.disks n ok)) w) n ok y) (Some site) else None) ≡ None →
+          Reads_hold (if b then ev.client_takes (ev.with_disks (ev.disks_after w.disks (disks.done w.disks n ok)) w) y.client (ev.end_told (ev.with_disks (ev.disks_after w.disks (disks.done w.disks n ok)) w) n ok y) site else ev.quiet (ev.with_disks (ev.disks_after w.disks (disks.done w.disks n ok)) w)).world
+          (if b then ev.client_takes (ev.with_disks (ev.disks_after w.disks (disks.done w.disks n ok)) w) y.client (ev.end_told (ev.with_disks (ev.disks_after w.disks (disks.done w.disks n ok)) w) n ok y) site else ev.quiet (ev.with_disks (ev.disks_after w.disks (disks.done w.disks n ok)) w)).world.log
+      by y site true t = absurd (none_some _ t)
+      by y site false t = h_v
+
+      at : (y : IssuedCommand) (s : Option ClientSite) → told_at (ev.with_disks (ev.disks_after w.disks (disks.done w.disks n ok)) w) n ok y s ≡ None → Reads_hold (ev.tells_client (ev.with_disks (ev.disks_after w.disks (disks.done w.disks n ok)) w) n ok y s).world (ev.tells_client (ev.with_disks (ev.disks_after w.disks (disks.done w.disks n ok)) w) n ok y s).world.log
+      at y None t = h_v
+      at y (Some site) t = by y site (ev.is_same_instance y site) t
+
+      go : (o : Option IssuedCommand) → told_of (ev.with_disks (ev.disks_after w.disks (disks.done w.disks n ok)) w) n ok o ≡ None → Reads_hold (ev.tells (ev.with_disks (ev.disks_after w.disks (disks.done w.disks n ok)) w) n ok o).world (ev.tells (ev.with_disks (ev.disks_after w.disks (disks.done w.disks n ok)) w) n ok o).world.log
+      go None t = h_v
+      go (Some y) t = at y (site_of w y.client) t
+  others_reads (events.Crash (nodes.Client c)) ref t o = go (site_of w c) refl
+    where
+      go : (s : Option ClientSite) → site_of w c ≡ s → Reads_hold (ev.crashes_client w c s).world (ev.crashes_client w c s).world.log
+      go None e = reads
+      go (Some site) e = crash c site e
+  others_reads (events.Crash (nodes.Server s)) ref t o = go (node_of w s) refl
+    where
+      go : (n : Option ServerNode) → node_of w s ≡ n → Reads_hold (ev.crashes_server w s n) (ev.crashes_server w s n).log
+      go None e = reads
+      go (Some node) e = same_node (ev.with_node s (server.crash_node node) w) s node (server.crash_node node) e refl refl refl refl refl refl refl
+  others_reads (events.Start (nodes.Client c)) ref t o = go (site_of w c) refl
+    where
+      go : (s : Option ClientSite) → site_of w c ≡ s → Reads_hold (ev.starts_client w c s) (ev.starts_client w c s).log
+      go None e = reads
+      go (Some site) e = start c site e
+  others_reads (events.Start (nodes.Server s)) ref t o = go (node_of w s) refl
+    where
+      go : (n : Option ServerNode) → node_of w s ≡ n → Reads_hold (ev.starts_server w s n) (ev.starts_server w s n).log
+      go None e = reads
+      go (Some node) e = same_node (ev.with_node s (server.start_node node (clock_of w (nodes.Server s))) w) s node (server.start_node node (clock_of w (nodes.Server s))) e refl refl refl refl refl refl refl
+
+-- Pages of outstanding reads are settled.
+pub reads_settled : (asks : ℕ → ℕ → Option Ask) (k : Config) (count : ℕ) (w : World) → AllStand k count w → CopiesHold asks w → Elders_alone w → PagesHold w → Reads_hold w w.log → Reads_settled w
+reads_settled asks k count w all copies elders pages_w reads c site run a i l pc m r =
+    let s : Stands_at (client c) w.log a = (while_at _ _ (client c) w.log site.node.state.associations a ((copies c site run.there).runs run.runs).copies i).lasting l in
+    settled_law asks k count w c site a pc.ino pc.page all copies elders pages_w.pages.cuts run i l ((s.pages pc.ino pc.page).reading (being_read a pc m r)) (reads.clean c site run a i pc m r).0
