@@ -65,7 +65,7 @@ use Rattle.st_laws_found.specs.Reads.{Each_right, Lies_at, Read_right, Reads_hol
 use Rattle.st_laws_found.proofs.Contents.{content_others, content_said}
 use Rattle.st_laws_found.proofs.Step.{Read_stays, all_behind, reads_behind}
 
-ongoing : (k : Rattle.st_base.specs.declared.config.Config.Config) (now : Stamp) (a : Option ClientSession) → is_ended k now a ≡ false → Lasts k.lease now.0 a
+pub ongoing : (k : Rattle.st_base.specs.declared.config.Config.Config) (now : Stamp) (a : Option ClientSession) → is_ended k now a ≡ false → Lasts k.lease now.0 a
 ongoing k now None e = tt
 ongoing k now (Some s) e = let z = leb-false (lease.end_of k s.lease).0 now.0 e in omega (arith, z)
 

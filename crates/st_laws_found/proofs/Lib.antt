@@ -7,3 +7,4 @@ pub mod Step
 pub mod Contents
 pub mod Client
 pub mod Others
+pub mod Ending

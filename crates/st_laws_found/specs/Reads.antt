@@ -1,17 +1,19 @@
 -- What reads of pages found that are outstanding: the content of the page.
 use Rattle.std.specs.Prelude.{◌≡◌, ℕ, List, Option, Some}
+use Rattle.st_base.specs.declared.ids.PageNo.{PageNo}
 use Rattle.st_base.specs.declared.disk.BlockAt.{BlockAt}
 use Rattle.st_base.specs.declared.disk.Command.TheVariants as commands
 use Rattle.st_base.specs.declared.ids.NodeId.TheVariants as nodes
 use Rattle.st_messages.specs.declared.output.Output.TheVariants as outputs
 use Rattle.st_rules.specs.declared.client.IoKind.TheVariants as io
+use Rattle.st_rules.specs.declared.client.Mapping.{Mapping}
 use Rattle.st_rules.specs.declared.client.PageCommand.{PageCommand}
 use Rattle.st_rules.specs.declared.disks.Block.{Block}
 use Rattle.st_rules.specs.declared.disks.DiskCommand.{DiskCommand}
 use Rattle.st_rules.specs.declared.extents.Extent.{Extent}
 use Rattle.st_rules.specs.declared.log.LogEntry.{LogEntry}
 use Rattle.st_rules.specs.declared.world.IssuedCommand.{IssuedCommand}
-use Rattle.st_rules.specs.ClientPages.{found_under}
+use Rattle.st_rules.specs.ClientPages.{found_under, mapping_of as known_at}
 use Rattle.st_rules.specs.ClientState.{Association}
 use Rattle.st_rules.specs.Disks as disks
 use Rattle.st_rules.specs.FlatLog.{content}
@@ -57,3 +59,10 @@ abbrev pub Reads_lie : Taking → Type 0
 Reads_lie x =
     (a : Association) → Has a (turn_of x).state.associations → (pc : PageCommand) → Has pc a.store.commands → pc.kind ≡ io.Read →
     (at to : BlockAt) → Has (outputs.Submit pc.number at (commands.Read to)) (turn_of x).out → Lies_at x.world a pc to
+
+-- Where the server has a page is what a client that runs knows of it.
+abbrev pub Known_right : World → Type 0
+Known_right w =
+    (c : ℕ) (site : ClientSite) → Running w c site → (a : Association) → Has a site.node.state.associations →
+    Lasts site.node.state.config.lease (clock_of w (nodes.Client (client c))).0 a.session → (ino : ℕ) (p : PageNo) (m : Mapping) →
+    known_at a.store.extents ino p ≡ Some m → (e : Extent) × (mapped_in w (file_at a ino) p ≡ Some e) × (mapping_of e ≡ m)
