@@ -65,6 +65,7 @@ pub record Ends_as (w : World) (x : Taking) (number : ℕ) (result : Option (Opt
   issued : IssuedCommand
   is : numbered w.commands k ≡ Some issued
   its : Is_its x.client x.site.starts number issued
+  runs : x.site.node.running ≡ true
   found : (block : Tag × List ℕ) → result ≡ Some (Some block) → Found_at w k block
 
 abbrev pub Ends_in : World → Taking → ClientInput → Type 0
@@ -128,6 +129,7 @@ ends w (events.Report n ok) x q = go (issued_of w n) refl q
         (record {
           k = n; issued = y; is = i;
           its = record { client = refl; instance_ = sym (eqb-true site.starts y.starts (and_true site.node.running (site.starts == y.starts) b).1); number_is = refl };
+          runs = (and_true site.node.running (site.starts == y.starts) b).0;
           found = λ block f. found_there w n ok block f;
         })
     at y i site false b q = cc q
@@ -142,12 +144,12 @@ ends w (events.Report n ok) x q = go (issued_of w n) refl q
 ends w e x q = cc q
 
 -- What it found is the content.
-module _ (w : World) (sc : Scene) (x : Taking) (tk : Takes (counted w) sc x) (runs : x.site.node.running ≡ true) (starts : tk.old.starts ≡ x.site.starts) (fit : (a : Association) → Has a x.site.node.state.associations → Fit a) (reads : Reads_hold w w.log) (knows : Known_right w) where
+module _ (w : World) (sc : Scene) (x : Taking) (tk : Takes (counted w) sc x) (starts : tk.old.starts ≡ x.site.starts) (fit : (a : Association) → Has a x.site.node.state.associations → Fit a) (reads : Reads_hold w w.log) (knows : Known_right w) where
   abbrev c : ℕ
   c = x.client.0
 
-  old_run : Running w c tk.old
-  old_run = record { there = tk.there; runs = ap (λ (n : cl.ClientNode). n.running) tk.same ∙ runs }
+  old_run : x.site.node.running ≡ true → Running w c tk.old
+  old_run runs = record { there = tk.there; runs = ap (λ (n : cl.ClientNode). n.running) tk.same ∙ runs }
 
   -- an association with an outstanding command behind the losses was there before them, under a lease that lasts
   record Was (a : Association) : Type 0 where
@@ -193,10 +195,10 @@ module _ (w : World) (sc : Scene) (x : Taking) (tk : Takes (counted w) sc x) (ru
           its = record { client = end.its.client; instance_ = end.its.instance_ ∙ sym starts; number_is = end.its.number_is ∙ sym (eqb-true pc.number number z.0) }
 
           stands : Read_right w w.log a pc at.command
-          stands = reads.right c tk.old old_run a b.here b.lasts pc z.1 r end.k end.issued at.command end.is its at.there
+          stands = reads.right c tk.old (old_run end.runs) a b.here b.lasts pc z.1 r end.k end.issued at.command end.is its at.there
 
           mapped : pages.is_mapped a.store.extents pc.ino pc.page ≡ true
-          mapped = (reads.clean c tk.old old_run a b.here pc z.1 r).1
+          mapped = (reads.clean c tk.old (old_run end.runs) a b.here pc z.1 r).1
 
           false_true : false ≡ true → ⊥
           false_true q = cc
@@ -204,7 +206,7 @@ module _ (w : World) (sc : Scene) (x : Taking) (tk : Takes (counted w) sc x) (ru
           go : (o : Option Mapping) → pages.mapping_of a.store.extents pc.ino pc.page ≡ o → pages.found a.store.extents (file_at a pc.ino) pc.page block.0 block.1 ≡ content x.world.log (file_at a pc.ino) pc.page
           go None q = absurd (false_true (sym (ap is_some q) ∙ mapped))
           go (Some m) q =
-              let k = knows c tk.old old_run a b.here b.lasts pc.ino pc.page m q in
+              let k = knows c tk.old (old_run end.runs) a b.here b.lasts pc.ino pc.page m q in
               let e = some_is (sym stands.is ∙ k.1) in
               ap (pages.found_at (file_at a pc.ino) pc.page block.0 block.1) q
               ∙ ap (pages.found_under (file_at a pc.ino) pc.page block.0 block.1) (sym k.2 ∙ ap mapping_of (sym e))

@@ -8,3 +8,4 @@ pub mod Contents
 pub mod Client
 pub mod Others
 pub mod Ending
+pub mod Run

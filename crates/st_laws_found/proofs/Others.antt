@@ -135,7 +135,7 @@ module _ (asks : ℕ → ℕ → Option Ask) (w : World) (copies : CopiesHold as
       Fits_page v es (file_at a pc.ino) pc.page
 
   -- a read that samples its block now
-  record Sampled_now (n : ℕ) (d : DiskCommand) : Type 0 where
+  pub record Sampled_now (n : ℕ) (d : DiskCommand) : Type 0 where
     command : DiskCommand
     is : disks.command_at w.disks.commands n ≡ Some command
     at : BlockAt
@@ -143,7 +143,7 @@ module _ (asks : ℕ → ℕ → Option Ask) (w : World) (copies : CopiesHold as
     what : d.what ≡ command.what
     sample : d.sample ≡ Some (block_in w at)
 
-  abbrev Commands_on : World → Type 0
+  abbrev pub Commands_on : World → Type 0
   Commands_on v = (n : ℕ) (d : DiskCommand) → disks.command_at v.disks.commands n ≡ Some d → Was_command w.disks n d ⊎ Sampled_now n d
 
   same_commands : (v : World) → v.disks ≡ w.disks → Commands_on v
@@ -198,7 +198,7 @@ module _ (asks : ℕ → ℕ → Option Ask) (w : World) (copies : CopiesHold as
               }
 
   -- the clocks, servers and log are as they were
-  quiet : (v : World) → v.clients ≡ w.clients → v.clocks ≡ w.clocks → v.commands ≡ w.commands → Commands_on v → v.servers ≡ w.servers → v.log ≡ w.log → Reads_hold v v.log
+  pub quiet : (v : World) → v.clients ≡ w.clients → v.clocks ≡ w.clocks → v.commands ≡ w.commands → Commands_on v → v.servers ≡ w.servers → v.log ≡ w.log → Reads_hold v v.log
   quiet v cs ts xs on ss ls =
       moved v v.log (same_clients v cs) (λ c. subst (λ z. (clock_in w.clocks (client c)).0 ≤ (clock_in z (client c)).0) (sym ts) (omega arith)) xs on
       (λ c site run a i l pc m r. record { mapped = λ e z. ap (λ ns. mapped_at (file_at a pc.ino) pc.page (numbered ns a.server.0)) ss ∙ z; same = ap (λ l. content l (file_at a pc.ino) pc.page) ls })
