@@ -23,7 +23,7 @@ use Rattle.st_rules.specs.ClientPages.{Store}
 use Rattle.st_rules.specs.ClientPasses as cp
 use Rattle.st_rules.specs.ClientState.{ClientSession, Turn, with_session, with_store, with_operations, is_serving, wait_of, file_of, send}
 use Rattle.st_laws_pages.specs.Client.{map_in, Asks, Goes_on}
-use Rattle.st_laws_found.proofs.Rules.{Change, Says, Operates, Follows, Forgets, Changes, Still}
+use Rattle.st_laws_found.proofs.Rules.{Says, Operates, Follows, Forgets, Changes, Still}
 use Rattle.st_lemmas.proofs.Lookups.{or_false}
 use Rattle.st_laws_found.proofs.Rules.{one, both, if_changes}
 use Rattle.st_laws_found.proofs.Working.{c_operations, c_reductions, c_writes, c_greeting}

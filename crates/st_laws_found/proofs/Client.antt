@@ -1,8 +1,7 @@
 -- Outstanding reads where a client that runs takes an input.
-use Rattle.std.proofs.Common.{◌≡◌, ◌≢◌, ℕ, ◌+◌, ◌<◌, ◌≤◌, ◌⊎◌, Bool, true, false, ◌&&◌, ◌==◌, not, List, [], ◌∷◌, ◌++◌, Option, Some, None, Ok, Err, refl, sym, ap, ◌∙◌, subst, inl, inr, arith, if◌then◌else◌}
+use Rattle.std.proofs.Common.{◌≡◌, ◌≢◌, ℕ, ◌≤◌, ◌⊎◌, true, false, ◌&&◌, ◌==◌, not, List, [], ◌∷◌, ◌++◌, Option, Some, None, Ok, Err, refl, sym, ap, ◌∙◌, subst, inl, inr, arith, if◌then◌else◌}
 use Rattle.std.specs.Prelude.{length, map}
-use Rattle.std.proofs.lemmas.Bool.{eq-eqb, eqb-true, leb-false, ne_eqb}
-use Rattle.st_base.specs.declared.disk.BlockAt.{BlockAt}
+use Rattle.std.proofs.lemmas.Bool.{eq-eqb, eqb-true, leb-false}
 use Rattle.st_base.specs.declared.disk.Command.{Command}
 use Rattle.st_base.specs.declared.disk.Command.TheVariants as commands
 use Rattle.st_base.specs.declared.ids.ClientId.{ClientId}
@@ -30,7 +29,7 @@ use Rattle.st_rules.specs.Disks as disks
 use Rattle.st_rules.specs.Disks.{Disks}
 use Rattle.st_rules.specs.Events as ev
 use Rattle.st_rules.specs.Events.{Scene, client_says_all, counted, world_step}
-use Rattle.st_rules.specs.FlatLog.{content, is_of_client, touches}
+use Rattle.st_rules.specs.FlatLog.{content, touches}
 use Rattle.st_rules.specs.Keys.{client, same_file, same_page}
 use Rattle.st_rules.specs.Safety.{Step}
 use Rattle.st_rules.specs.World as world
@@ -42,7 +41,7 @@ use Rattle.st_lemmas.proofs.Numbers.{numbered_below, numbered_has, numbered_othe
 use Rattle.st_lemmas.proofs.Tables.{and_both, and_true, same_or_not, some_passes}
 use Rattle.st_views.specs.Halves.{held_in}
 use Rattle.st_laws_client.specs.Shown.{Lasts}
-use Rattle.st_laws_pages.specs.Flush.{FlushHold, Is_its, file_at}
+use Rattle.st_laws_pages.specs.Flush.{Is_its, file_at}
 use Rattle.st_laws_pages.specs.Lives.{LivesHold, Once, clock_in, server_number}
 use Rattle.st_laws_pages.specs.Losses.{Fit, is_ended}
 use Rattle.st_laws_pages.specs.World.{mapped_at, mapped_in}
@@ -52,7 +51,7 @@ use Rattle.st_laws_pages.proofs.Turning.{says_lives}
 use Rattle.st_laws_causes.proofs.FlushSteps.{Both_hold}
 use Rattle.st_laws.specs.World.{AllStand}
 use Rattle.st_laws_copies.specs.Law.{Stands_at}
-use Rattle.st_laws_copies.specs.World.{All_own, Own_entry, Taking, Unheld, World_keeps, now_at, taken, turn_of}
+use Rattle.st_laws_copies.specs.World.{All_own, Own_entry, Taking, Unheld, World_keeps, taken, turn_of}
 use Rattle.st_laws_reads.specs.Law.{Running}
 use Rattle.st_laws_reads.specs.World.{CopiesHold, Taking_owed}
 use Rattle.st_laws_reads.proofs.Alone.{law, while_at}
@@ -61,7 +60,7 @@ use Rattle.st_laws_writes.proofs.Joining.{Is_new, all_say, flushes_disks}
 use Rattle.st_laws_living.proofs.Growing.{grows_all}
 use Rattle.st_laws_submits.proofs.Taking.{Taken_in, Was_command}
 use Rattle.st_laws_found.specs.Found.{Reads_clean}
-use Rattle.st_laws_found.specs.Reads.{Each_right, Lies_at, Read_right, Reads_hold, Reads_lie}
+use Rattle.st_laws_found.specs.Reads.{Each_right, Read_right, Reads_hold, Reads_lie}
 use Rattle.st_laws_found.proofs.Contents.{content_others, content_said}
 use Rattle.st_laws_found.proofs.Step.{Read_stays, all_behind, reads_behind}
 
@@ -151,8 +150,7 @@ module _ (asks : ℕ → ℕ → Option Ask) (k : Config) (count : ℕ) (past mo
   from : (j : ℕ) (y : IssuedCommand) (d : DiskCommand) → numbered sc.world.commands j ≡ Some y → disks.command_at sc.world.disks.commands j ≡ Some d →
       ((numbered W.commands j ≡ Some y) × (disks.command_at W.disks.commands j ≡ Some d)) ⊎ Is_new (client c) M (length W.servers) T.out y d
   from j y d i h =
-      all_say (client c) x.site.node.state M (length W.servers) T.out S (record { own = own; counts = counts; servers = refl }) j y d
-      (
+      all_say (client c) x.site.node.state M (length W.servers) T.out S (record { own = own; counts = counts; servers = refl }) j y d (
         ap (λ xs. numbered xs j) (sym (ap (λ (z : World). z.commands) goes ∙ (flush_parts (client c) T.node.state (world.all_servers U) U).commands)) ∙ i,
         ap (λ (z : Disks). disks.command_at z.commands j) (sym (ap (λ (z : World). z.disks) goes ∙ flushes_disks (client c) T.node.state (world.all_servers U) U)) ∙ h,
       )
@@ -274,7 +272,7 @@ module _ (asks : ℕ → ℕ → Option Ask) (k : Config) (count : ℕ) (past mo
             let f = and_true (same_file z.of.file (file_at a pc.ino)) _ t in
             let g = and_true (Rattle.st_rules.specs.Keys.same_server z.of.file.server a.server) _ f.0 in
             let u = law (asks c) k count sc.world c d M site o.association z after (λ v. n (sym v)) (record { there = left; runs = runs }) run ((copies_v c M left).runs runs) o.listed
-                (record { logged = subst (λ l. Has z l) (sym joined) (has_behind w.log kept.more z h); pending = o.pending; own = o.own; server = there_at sc.world (turn_of x).state.associations o.association ((copies_v c M left).servers) o.listed }) in
+            (record { logged = subst (λ l. Has z l) (sym joined) (has_behind w.log kept.more z h); pending = o.pending; own = o.own; server = there_at sc.world (turn_of x).state.associations o.association ((copies_v c M left).servers) o.listed }) in
             let v = unheld_at z.of.file site.node.state.config.lease (clock_of sc.world (nodes.Client (client d))).0 site.node.state.associations u a i l (ap (λ v. record { 0 = v }) (eqb-true z.of.file.server.0 a.server.0 g.0)) in
             let e = ap (λ v. (held_in a.session v).mode) (eqb-true z.of.file.ino pc.ino g.1) in
             omega (arith, held, v, e)

@@ -1,5 +1,5 @@
 -- The content of a page through a client's outputs that do not change it, and through entries that do not touch it.
-use Rattle.std.proofs.Common.{◌≡◌, ℕ, Bool, true, false, ◌&&◌, List, [], ◌∷◌, ◌++◌, Option, Some, None, refl, sym, ap, ◌∙◌, subst, inl, inr}
+use Rattle.std.proofs.Common.{◌≡◌, Bool, true, false, ◌&&◌, List, [], ◌∷◌, ◌++◌, Option, Some, None, refl, sym, ap, ◌∙◌, inl, inr}
 use Rattle.st_base.specs.Page.{filled}
 use Rattle.st_base.specs.declared.ids.ClientId.{ClientId}
 use Rattle.st_base.specs.declared.ids.FileId.{FileId}
@@ -21,7 +21,6 @@ use Rattle.st_rules.specs.World.{ClientSite, site_of}
 use Rattle.st_lemmas.specs.Lists.{Has}
 use Rattle.st_lemmas.proofs.Contents.{content_last}
 use Rattle.st_lemmas.proofs.Lookups.{if_false}
-use Rattle.st_laws_pages.specs.Client.{Changes_page}
 use Rattle.st_laws_pages.proofs.Law.{same_place_is}
 use Rattle.st_laws_found.specs.Found.{Unchanged}
 

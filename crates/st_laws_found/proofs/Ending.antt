@@ -1,16 +1,14 @@
 -- The end of a read that was outstanding: what it found is the content of the page.
-use Rattle.std.proofs.Common.{◌≡◌, ◌≢◌, ℕ, zero, suc, ◌⊎◌, Bool, true, false, ◌&&◌, ◌==◌, List, [], ◌∷◌, Option, Some, None, refl, sym, ap, ◌∙◌, subst, inl, inr, arith, if◌then◌else◌}
+use Rattle.std.proofs.Common.{◌≡◌, ℕ, Bool, true, false, ◌==◌, List, [], ◌∷◌, Option, Some, None, refl, sym, ap, ◌∙◌, subst, inl, inr, if◌then◌else◌}
 use Rattle.std.specs.Prelude.{is_some, option_map}
 use Rattle.std.proofs.lemmas.Bool.{eqb-true}
 use Rattle.st_base.specs.declared.disk.Tag.{Tag}
 use Rattle.st_base.specs.declared.ids.ClientId.{ClientId}
 use Rattle.st_base.specs.declared.ids.NodeId.{NodeId}
 use Rattle.st_base.specs.declared.ids.NodeId.TheVariants as nodes
-use Rattle.st_base.specs.declared.ids.PageNo.{PageNo}
 use Rattle.st_base.specs.declared.ids.Stamp.{Stamp}
 use Rattle.st_messages.specs.declared.event.Event.{Event}
 use Rattle.st_messages.specs.declared.event.Event.TheVariants as events
-use Rattle.st_messages.specs.declared.message.Message.{Message}
 use Rattle.st_rules.specs.declared.client.ClientInput.{ClientInput}
 use Rattle.st_rules.specs.declared.client.ClientInput.TheVariants as inputs
 use Rattle.st_rules.specs.declared.client.IoKind.TheVariants as io
@@ -18,10 +16,8 @@ use Rattle.st_rules.specs.declared.client.Mapping.{Mapping}
 use Rattle.st_rules.specs.declared.client.PageCommand.{PageCommand}
 use Rattle.st_rules.specs.declared.disks.Block.{Block}
 use Rattle.st_rules.specs.declared.disks.DiskCommand.{DiskCommand}
-use Rattle.st_rules.specs.declared.extents.Extent.{Extent}
 use Rattle.st_rules.specs.declared.world.IssuedCommand.{IssuedCommand}
 use Rattle.st_rules.specs.declared.world.SentMessage.{SentMessage}
-use Rattle.st_messages.specs.declared.ask.Ask.{Ask}
 use Rattle.st_rules.specs.Client as cl
 use Rattle.st_rules.specs.Client.{losses}
 use Rattle.st_rules.specs.ClientPages as pages
@@ -40,14 +36,13 @@ use Rattle.st_laws_pages.specs.Flush.{Is_its, file_at}
 use Rattle.st_laws_pages.specs.Lives.{clock_in}
 use Rattle.st_laws_pages.specs.Losses.{Fit, is_ended}
 use Rattle.st_laws_pages.specs.Pages.{mapping_of}
-use Rattle.st_laws_pages.specs.World.{mapped_in}
 use Rattle.st_laws_pages.proofs.Flushing.{pair_of}
 use Rattle.st_laws_pages.proofs.Stepping.{Losses_left, Lost_or_not, losses_left}
 use Rattle.st_laws_copies.specs.World.{Taking, asking, hearing, hearing_of, now_at, taken, taking, told_at, told_of}
-use Rattle.st_laws_reads.specs.Left.{All_left, End_left, Left_at, Left_of}
+use Rattle.st_laws_reads.specs.Left.{All_left, End_left, Left_of}
 use Rattle.st_laws_reads.specs.Law.{Running}
 use Rattle.st_laws_reads.proofs.Takings.{Takes}
-use Rattle.st_laws_submits.proofs.Taking.{Was_command, report_open}
+use Rattle.st_laws_submits.proofs.Taking.{report_open}
 use Rattle.st_laws_found.specs.Reads.{Known_right, Read_right, Reads_hold}
 use Rattle.st_laws_found.proofs.Client.{ongoing}
 
@@ -127,7 +122,9 @@ ends w (events.Report n ok) x q = go (issued_of w n) refl q
     at y i site true b q =
         subst (Ends w) (some_is q)
         (record {
-          k = n; issued = y; is = i;
+          k = n;
+          issued = y;
+          is = i;
           its = record { client = refl; instance_ = sym (eqb-true site.starts y.starts (and_true site.node.running (site.starts == y.starts) b).1); number_is = refl };
           runs = (and_true site.node.running (site.starts == y.starts) b).0;
           found = λ block f. found_there w n ok block f;

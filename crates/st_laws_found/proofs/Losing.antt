@@ -1,29 +1,23 @@
 -- A client's losses, its applications' asks and the ends of its commands, as changes.
-use Rattle.std.proofs.Common.{◌≡◌, ℕ, ◌+◌, Bool, true, false, ◌&&◌, ◌||◌, List, [], ◌∷◌, ◌==◌, Option, Some, None, refl, sym, ap, ◌∙◌, subst, if◌then◌else◌}
-use Rattle.std.specs.Prelude.{find, is_some, nat_le, unwrap_or, option_map}
+use Rattle.std.proofs.Common.{◌≡◌, ℕ, Bool, true, false, ◌&&◌, List, [], ◌∷◌, ◌==◌, Option, Some, None, refl, sym, ap, ◌∙◌, subst, if◌then◌else◌}
+use Rattle.std.specs.Prelude.{find, is_some, unwrap_or, option_map}
 use Rattle.std.proofs.lemmas.Bool.{eqb-true, eq-eqb}
-use Rattle.st_base.specs.declared.config.Config.{Config}
 use Rattle.st_base.specs.declared.disk.Tag.{Tag}
 use Rattle.st_base.specs.declared.ids.ServerId.{ServerId}
 use Rattle.st_base.specs.declared.ids.Stamp.{Stamp}
 use Rattle.st_messages.specs.declared.ask.Ask.{Ask}
 use Rattle.st_messages.specs.declared.ask.Ask.TheVariants as asks
 use Rattle.st_messages.specs.declared.answer.AppAnswer.TheVariants as answers
-use Rattle.st_messages.specs.declared.output.Note.TheVariants as notes
-use Rattle.st_rules.specs.declared.lease.Phase.TheVariants as phases
 use Rattle.st_rules.specs.declared.pages.DirtyPage.{DirtyPage}
 use Rattle.st_rules.specs.declared.client.Ended.TheVariants as ends
 use Rattle.st_rules.specs.declared.client.IoKind.{IoKind}
 use Rattle.st_rules.specs.declared.client.IoKind.TheVariants as io
-use Rattle.st_rules.specs.declared.client.Operation.{Operation}
 use Rattle.st_rules.specs.declared.client.PageCommand.{PageCommand}
-use Rattle.st_rules.specs.Leases as leases
-use Rattle.st_rules.specs.ClientLease as lease
 use Rattle.st_rules.specs.ClientPages as pages
 use Rattle.st_rules.specs.Client as cl
 use Rattle.st_rules.specs.ClientState.{ClientSession, Turn, note, answered, is_of, is_at, is_sent, only_at, server_of, with_operations, with_lost_rows, new_operation}
-use Rattle.st_laws_found.proofs.Rules.{Operates, Caches, Tells_lost, Changes, Still}
-use Rattle.st_laws_pages.specs.Losses.{is_ended, Loses, Lasts, Is_lost, Is_outdated, without, Ends, Unknown, Passes, Hardens, Fails}
+use Rattle.st_laws_found.proofs.Rules.{Caches, Tells_lost, Changes, Still}
+use Rattle.st_laws_pages.specs.Losses.{Is_outdated, without, Ends, Unknown, Passes, Hardens, Fails}
 use Rattle.st_laws_pages.proofs.Clash.{clash}
 use Rattle.st_laws_found.proofs.Rules.{one, both, if_changes, k_keep, k_answer, k_each}
 

@@ -1,6 +1,6 @@
 -- Outstanding reads through each event at which no client takes an input.
-use Rattle.std.proofs.Common.{◌≡◌, ◌≢◌, ℕ, zero, suc, ◌+◌, ◌<◌, ◌≤◌, ◌⊎◌, Bool, true, false, ◌&&◌, ◌==◌, not, List, [], ◌∷◌, ◌++◌, Option, Some, None, Ok, Err, refl, sym, ap, ◌∙◌, subst, inl, inr, arith, if◌then◌else◌}
-use Rattle.std.specs.Prelude.{Result, filter, find, length, map, nat_le, set}
+use Rattle.std.proofs.Common.{◌≡◌, ◌≢◌, ℕ, zero, suc, ◌≤◌, ◌⊎◌, Bool, true, false, ◌&&◌, ◌==◌, List, [], ◌∷◌, Option, Some, None, Ok, Err, refl, sym, ap, ◌∙◌, subst, inl, inr, arith, if◌then◌else◌}
+use Rattle.std.specs.Prelude.{nat_le}
 use Rattle.std.proofs.lemmas.Bool.{eqb-true, leb-true}
 use Rattle.st_base.specs.Page.{filled}
 use Rattle.st_base.specs.declared.disk.BlockAt.{BlockAt}
@@ -21,7 +21,6 @@ use Rattle.st_messages.specs.declared.output.Note.{Note}
 use Rattle.st_messages.specs.declared.output.Note.TheVariants as notes
 use Rattle.st_messages.specs.declared.output.Output.{Output}
 use Rattle.st_messages.specs.declared.output.Output.TheVariants as outputs
-use Rattle.st_rules.specs.declared.client.ClientInput.{ClientInput}
 use Rattle.st_rules.specs.declared.client.ClientInput.TheVariants as inputs
 use Rattle.st_rules.specs.declared.client.IoKind.TheVariants as io
 use Rattle.st_rules.specs.declared.client.PageCommand.{PageCommand}
@@ -31,7 +30,6 @@ use Rattle.st_rules.specs.declared.extents.Extent.{Extent}
 use Rattle.st_rules.specs.declared.input.ServerInput.{ServerInput}
 use Rattle.st_rules.specs.declared.input.ServerInput.TheVariants as serving
 use Rattle.st_rules.specs.declared.log.LogEntry.{LogEntry}
-use Rattle.st_rules.specs.declared.node.StepRefusal.{StepRefusal}
 use Rattle.st_rules.specs.declared.node.StepRefusal.TheVariants.{Crashed}
 use Rattle.st_rules.specs.declared.world.Carried.{Carried}
 use Rattle.st_rules.specs.declared.world.IssuedCommand.{IssuedCommand}
@@ -52,7 +50,6 @@ use Rattle.st_rules.specs.FlatLog.{content, hard_cut, touches}
 use Rattle.st_rules.specs.Keys.{client, same_file, same_page}
 use Rattle.st_rules.specs.Server as server
 use Rattle.st_rules.specs.Server.{ServerNode}
-use Rattle.st_rules.specs.World as world
 use Rattle.st_rules.specs.World.{World, ClientSite, clock_of, issued_of, message_of, node_of, numbered, receiver_of, site_of, with_numbered}
 use Rattle.st_assoc.specs.Assoc.{Config}
 use Rattle.st_lemmas.specs.Lists.{Has}
@@ -60,7 +57,7 @@ use Rattle.st_lemmas.proofs.Contents.{find_stays}
 use Rattle.st_lemmas.proofs.Lookups.{some_is}
 use Rattle.st_lemmas.proofs.Marks.{content_hard}
 use Rattle.st_lemmas.proofs.Numbers.{numbered_below, numbered_other, numbered_own}
-use Rattle.st_lemmas.proofs.Tables.{and_true, find_kept, has_map, same_or_not}
+use Rattle.st_lemmas.proofs.Tables.{and_true, has_map, same_or_not}
 use Rattle.st_views.specs.Halves.{held_in}
 use Rattle.st_laws_client.specs.Shown.{Lasts}
 use Rattle.st_laws_pages.specs.Flush.{Is_its, file_at}
@@ -74,13 +71,13 @@ use Rattle.st_laws_pages.proofs.Folds.{alike_content, alike_drop, alike_settled}
 use Rattle.st_laws_pages.proofs.Lives.{find_front}
 use Rattle.st_laws_pages.proofs.Law.{same_file_is, same_place_is, self_file}
 use Rattle.st_laws_pages.proofs.Moves.{clock_up}
-use Rattle.st_laws_pages.proofs.Walk.{step_id, step_moves}
+use Rattle.st_laws_pages.proofs.Walk.{step_moves}
 use Rattle.st_laws_pages.proofs.World.{at_set}
 use Rattle.st_laws.specs.World.{AllStand}
 use Rattle.st_laws_copies.specs.Copies.{Nothing}
 use Rattle.st_laws_copies.specs.Law.{Stands_at}
 use Rattle.st_laws_copies.specs.World.{asking, hearing, hearing_of, taken, taking, told_at, told_of}
-use Rattle.st_laws_reads.specs.Events.{Cut_free, Cut_free_of, Cuts_free, Elders_alone, Message_free, Others_owed, Receiver_free, Server_free, Turn_free}
+use Rattle.st_laws_reads.specs.Events.{Cut_free, Cuts_free, Elders_alone, Message_free, Others_owed, Receiver_free, Server_free, Turn_free}
 use Rattle.st_laws_reads.specs.Law.{Running}
 use Rattle.st_laws_reads.specs.World.{CopiesHold}
 use Rattle.st_laws_reads.proofs.Alone.{while_at}
@@ -88,7 +85,7 @@ use Rattle.st_laws_reads.proofs.Settled.{law as settled_law}
 use Rattle.st_laws_submits.proofs.Others.{free_at}
 use Rattle.st_laws_submits.proofs.Taking.{Was_command, report_open}
 use Rattle.st_laws_found.specs.Found.{Reads_clean}
-use Rattle.st_laws_found.specs.Reads.{Each_right, Read_right, Reads_hold}
+use Rattle.st_laws_found.specs.Reads.{Read_right, Reads_hold}
 use Rattle.st_laws_found.proofs.Client.{being_read}
 use Rattle.st_laws_found.proofs.Contents.{content_more}
 

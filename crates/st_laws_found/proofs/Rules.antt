@@ -1,7 +1,6 @@
 -- What each change by a rule of a client leaves of outstanding reads, and how changes are put together.
 use Rattle.std.proofs.Common.{◌≡◌, ℕ, ◌+◌, ◌≤◌, ◌<◌, ◌⊎◌, Bool, true, false, ◌&&◌, ◌==◌, not, List, [], ◌∷◌, ◌++◌, Option, Some, None, refl, sym, ap, ◌∙◌, subst, inl, inr, arith, if◌then◌else◌}
-use Rattle.std.specs.Prelude.{filter, find, is_some, map, nat_le}
-use Rattle.std.specs.List.{list_any}
+use Rattle.std.specs.Prelude.{is_some, map, nat_le}
 use Rattle.std.proofs.lemmas.Bool.{eq-eqb, eqb-true}
 use Rattle.st_base.specs.declared.ids.FileId.{FileId}
 use Rattle.st_base.specs.declared.ids.PageNo.{PageNo}
@@ -25,11 +24,10 @@ use Rattle.st_rules.specs.ClientLease as lease
 use Rattle.st_rules.specs.ClientPages as pages
 use Rattle.st_rules.specs.ClientPages.{Store}
 use Rattle.st_rules.specs.ClientPasses as passes
-use Rattle.st_rules.specs.ClientState.{Association, ClientSession, Turn, answer_each, answer_to, answered, is_serving, keep, note, say, with_lost_rows, with_operations, with_session, with_store}
-use Rattle.st_rules.specs.Keys.{put, same_page}
+use Rattle.st_rules.specs.ClientState.{ClientSession, Turn, answer_each, answer_to, answered, is_serving, keep, note, say, with_lost_rows, with_operations, with_session, with_store}
+use Rattle.st_rules.specs.Keys.{same_page}
 use Rattle.st_lemmas.specs.Lists.{Has}
 use Rattle.st_lemmas.proofs.Contents.{Place_is, find_stays, one_place, other_place}
-use Rattle.st_lemmas.proofs.Lookups.{or_false}
 use Rattle.st_lemmas.proofs.Puts.{find_put_by, find_put_other}
 use Rattle.st_lemmas.proofs.Tables.{and_both, and_true, has_append, has_filter, not_true, some_passes}
 use Rattle.st_laws_pages.specs.Client.{Changes_page, Goes_on, Plain, Unasked, with_greeted}

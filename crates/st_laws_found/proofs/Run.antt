@@ -1,5 +1,5 @@
 -- What outstanding reads find, throughout a run.
-use Rattle.std.proofs.Common.{◌≡◌, ℕ, zero, suc, ◌+◌, Bool, true, false, List, [], ◌∷◌, ◌++◌, Option, Some, None, Ok, Err, refl, sym, ap, ◌∙◌, subst, inl, inr, arith, if◌then◌else◌}
+use Rattle.std.proofs.Common.{◌≡◌, ℕ, ◌+◌, Bool, true, false, List, [], ◌∷◌, ◌++◌, Option, Some, None, Ok, Err, refl, sym, ap, ◌∙◌, subst, inl, if◌then◌else◌}
 use Rattle.std.specs.Prelude.{Result, length}
 use Rattle.std.specs.List.{list_all}
 use Rattle.st_base.specs.declared.config.Config as base
@@ -7,7 +7,6 @@ use Rattle.st_base.specs.declared.ids.NodeId.TheVariants as nodes
 use Rattle.st_messages.specs.declared.event.Event.{Event}
 use Rattle.st_rules.specs.declared.client.ClientInput.{ClientInput}
 use Rattle.st_rules.specs.declared.client.ClientInput.TheVariants as inputs
-use Rattle.st_rules.specs.declared.disks.DiskCommand.{DiskCommand}
 use Rattle.st_rules.specs.declared.node.StepRefusal.TheVariants.{Crashed}
 use Rattle.st_rules.specs.declared.observation.WorldRefusal.{WorldRefusal}
 use Rattle.st_rules.specs.Admissible as adm
@@ -17,7 +16,6 @@ use Rattle.st_rules.specs.Disks as disks
 use Rattle.st_rules.specs.Events as ev
 use Rattle.st_rules.specs.Events.{Scene, counted, happens, world_step}
 use Rattle.st_rules.specs.History.{Traced, traced, traced_after}
-use Rattle.st_rules.specs.Keys.{client}
 use Rattle.st_rules.specs.Safety as safety
 use Rattle.st_rules.specs.Safety.{Promise, ReadsReturnLastWrites, Step, Throughout, is_event, step, steps}
 use Rattle.st_rules.specs.World as world
@@ -27,7 +25,6 @@ use Rattle.st_lemmas.specs.Lists.{Has}
 use Rattle.st_lemmas.proofs.Steps.{step_happens}
 use Rattle.st_lemmas.proofs.Tables.{and_true, has_map}
 use Rattle.st_laws_pages.specs.Losses.{Fit}
-use Rattle.st_laws_pages.specs.World.{PagesHold}
 use Rattle.st_laws_pages.specs.Runs.{Pages_after}
 use Rattle.st_laws_pages.proofs.Steps.{counted_pages}
 use Rattle.st_laws_asks.specs.Law.{Places_after}
@@ -36,15 +33,12 @@ use Rattle.st_laws_causes.proofs.Law.{site_is}
 use Rattle.st_laws_causes.proofs.Placed.{Places_at, places_at}
 use Rattle.st_laws_server.specs.Pair.{terms_of}
 use Rattle.st_laws_copies.specs.World.{Taking, taken}
-use Rattle.st_laws_reads.specs.Events.{Elders_alone, Others_owed}
 use Rattle.st_laws_reads.specs.Law.{Running}
-use Rattle.st_laws_reads.specs.World.{CopiesHold, Taking_owed}
 use Rattle.st_laws_reads.proofs.Reading.{known}
 use Rattle.st_laws_reads.proofs.Runs.{Kept}
 use Rattle.st_laws_reads.proofs.Takings.{Takes, takes_event}
 use Rattle.st_laws_elders.specs.Runs.{Is_left}
 use Rattle.st_laws_elders.proofs.Law.{alone}
-use Rattle.st_laws_submits.specs.Left.{Pages_left}
 use Rattle.st_laws_submits.specs.Rest.{Input_rest, Is_rest, Taken_rest}
 use Rattle.st_laws_submits.proofs.Run as submits
 use Rattle.st_laws_submits.proofs.Run.{Pages_stand, begins, from_rest}
@@ -52,10 +46,9 @@ use Rattle.st_laws_submits.proofs.Taking.{Taken_in, taken_in}
 use Rattle.st_laws_found.specs.Law.{In_runs_placed, Input_maps, Is_placed, Taken_maps, Taken_reads}
 use Rattle.st_laws_found.specs.Reads.{Reads_hold, Reads_lie}
 use Rattle.st_laws_found.proofs.Client as client_step
-use Rattle.st_laws_found.proofs.Ending.{Ends, end_left, ends}
+use Rattle.st_laws_found.proofs.Ending.{end_left, ends}
 use Rattle.st_laws_found.proofs.Others as others
 use Rattle.st_laws_found.proofs.Others.{Reads_settled, reads_settled}
-use Rattle.std.specs.Prelude.{find}
 use Rattle.st_rules.specs.Extents.{numbers}
 
 -- What stands behind the steps of a run.

@@ -1,6 +1,6 @@
 -- Outstanding reads through a whole step of a client.
-use Rattle.std.proofs.Common.{◌≡◌, ℕ, ◌≤◌, ◌⊎◌, Bool, true, false, ◌==◌, not, List, [], ◌∷◌, ◌++◌, Option, Some, None, refl, sym, ap, ◌∙◌, subst, inl, inr, arith, if◌then◌else◌}
-use Rattle.std.specs.Prelude.{filter, find, length, map}
+use Rattle.std.proofs.Common.{◌≡◌, ℕ, ◌≤◌, ◌⊎◌, Bool, true, false, ◌==◌, List, [], ◌∷◌, ◌++◌, Option, Some, None, refl, sym, ap, ◌∙◌, subst, inl, inr, arith, if◌then◌else◌}
+use Rattle.std.specs.Prelude.{filter, find, map}
 use Rattle.st_base.specs.declared.ids.ClientId.{ClientId}
 use Rattle.st_base.specs.declared.ids.FileId.{FileId}
 use Rattle.st_base.specs.declared.ids.PageNo.{PageNo}
@@ -72,13 +72,21 @@ unfolding cl.hardened pages.harden pages.harden_at pages.harden_page pages.fail 
 ends_kept now number ok t _ Unknown = record { low = omega arith; server = refl; more = []; out = empty_out t.out; notes = λ n i f p h. absurd i; reads = λ pc i k. inl (i, λ n j f p h s x y. absurd j); clean = λ h. h }
 ends_kept now number ok t _ (Passes pc e o) =
     record {
-      low = omega arith; server = refl; more = []; out = empty_out t.out; notes = λ n i f p h. absurd i;
+      low = omega arith;
+      server = refl;
+      more = [];
+      out = empty_out t.out;
+      notes = λ n i f p h. absurd i;
       reads = λ c i k. inl ((has_filter _ t.here.store.commands c i).0, λ n j f p h s x y. absurd j);
       clean = λ h c i k. h c (has_filter _ t.here.store.commands c i).0 k;
     }
 ends_kept now number ok t _ (Hardens pc v e o k w) =
     record {
-      low = omega arith; server = refl; more = []; out = empty_out t.out; notes = λ n i f p h. absurd i;
+      low = omega arith;
+      server = refl;
+      more = [];
+      out = empty_out t.out;
+      notes = λ n i f p h. absurd i;
       reads = λ c i k. inl ((has_filter _ t.here.store.commands c i).0, λ n j f p h s x y. absurd j);
       clean = λ h c i k. let z = h c (has_filter _ t.here.store.commands c i).0 k in (gone c.ino c.page (pages.dirty_of t.here.store.pages pc.ino pc.page) z.0, z.1);
     }
@@ -88,7 +96,11 @@ ends_kept now number ok t _ (Hardens pc v e o k w) =
     gone ino p (Some d) z = none_fewer (pages.is_dirty_of ino p) _ t.here.store.pages.dirty z
 ends_kept now number ok t _ (Fails pc v e o k) =
     record {
-      low = omega arith; server = refl; more = []; out = empty_out t.out; notes = λ n i f p h. absurd i;
+      low = omega arith;
+      server = refl;
+      more = [];
+      out = empty_out t.out;
+      notes = λ n i f p h. absurd i;
       reads = λ c i k. inl ((has_filter _ t.here.store.commands c i).0, λ n j f p h s x y. absurd j);
       clean = λ h c i k. let z = h c (has_filter _ t.here.store.commands c i).0 k in (none_failed pc.ino pc.page pc.number c.ino c.page t.here.store.pages.dirty z.0, z.1);
     }
@@ -262,7 +274,9 @@ module _ (c : ClientId) (s : ClientState) (now : Stamp) (input : ClientInput) (f
   answered : (op : ℕ) (a : AppAnswer) → A t → A (cl.answered_at_once t op a)
   answered op a h =
       record {
-        low = h.low; once = h.once; fit = h.fit;
+        low = h.low;
+        once = h.once;
+        fit = h.fit;
         fine = λ b i. let g = h.fine b i in record { clean = g.clean; reads = λ pc j k. more b pc (g.reads pc j k) };
       }
     where
@@ -329,8 +343,13 @@ module _ (c : ClientId) (s : ClientState) (now : Stamp) (input : ClientInput) (f
               by false e =
                   let q = r.lasts e in
                   record {
-                    a = a; among = m; lasted = e; server = r.server ∙ w.0.server; life = ap (λ (z : Association). z.life) q ∙ w.0.life;
-                    command = subst (λ (z : Association). Has pc z.store.commands) (sym q) w.0.command; unchanged = w.1;
+                    a = a;
+                    among = m;
+                    lasted = e;
+                    server = r.server ∙ w.0.server;
+                    life = ap (λ (z : Association). z.life) q ∙ w.0.life;
+                    command = subst (λ (z : Association). Has pc z.store.commands) (sym q) w.0.command;
+                    unchanged = w.1;
                   }
               by true e = absurd (none (subst (λ (st : pages.Store). Has pc st.commands) (r.emptied e) w.0.command))
                 where
