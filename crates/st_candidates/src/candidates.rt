@@ -7,7 +7,7 @@ use st_messages::{Ask, Event};
 use std::alloc::{AllocError, Global};
 
 /// All clocks advance alike.
-#[tactic(auto, unfolding(st_generate::specs::Generator::even_advance))]
+#[tactic(auto, unfolding(st_rules::specs::Generator::even_advance))]
 fn even_advance(draws: &mut Draws, alloc: Global) -> Result<Option<Event>, AllocError>
     ensures { IfOk result (λ e. (e, draws.new) ≡ generator.even_advance draws.old) }
 {
@@ -17,7 +17,7 @@ fn even_advance(draws: &mut Draws, alloc: Global) -> Result<Option<Event>, Alloc
 }
 
 /// Each clock advances by itself.
-#[tactic(auto, unfolding(st_generate::specs::Generator::uneven_advance, st_generate::specs::Generator::state_after))]
+#[tactic(auto, unfolding(st_rules::specs::Generator::uneven_advance, st_rules::specs::Generator::state_after))]
 fn uneven_advance(draws: &mut Draws, alloc: Global) -> Result<Option<Event>, AllocError>
     ensures { IfOk result (λ e. (e, draws.new) ≡ generator.uneven_advance draws.old) }
 {
@@ -30,7 +30,7 @@ fn uneven_advance(draws: &mut Draws, alloc: Global) -> Result<Option<Event>, All
     Ok(Some(Event::Advance(Rows::from_vec(steps))))
 }
 
-#[tactic(auto, unfolding(st_generate::specs::Generator::tick))]
+#[tactic(auto, unfolding(st_rules::specs::Generator::tick))]
 fn tick(draws: &mut Draws) -> Option<Event>
     ensures { (result, draws.new) ≡ generator.tick draws.old }
 {
@@ -38,7 +38,7 @@ fn tick(draws: &mut Draws) -> Option<Event>
 }
 
 /// A client is asked to write a page of one byte.
-#[tactic(auto, unfolding(st_generate::specs::Generator::ask_write, st_generate::specs::Generator::state_after))]
+#[tactic(auto, unfolding(st_rules::specs::Generator::ask_write, st_rules::specs::Generator::state_after))]
 fn ask_write(draws: &mut Draws) -> Option<Event>
     ensures { (result, draws.new) ≡ generator.ask_write draws.old }
 {
@@ -50,7 +50,7 @@ fn ask_write(draws: &mut Draws) -> Option<Event>
     Some(Event::App { client, ask })
 }
 
-#[tactic(auto, unfolding(st_generate::specs::Generator::ask_read, st_generate::specs::Generator::state_after))]
+#[tactic(auto, unfolding(st_rules::specs::Generator::ask_read, st_rules::specs::Generator::state_after))]
 fn ask_read(draws: &mut Draws) -> Option<Event>
     ensures { (result, draws.new) ≡ generator.ask_read draws.old }
 {
@@ -61,7 +61,7 @@ fn ask_read(draws: &mut Draws) -> Option<Event>
     Some(Event::App { client, ask })
 }
 
-#[tactic(auto, unfolding(st_generate::specs::Generator::ask_sync, st_generate::specs::Generator::state_after))]
+#[tactic(auto, unfolding(st_rules::specs::Generator::ask_sync, st_rules::specs::Generator::state_after))]
 fn ask_sync(draws: &mut Draws) -> Option<Event>
     ensures { (result, draws.new) ≡ generator.ask_sync draws.old }
 {
@@ -72,7 +72,7 @@ fn ask_sync(draws: &mut Draws) -> Option<Event>
 }
 
 /// One of the last 12 messages is delivered.
-#[tactic(auto, unfolding(st_generate::specs::Generator::deliver))]
+#[tactic(auto, unfolding(st_rules::specs::Generator::deliver))]
 fn deliver(draws: &mut Draws, sent: u64) -> Option<Event>
     ensures { (result, draws.new) ≡ generator.deliver sent draws.old }
 {
@@ -83,7 +83,7 @@ fn deliver(draws: &mut Draws, sent: u64) -> Option<Event>
 }
 
 /// One of the last 12 messages is lost.
-#[tactic(auto, unfolding(st_generate::specs::Generator::lose))]
+#[tactic(auto, unfolding(st_rules::specs::Generator::lose))]
 fn lose(draws: &mut Draws, sent: u64) -> Option<Event>
     ensures { (result, draws.new) ≡ generator.lose sent draws.old }
 {
@@ -94,7 +94,7 @@ fn lose(draws: &mut Draws, sent: u64) -> Option<Event>
 }
 
 /// One of the last 6 commands has its effect.
-#[tactic(auto, unfolding(st_generate::specs::Generator::effect))]
+#[tactic(auto, unfolding(st_rules::specs::Generator::effect))]
 fn effect(draws: &mut Draws, submitted: u64) -> Option<Event>
     ensures { (result, draws.new) ≡ generator.effect submitted draws.old }
 {
@@ -105,7 +105,7 @@ fn effect(draws: &mut Draws, submitted: u64) -> Option<Event>
 }
 
 /// One of the last 6 commands is reported as a success.
-#[tactic(auto, unfolding(st_generate::specs::Generator::report_success))]
+#[tactic(auto, unfolding(st_rules::specs::Generator::report_success))]
 fn report_success(draws: &mut Draws, submitted: u64) -> Option<Event>
     ensures { (result, draws.new) ≡ generator.report_success submitted draws.old }
 {
@@ -116,7 +116,7 @@ fn report_success(draws: &mut Draws, submitted: u64) -> Option<Event>
 }
 
 /// One report in eight is of a failure.
-#[tactic(auto, unfolding(st_generate::specs::Generator::outcome))]
+#[tactic(auto, unfolding(st_rules::specs::Generator::outcome))]
 fn outcome(draws: &mut Draws, command: Option<u64>) -> Option<Event>
     ensures { (result, draws.new) ≡ generator.outcome command draws.old }
 {
@@ -130,7 +130,7 @@ fn outcome(draws: &mut Draws, command: Option<u64>) -> Option<Event>
 }
 
 /// One of the last 6 commands is reported.
-#[tactic(auto, unfolding(st_generate::specs::Generator::report))]
+#[tactic(auto, unfolding(st_rules::specs::Generator::report))]
 fn report(draws: &mut Draws, submitted: u64) -> Option<Event>
     ensures { (result, draws.new) ≡ generator.report submitted draws.old }
 {
@@ -139,7 +139,7 @@ fn report(draws: &mut Draws, submitted: u64) -> Option<Event>
 }
 
 /// A direction is cut.
-#[tactic(auto, unfolding(st_generate::specs::Generator::cut, st_generate::specs::Generator::state_after))]
+#[tactic(auto, unfolding(st_rules::specs::Generator::cut, st_rules::specs::Generator::state_after))]
 fn cut(draws: &mut Draws) -> Option<Event>
     ensures { (result, draws.new) ≡ generator.cut draws.old }
 {
@@ -149,7 +149,7 @@ fn cut(draws: &mut Draws) -> Option<Event>
 }
 
 /// A direction is healed.
-#[tactic(auto, unfolding(st_generate::specs::Generator::heal, st_generate::specs::Generator::state_after))]
+#[tactic(auto, unfolding(st_rules::specs::Generator::heal, st_rules::specs::Generator::state_after))]
 fn heal(draws: &mut Draws) -> Option<Event>
     ensures { (result, draws.new) ≡ generator.heal draws.old }
 {
@@ -159,7 +159,7 @@ fn heal(draws: &mut Draws) -> Option<Event>
 }
 
 /// A loss, a cut or a heal.
-#[tactic(auto, unfolding(st_generate::specs::Generator::network))]
+#[tactic(auto, unfolding(st_rules::specs::Generator::network))]
 fn network(draws: &mut Draws, sent: u64) -> Option<Event>
     ensures { (result, draws.new) ≡ generator.network sent draws.old }
 {
@@ -173,14 +173,14 @@ fn network(draws: &mut Draws, sent: u64) -> Option<Event>
     }
 }
 
-#[tactic(auto, unfolding(st_generate::specs::Generator::crash))]
+#[tactic(auto, unfolding(st_rules::specs::Generator::crash))]
 fn crash(draws: &mut Draws) -> Option<Event>
     ensures { (result, draws.new) ≡ generator.crash draws.old }
 {
     Some(Event::Crash(draws.node()))
 }
 
-#[tactic(auto, unfolding(st_generate::specs::Generator::start))]
+#[tactic(auto, unfolding(st_rules::specs::Generator::start))]
 fn start(draws: &mut Draws) -> Option<Event>
     ensures { (result, draws.new) ≡ generator.start draws.old }
 {
@@ -188,7 +188,7 @@ fn start(draws: &mut Draws) -> Option<Event>
 }
 
 /// A crash, a start or a tick.
-#[tactic(auto, unfolding(st_generate::specs::Generator::crash_or_start))]
+#[tactic(auto, unfolding(st_rules::specs::Generator::crash_or_start))]
 fn crash_or_start(draws: &mut Draws) -> Option<Event>
     ensures { (result, draws.new) ≡ generator.crash_or_start draws.old }
 {
@@ -203,7 +203,7 @@ fn crash_or_start(draws: &mut Draws) -> Option<Event>
 }
 
 /// The candidate of a kind below 16.
-#[tactic(auto, unfolding(st_generate::specs::Generator::candidate_of))]
+#[tactic(auto, unfolding(st_rules::specs::Generator::candidate_of))]
 fn candidate_of(
     draws: &mut Draws,
     alloc: Global,
@@ -242,7 +242,7 @@ fn candidate_of(
 
 /// Draws a candidate for an event, where `sent` messages were sent and `submitted` commands submitted. There may be none. Only an
 /// advance takes memory.
-#[tactic(auto, unfolding(st_generate::specs::Generator::candidate))]
+#[tactic(auto, unfolding(st_rules::specs::Generator::candidate))]
 pub fn candidate(
     draws: &mut Draws,
     alloc: Global,

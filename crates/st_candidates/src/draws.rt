@@ -39,7 +39,7 @@ impl Draws {
     }
 
     /// The next state.
-    #[tactic(auto, unfolding(st_generate::specs::Generator::next))]
+    #[tactic(auto, unfolding(st_rules::specs::Generator::next))]
     fn step(&mut self)
         ensures { self.new ≡ generator.next self.old }
     {
@@ -50,7 +50,7 @@ impl Draws {
     }
 
     /// The number below `bound` that the state gives.
-    #[tactic(auto, unfolding(st_generate::specs::Generator::below))]
+    #[tactic(auto, unfolding(st_rules::specs::Generator::below))]
     fn below(&self, bound: u64) -> u64
         requires { 0 < bound }
         ensures value { result ≡ generator.below bound self.now }
@@ -60,7 +60,7 @@ impl Draws {
     }
 
     /// The next number, below `bound`.
-    #[tactic(auto, unfolding(st_generate::specs::Generator::state_after))]
+    #[tactic(auto, unfolding(st_rules::specs::Generator::state_after))]
     pub fn draw(&mut self, bound: u64) -> u64
         requires { 0 < bound }
         ensures value { result ≡ generator.draw 1 bound self.old }
@@ -88,7 +88,7 @@ impl Draws {
     }
 
     /// A file of one of two servers, one of eight.
-    #[tactic(auto, unfolding(st_generate::specs::Generator::state_after))]
+    #[tactic(auto, unfolding(st_rules::specs::Generator::state_after))]
     pub fn file(&mut self) -> FileId
         ensures value { result ≡ generator.file 1 self.old }
         ensures state { self.new ≡ generator.state_after 2 self.old }
@@ -123,7 +123,7 @@ impl Draws {
     }
 
     /// The number of one of the `last` last ones of `count`, from 1. Where there is none, nothing is drawn.
-    #[tactic(auto, unfolding(st_generate::specs::Generator::recent))]
+    #[tactic(auto, unfolding(st_rules::specs::Generator::recent))]
     pub fn recent(&mut self, count: u64, last: u64) -> Option<u64>
         requires { 0 < last }
         ensures { (result, self.new) ≡ generator.recent count last self.old }

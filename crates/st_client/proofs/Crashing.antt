@@ -29,7 +29,6 @@ crashed_again [] ls = refl
 crashed_again (s ∷ ss) [] = refl
 crashed_again (s ∷ ss) (l ∷ ls) = ap (λ ys. association_of l s ∷ ys) (crashed_again ss ls)
 
-
 pub lives_there : (ss : List ServerId) (ls : List Life) → length ls ≡ length ss → map life_of_association (crashed_at ss ls) ≡ ls
 lives_there [] [] e = refl
 lives_there [] (l ∷ ls) e = cc

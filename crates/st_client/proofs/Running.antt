@@ -156,7 +156,7 @@ far : (m : ℕ) → is_server (record { 0 = suc (suc (suc (suc (suc m)))) }) ≡
 far m = and_right _ _ (lt-leb (suc (suc (suc (suc (suc m))))) 4 (omega arith))
 
 module _ (c : ClientState) (a b d e : Option Stamp) (k : list_all is_server (map server_at c.associations) ≡ true) (f : a ≡ lease_end_with c (record { 0 = 1 }))
-  (g : b ≡ lease_end_with c (record { 0 = 2 })) (h : d ≡ lease_end_with c (record { 0 = 3 })) (i : e ≡ lease_end_with c (record { 0 = 4 })) where
+    (g : b ≡ lease_end_with c (record { 0 = 2 })) (h : d ≡ lease_end_with c (record { 0 = 3 })) (i : e ≡ lease_end_with c (record { 0 = 4 })) where
   end_at_each : (n : ℕ) → end_in (record { ends = a ∷ b ∷ d ∷ e ∷ [] }) (record { 0 = n }) ≡ lease_end_with c (record { 0 = n })
   end_at_each zero = no_end_at c (record { 0 = 0 }) refl k
   end_at_each (suc zero) = f

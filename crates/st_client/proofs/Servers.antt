@@ -31,11 +31,12 @@ module _ (rule : Turn → Turn) (grows : (t : Turn) → Advances t (rule t)) whe
   these_keep (a ∷ xs) t =
       let r = rule (enter t a) in
       let i = these_keep xs (leave t r) in
-      let same : r.here.server ≡ a.server = (grows (enter t a)).2 in
-      (i.0 ∙ ap (λ ys. ys ++ map server_at xs) (map-append server_at t.state.associations (r.here ∷ []) ∙ ap (λ s. map server_at t.state.associations ++ s ∷ []) same)
-          ∙ append_assoc (map server_at t.state.associations) (a.server ∷ []) (map server_at xs),
+      let same : r.here.server ≡ a.server = (grows (enter t a)).2 in (
+        i.0 ∙ ap (λ ys. ys ++ map server_at xs) (map-append server_at t.state.associations (r.here ∷ []) ∙ ap (λ s. map server_at t.state.associations ++ s ∷ []) same)
+            ∙ append_assoc (map server_at t.state.associations) (a.server ∷ []) (map server_at xs),
         i.1,
-        i.2)
+        i.2,
+      )
 
   each_keeps : (t : ClientTurn) → IsKept t.state (at_each rule t).state
   unfolding at_each

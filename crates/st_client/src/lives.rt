@@ -27,9 +27,7 @@ pub(crate) fn life_among(servers: &[ServerId], lives: &[Life], server: ServerId)
 pub(crate) fn are_low(lives: &[Life]) -> bool
     ensures { result ≡ list_all is_low lives.now }
 {
-    lives
-        .iter()
-        .all(|life| life.0 < 4_611_686_018_427_387_904)
+    lives.iter().all(|life| life.0 < 4_611_686_018_427_387_904)
 }
 
 /// Adds the lives of a client that is crashed: no lease is held.

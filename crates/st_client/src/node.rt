@@ -154,7 +154,12 @@ impl ClientNode {
     {
         match &self.state {
             Some(state) => state.push_lives(found),
-            None => push_crashed(self.id, self.servers.as_slice(), self.lives.as_slice(), found),
+            None => push_crashed(
+                self.id,
+                self.servers.as_slice(),
+                self.lives.as_slice(),
+                found,
+            ),
         }
     }
 

@@ -75,11 +75,7 @@ impl State {
     }
 
     /// A step: what it leaves, and its outputs.
-    pub(crate) fn step(
-        self,
-        now: Stamp,
-        input: ClientInput,
-    ) -> Result<(State, Outputs), AllocError>
+    pub(crate) fn step(self, now: Stamp, input: ClientInput) -> Result<(State, Outputs), AllocError>
         requires time { now.0 ≤ 2 ^ 62 }
         requires fits { comes_fit input ≡ true }
         requires room { HasRoom self }

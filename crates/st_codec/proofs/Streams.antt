@@ -311,7 +311,7 @@ gives_frame m after s framed open_ e =
     let read : decoded (take (length (spelling m)) (drop 4 s.rest)) ≡ Ok m = ap decoded text ∙ decoded_again (spelling m) m (record { text = refl; ranges = framed.ranges }) in
     let step : next s ≡ next_whole s (length (spelling m)) = next_open s open_ ∙ ap (next_at s) begins in
     let rest : drop (4 + length (spelling m)) s.rest ≡ after =
-    ap (drop (4 + length (spelling m))) e ∙ drop_at (message_frame m) after (4 + length (spelling m)) (sym (frame_size (spelling m))) in
+    ap (drop (4 + length (spelling m))) e ∙ drop_at (message_frame m) after (4 + length (spelling m)) (frame_size (spelling m)) in
     step ∙ ap (next_read s (length (spelling m))) read
     ∙ ap (λ (w : List ℕ). (record { offset = (behind s (length (spelling m))).offset; rest = w; refusal = None }, Some (answered m))) rest
 

@@ -16,7 +16,7 @@ use Rattle.st_rules.specs.Events.{Scene, world_step}
 use Rattle.st_rules.specs.Extents.{numbers}
 use Rattle.st_rules.specs.History.{Traced, traced, traced_after}
 use Rattle.st_rules.specs.Keys.{client}
-use Rattle.st_rules.specs.Safety.{Step, is_event, step}
+use Rattle.st_rules.specs.Safety.{IsHead, Step, is_event, step}
 use Rattle.st_rules.specs.World.{World, ClientSite, clock_of, fresh_world, numbered, site_of}
 use Rattle.st_assoc.specs.Assoc.{Config, In, Msg}
 use Rattle.st_assoc.specs.Assoc as net
@@ -54,13 +54,17 @@ use Rattle.st_laws_cutters.proofs.Requesting.{remove_more}
 use Rattle.st_laws_cutters.proofs.Seen.{cuts_known}
 use Rattle.st_laws_cutters.proofs.Standing.{given_held}
 use Rattle.st_laws_cutters.proofs.World.{stand_again}
+use Rattle.st_laws_cutters.proofs.Going.{event_goes}
+use Rattle.st_laws_cutters.specs.Former.{Goes_between}
+use Rattle.st_laws_cutters.specs.Fresh.{Fresh_are_outstanding}
+use Rattle.st_laws_cutters.proofs.Fresh.{outstanding}
 
 -- What stands behind every event.
-record Hold (k : Config) (count : ℕ) (past : List Step) (t : Traced) : Type 0 where
-  cuts : Cuts_hold past t
-  replies : Replies_hold past t
-  all : AllStand k count t.world
-  asks : All_ask (gifts k count t.world all) t.world
+pub record Hold (k : Config) (count : ℕ) (past : List Step) (t : Traced) : Type 0 where
+  pub cuts : Cuts_hold past t
+  pub replies : Replies_hold past t
+  pub all : AllStand k count t.world
+  pub asks : All_ask (gifts k count t.world all) t.world
 
 -- Messages of the machine stay.
 path_grows : (k : Config) {u v : net.World} → Path k u v → (c : ℕ) (m : Msg) → In m (u.at c).net → In m (v.at c).net
@@ -73,7 +77,7 @@ path_grows k (Stepped_on {u} {v} {w} p s) c m h = go (s.each c) (path_grows k p 
 path_grows k (Worked_on p s) c m h = moves_grow (s.each c) m (path_grows k p c m h)
 
 -- What was given stays given.
-gifts_stay : (k : Config) (count : ℕ) (w v : World) (all : AllStand k count w) (f : Followed k count w all v) (c : ClientId) (s : ServerId) (ino : ℕ) (g : GrantNo) → gifts k count w all c s ino g → gifts k count v f.after c s ino g
+pub gifts_stay : (k : Config) (count : ℕ) (w v : World) (all : AllStand k count w) (f : Followed k count w all v) (c : ClientId) (s : ServerId) (ino : ℕ) (g : GrantNo) → gifts k count w all c s ino g → gifts k count v f.after c s ino g
 gifts_stay k count w v all f c s ino g h next at =
     let o : Came_from k count w all v s.0 next (f.after.servers s.0 next at) = f.came s.0 next at in
     given_more ((all.servers s.0 o.node o.before).ghosts c.0).net ((f.after.servers s.0 next at).ghosts c.0).net (path_grows k o.path c.0) ino g.0 (h o.node o.before)
@@ -115,10 +119,10 @@ stands_given : (k : Config) (count : ℕ) (w : World) (all : AllStand k count w)
 stands_given k count w all h c site there a i = asks_held (Is_served w c) (gifts k count w all c) a.server a.life.0 a.session (λ x e. held_given k count w all c site there a i x e) (h c site there a i)
 
 module _ (k : Config) (count : ℕ) (past : List Step) (t : Traced) (e : Event) (sc : Scene) (ranges : is_event count e ≡ true) (h : Hold k count past t) (taken : world_step t.world e ≡ Ok sc) where
-  followed : Followed k count t.world h.all sc.world
+  pub followed : Followed k count t.world h.all sc.world
   followed = follows k count t.world e sc h.all (full count t.world e h.all.nodes ranges) taken
 
-  owed : Rattle.st_laws_askers.specs.Reached.New_owed (ev.counted t.world) e
+  pub owed : Rattle.st_laws_askers.specs.Reached.New_owed (ev.counted t.world) e
   owed = new_owed k count t.world h.all e (step_happens t.world e sc taken).0
 
   G : Gifts
@@ -136,6 +140,11 @@ module _ (k : Config) (count : ℕ) (past : List Step) (t : Traced) (e : Event) 
         asks = stands_given k count sc.world followed.after (stand_again past t h.cuts h.replies (gifts k count sc.world followed.after) before e sc owed taken);
       }
 
+  -- what stands behind the step, with what was followed
+  pub same_all : (one_hold : Hold k count (past ++ step t e sc ∷ []) (traced_after e t sc)) × (one_hold.all ≡ followed.after)
+  unfolding followed next
+  same_all = (next, refl)
+
   asked : (index : ℕ) (f : FileId) (p : PageNo) → Has (seen.CutAt index f p) sc.seen → Cut_asked sc.world f p
   asked index f p i d site a run j e2 lasts alone held =
       is_asked k count past t h.cuts h.all h.asks f p (record { node = known.0.node; there = known.0.there; running = known.0.running; message = known.0.message; among = known.0.among; by = known.0.by }) d site (record { there = ap (λ xs. numbered xs (client d).0) (sym known.1.clients) ∙ run.there; runs = run.runs }) a j e2
@@ -147,7 +156,7 @@ module _ (k : Config) (count : ℕ) (past : List Step) (t : Traced) (e : Event) 
       clock : (clock_of sc.world (nodes.Client (client d))).0 ≡ (clock_of t.world (nodes.Client (client d))).0
       clock = ap (λ ts. (clock_in ts (client d)).0) known.1.clocks
 
-  one : Cuts_are_asked past (step t e sc) × Hold k count (past ++ step t e sc ∷ []) (traced_after e t sc)
+  pub one : Cuts_are_asked past (step t e sc) × Hold k count (past ++ step t e sc ∷ []) (traced_after e t sc)
   one = (asked, next)
 
 -- The start.
@@ -160,14 +169,31 @@ fresh_asks k clients servers disks blocks form G c site e =
     subst (λ (s : ClientSite). (a : Association) → Has a s.node.state.associations → Of (Asks_stand (Is_served (fresh_world k clients servers disks blocks form) c) (G c)) a.server a.life.0 a.session) (sym (site_is k clients servers c.0 site e).0)
     (λ a i. let z = has_map cl.fresh_association (numbers 1 servers) a i in empty _ (G c) a (ap (λ (y : Association). y.session) z.2))
 
-pub law : In_every_run Cuts_are_asked
+pub first : (k : base.Config) (clients servers disks blocks form : ℕ) → IsHead k clients servers disks blocks form → Hold (terms_of k) (clients + servers) [] (traced (fresh_world k clients servers disks blocks form))
 unfolding fresh_world
-law k clients servers disks blocks form es head events =
-    throughout_events (clients + servers) Cuts_are_asked (Hold (terms_of k) (clients + servers)) (λ past t e sc r h taken. one (terms_of k) (clients + servers) past t e sc r h taken) es events []
-    (traced (fresh_world k clients servers disks blocks form))
-    (record {
+first k clients servers disks blocks form head =
+    record {
       cuts = cutting.fresh_holds k clients servers disks blocks form head;
       replies = record { dated = dates.fresh_dated k clients servers disks blocks form head; replies = λ s n at m h. absurd h };
       all = begun k clients servers disks blocks form head;
       asks = fresh_asks k clients servers disks blocks form (gifts (terms_of k) (clients + servers) (fresh_world k clients servers disks blocks form) (begun k clients servers disks blocks form head));
-    })
+    }
+
+pub law : In_every_run Cuts_are_asked
+law k clients servers disks blocks form es head events =
+    throughout_events (clients + servers) Cuts_are_asked (Hold (terms_of k) (clients + servers)) (λ past t e sc r h taken. one (terms_of k) (clients + servers) past t e sc r h taken) es events []
+    (traced (fresh_world k clients servers disks blocks form)) (first k clients servers disks blocks form head)
+
+-- and events go on
+pub goes : In_every_run Goes_between
+goes k clients servers disks blocks form es head events =
+    throughout_events (clients + servers) Goes_between (Hold (terms_of k) (clients + servers))
+    (λ past t e sc r h taken. (event_goes past t h.replies e sc (owed (terms_of k) (clients + servers) past t e sc r h taken) taken, (one (terms_of k) (clients + servers) past t e sc r h taken).1)) es events []
+    (traced (fresh_world k clients servers disks blocks form)) (first k clients servers disks blocks form head)
+
+-- and what is served anew is outstanding
+pub fresh : In_every_run Fresh_are_outstanding
+fresh k clients servers disks blocks form es head events =
+    throughout_events (clients + servers) Fresh_are_outstanding (Hold (terms_of k) (clients + servers))
+    (λ past t e sc r h taken. (outstanding (terms_of k) (clients + servers) past t h.cuts h.all h.asks, (one (terms_of k) (clients + servers) past t e sc r h taken).1)) es events []
+    (traced (fresh_world k clients servers disks blocks form)) (first k clients servers disks blocks form head)

@@ -8,6 +8,11 @@ pub mod Named
 pub mod Cutting
 pub mod Seen
 pub mod Standing
+pub mod Fresh
 pub mod Asked
 pub mod Law
 pub mod Runs
+pub mod Sending
+pub mod Lives
+pub mod Going
+pub mod Former

@@ -86,7 +86,7 @@ module _ (k : Config) (count : ℕ) (w : World) (a : AllStand k count w) (s : �
 
   -- A client that runs, with an association of this server.
   module _ (d : ℕ) (site : ClientSite) (run : Running w d site) (b : Association) (h : Has b site.node.state.associations) (e : b.server ≡ server s) where
-    whole : client_in w d s (z.ended d) ≡ client_of (z.ended d) (clock_of w (nodes.Client (client d))).0 b
+    pub whole : client_in w d s (z.ended d) ≡ client_of (z.ended d) (clock_of w (nodes.Client (client d))).0 b
     whole = own_view w d s (z.ended d) site q.association run.there run.runs q.sim.place ∙ ap (client_of (z.ended d) (clock_of w (nodes.Client (client d))).0) (sym is)
       where
         q : Standing k s d site w.ended (z.ghosts d).net

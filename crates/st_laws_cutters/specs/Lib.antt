@@ -4,3 +4,5 @@ pub mod Named
 pub mod Cut
 pub mod Law
 pub mod Runs
+pub mod Former
+pub mod Fresh

@@ -1,28 +1,26 @@
 -- A step of a node takes away one of the steps for which its counters have room.
-use Rattle.std.proofs.Common.{◌≡◌, ℕ, ◌+◌, ◌-◌, ◌*◌, ◌^◌, ◌<◌, ◌≤◌, ◌==◌, Bool, true, false, List, [], Option, Some, None, Result, Ok, Err, if◌then◌else◌, refl, sym, ap, subst, ◌∙◌, arith}
+use Rattle.std.proofs.Common.{◌≡◌, ℕ, ◌+◌, ◌-◌, ◌^◌, ◌≤◌, Bool, true, [], Ok, Err, if◌then◌else◌, refl, sym, subst, arith}
 use Rattle.std.specs.Prelude.{min, nat_le, ◌&&◌}
 use Rattle.std.proofs.lemmas.Bool.{and_parts, leb-true}
+use Rattle.st_base.specs.declared.config.Config.{Config}
+use Rattle.st_base.specs.declared.ids.ServerId.{ServerId}
 use Rattle.st_base.specs.declared.ids.Stamp.{Stamp}
-use Rattle.st_messages.specs.declared.kind.Party.{Party}
-use Rattle.st_messages.specs.declared.kind.Party.TheVariants as parties
 use Rattle.st_messages.specs.declared.message.Body.{Body}
 use Rattle.st_messages.specs.declared.message.Body.TheVariants as bodies
-use Rattle.st_messages.specs.declared.message.Message.{Message}
 use Rattle.st_messages.specs.Fits.{fits, is_body, is_count, is_grant, is_header, is_ino, is_page}
-use Rattle.st_messages.specs.Kinds.{kind_of_body, receiver}
+use Rattle.st_messages.specs.Kinds.{kind_of_body}
 use Rattle.st_rules.specs.declared.input.ServerInput.{ServerInput}
 use Rattle.st_rules.specs.declared.input.ServerInput.TheVariants.{Tick, Control}
 use Rattle.st_rules.specs.declared.node.StepRefusal.TheVariants.{Crashed}
+use Rattle.st_rules.specs.Names as names
 use Rattle.st_rules.specs.Server as server
 use Rattle.st_rules.specs.Server.{ServerNode, ServerState, turn, node_step, server_step}
 use Rattle.st_server.specs.Ready.{comes_fit}
 use Rattle.st_server.specs.Room.{HasRoom, taken_locks}
 use Rattle.st_server.specs.Sound.{IsSound}
 use Rattle.st_server.proofs.Stepping.{step_turn, moment_word}
-use Rattle.st_node.specs.declared.node.Node.{Node}
-use Rattle.st_node.specs.declared.node.Node.TheVariants.{Server}
 use Rattle.st_node.specs.Room.{HasRoomFor, ServerHasRoom}
-use Rattle.st_node.specs.Runs.{Handled, server_handle, server_stepped, server_input, server_input_by}
+use Rattle.st_node.specs.Runs.{MOST, server_stepped}
 use Rattle.st_node.proofs.Growing.{Grows, pages_asked, pages_in}
 use Rattle.st_node.proofs.Stables.{step_grows}
 
@@ -74,3 +72,8 @@ unfolding node_step
 room_stepped k n now i sound time fit r =
     let P : Bool → Type 0 = λ b. HasRoomFor k (server_stepped n (if b then Ok (server.node_turn n (server_step n.state now i)) else Err Crashed)).node in
     subst P (sym r.running) (stepped_room k n now i sound time fit r)
+
+-- a server that was never started has room for all steps that a node takes
+pub fresh_room : (id : ServerId) (k : Config) (servers disks blocks : ℕ) → ServerHasRoom MOST (server.fresh_node id k servers disks blocks)
+unfolding MOST server.fresh_server names.fresh_names
+fresh_room id k servers disks blocks = record { running = refl; locks = omega arith; inodes = omega arith; births = omega arith }

@@ -1,5 +1,5 @@
 -- What stands while a link is taken piece by piece, and what is known where that stops.
-use Rattle.std.proofs.Common.{◌≡◌, ℕ, zero, suc, ◌+◌, ◌-◌, ◌*◌, ◌<◌, ◌≤◌, List, [], ◌∷◌, ◌++◌, length, take, drop, refl, sym, ◌∙◌, ap, subst, arith, append-nil, take-append-drop, append_assoc}
+use Rattle.std.proofs.Common.{◌≡◌, ℕ, zero, suc, ◌+◌, ◌-◌, ◌<◌, ◌≤◌, List, [], ◌∷◌, ◌++◌, length, take, drop, refl, sym, ◌∙◌, ap, subst, arith, append-nil, take-append-drop, append_assoc}
 use Rattle.std.specs.Prelude.{Option, Some, None, IfSome, Result, Ok, Err}
 use Rattle.std.specs.Io.KnownBytes.{Appends, Consumes, IsAtEnd, Keeps}
 use Rattle.std.proofs.KnownBytes.{Consumes-trans, Consumes-kept, Consumes-nil, Appends-nil, Appends-trans}
@@ -10,7 +10,7 @@ use Rattle.st_link.specs.Prefixes.{AppendsPrefix}
 use Rattle.st_node.specs.declared.node.Node.{Node}
 use Rattle.st_node.specs.declared.fault.NodeFault.{NodeFault}
 use Rattle.st_node.specs.declared.fault.NodeFault.TheVariants as faults
-use Rattle.st_node.specs.Runs.{Run, MOST, behind, ended, end_at, node_run, run}
+use Rattle.st_node.specs.Runs.{Run, MOST, behind, end_at, node_run, run}
 use Rattle.st_node.specs.Serving.{Breaks, Carries, GoesOn, IsCutOff, IsCutShort, IsFront, IsHalted, IsHandled, IsIdle, IsTorn, Pieces, Serves, StopsAt, room_for}
 use Rattle.st_node.proofs.Reading.{part_few}
 use Rattle.st_node.proofs.Runs.{behind_both, fed_nothing, fed_twice, idle_ends}

@@ -1,5 +1,5 @@
 -- One turn: a frame, a stop, or nothing.
-use Rattle.std.proofs.Common.{◌≡◌, ℕ, ◌+◌, ◌-◌, ◌*◌, ◌<◌, ◌≤◌, List, [], ◌∷◌, ◌++◌, length, refl, sym, ◌∙◌, ap, subst, arith, append-nil}
+use Rattle.std.proofs.Common.{◌≡◌, ℕ, ◌+◌, ◌-◌, ◌<◌, ◌≤◌, List, [], length, refl, sym, ◌∙◌, ap, subst, arith, append-nil}
 use Rattle.std.specs.Prelude.{Option, Some, None, IfSome, Result, Ok, Err, OnOk}
 use Rattle.st_base.specs.declared.ids.Stamp.{Stamp}
 use Rattle.st_codec.specs.declared.refusal.CodecRefusal.{CodecRefusal}
@@ -8,8 +8,8 @@ use Rattle.st_messages.specs.declared.message.Message.{Message}
 use Rattle.st_node.specs.declared.node.Node.{Node}
 use Rattle.st_node.specs.declared.fault.NodeFault.{NodeFault}
 use Rattle.st_node.specs.declared.fault.NodeFault.TheVariants as faults
-use Rattle.st_node.specs.Runs.{Run, behind, ended, run}
-use Rattle.st_node.specs.Serving.{Carries, GoesOn, HasCauses, IsHalted, IsHandled, IsIdle, IsTorn, OnStop, Pieces, StopsAt, room_for}
+use Rattle.st_node.specs.Runs.{behind, ended, run}
+use Rattle.st_node.specs.Serving.{Carries, GoesOn, HasCauses, IsIdle, IsTorn, OnStop, Pieces, StopsAt, room_for}
 use Rattle.st_link.specs.Prefixes.{AppendsPrefix}
 use Rattle.std.specs.Io.KnownBytes.{Appends}
 use Rattle.st_node.proofs.Reading.{next_few, none_stays}

@@ -1,19 +1,17 @@
 -- A stream of whole frames is run through.
-use Rattle.std.proofs.Common.{◌≡◌, ℕ, zero, suc, ◌+◌, ◌-◌, ◌^◌, ◌<◌, ◌≤◌, List, [], ◌∷◌, ◌++◌, length, Option, Some, None, Result, Ok, Err, refl, sym, ap, subst, ◌∙◌, append_assoc, append-nil, arith}
-use Rattle.std.specs.Prelude.{min}
+use Rattle.std.proofs.Common.{◌≡◌, ℕ, zero, suc, ◌≤◌, List, [], ◌∷◌, length, Some, None, Ok, refl, ap, ◌∙◌, arith}
 use Rattle.std.specs.List.{flat_map, AllByRecursion}
 use Rattle.std.proofs.lemmas.List.Concat.{flat_map-cons}
 use Rattle.st_base.specs.declared.ids.Stamp.{Stamp}
 use Rattle.st_clock.specs.Readings.{after}
-use Rattle.st_codec.specs.Frames.{Frames, behind as left_behind, fed, fresh, front, next}
+use Rattle.st_codec.specs.Frames.{Frames, behind as left_behind, fed, fresh, front, next, next_at, next_by}
 use Rattle.st_codec.specs.Spelling.{spelling}
 use Rattle.st_codec.specs.Stream.{IsFramed, message_frame}
 use Rattle.st_codec.proofs.Streams.{gives_frame}
 use Rattle.st_messages.specs.declared.message.Message.{Message}
 use Rattle.st_node.specs.declared.node.Node.{Node}
-use Rattle.st_node.specs.declared.fault.NodeFault.TheVariants as faults
-use Rattle.st_node.specs.Runs.{Handled, Run, MOST, behind, ended, go_on, handle, node_run, passed, reading, run, then_rest}
-use Rattle.st_node.specs.Whole.{RunsThrough, handle_all, then_others}
+use Rattle.st_node.specs.Runs.{Handled, Run, MOST, behind, ended, go_on, handle, reading, run}
+use Rattle.st_node.specs.Whole.{RunsThrough, handle_all}
 
 -- a run that handled this, and went through
 abbrev through : Handled → Run
@@ -21,7 +19,7 @@ through h = record { node = h.node; out = h.out; stop = Ok tt }
 
 empty_stays : (f : Frames) → f.rest ≡ [] → f.refusal ≡ None → next f ≡ (f, None)
 unfolding next front
-empty_stays f empty open_ = rw (open_, empty) ?
+empty_stays f empty open_ = ap (next_by f) open_ ∙ ap (λ (w : List ℕ). next_at f (front w)) empty
 
 nothing_left : (k : ℕ) (n : Node) (readings : List Stamp) (f : Frames) → f.rest ≡ [] → f.refusal ≡ None → run k n readings f ≡ ended n (Ok tt)
 unfolding run

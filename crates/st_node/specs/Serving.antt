@@ -1,5 +1,5 @@
 -- A node that is served over a link: what stands of the link, the clock and the node when a call returns.
-use Rattle.std.specs.Prelude.{◌≡◌, ◌≤◌, ℕ, zero, suc, ◌+◌, ◌*◌, List, [], ◌++◌, length, Option, Some, None, Result, Ok, Err, IfSome}
+use Rattle.std.specs.Prelude.{◌≡◌, ◌≤◌, ℕ, zero, suc, ◌*◌, List, [], ◌++◌, Option, Some, None, Result, Ok, Err, IfSome}
 use Rattle.std.specs.Io.KnownBytes.{Appends, Consumes}
 use Rattle.st_base.specs.declared.ids.Stamp.{Stamp}
 use Rattle.st_codec.specs.Frames.{Frames, fed, next}

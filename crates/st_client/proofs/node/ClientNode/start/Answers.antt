@@ -21,18 +21,18 @@ started-requires-clause-low c =
 pub tell_lives-requires : goal.tell_lives-requires
 tell_lives-requires c =
     let e =
-        c.in_ok-state.ensures
-        ∙ ap (λ xs. start (crashed_client c.self.inside.id c.self.inside.config xs c.as_slice-2.result.now)) c.as_slice.ensures.value
-        ∙ ap (λ xs. start (crashed_client c.self.inside.id c.self.inside.config c.self.inside.servers.items xs)) c.as_slice-2.ensures.value in
+    c.in_ok-state.ensures
+    ∙ ap (λ xs. start (crashed_client c.self.inside.id c.self.inside.config xs c.as_slice-2.result.now)) c.as_slice.ensures.value
+    ∙ ap (λ xs. start (crashed_client c.self.inside.id c.self.inside.config c.self.inside.servers.items xs)) c.as_slice-2.ensures.value in
     started_fits c.self.inside.id c.self.inside.config c.self.inside.servers.items c.self.inside.lives.items (vec_capacity c.self.inside.lives) c.in_ok-state.state e c.self.invariant.count c.self.invariant.room
 
 pub invariant_of-self : goal.invariant_of-self
 invariant_of-self c =
     let n = none_runs c.self.inside.state (ap (λ (m : ClientNode). m.running) c.self.view_is ∙ c.requires.crashed) in
     let e =
-        c.in_ok-state.ensures
-        ∙ ap (λ xs. start (crashed_client c.self.inside.id c.self.inside.config xs c.as_slice-2.result.now)) c.as_slice.ensures.value
-        ∙ ap (λ xs. start (crashed_client c.self.inside.id c.self.inside.config c.self.inside.servers.items xs)) c.as_slice-2.ensures.value in
+    c.in_ok-state.ensures
+    ∙ ap (λ xs. start (crashed_client c.self.inside.id c.self.inside.config xs c.as_slice-2.result.now)) c.as_slice.ensures.value
+    ∙ ap (λ xs. start (crashed_client c.self.inside.id c.self.inside.config c.self.inside.servers.items xs)) c.as_slice-2.ensures.value in
     starts_in c.self.inside.id c.self.inside.config c.self.inside.servers.items c.self.inside.lives.items c.tell_lives.new.lives.items (vec_capacity c.self.inside.lives) (vec_capacity c.tell_lives.new.lives)
     c.in_ok-state.state c.self.invariant.checked e c.self.invariant.count c.self.invariant.room c.tell_lives.ensures.told c.tell_lives.ensures.room
     (subst IsSound (sym e)

@@ -1,0 +1,3 @@
+pub mod Uncut
+pub mod Stays
+pub mod Run

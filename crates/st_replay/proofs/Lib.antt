@@ -1,0 +1,10 @@
+pub mod Room
+pub mod Ranges
+pub mod Steps
+pub mod First
+pub mod Newlines
+pub mod Feeding
+pub mod LastLines
+pub mod Streams
+pub mod Reported
+pub mod RunReports
