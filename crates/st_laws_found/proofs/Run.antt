@@ -169,7 +169,7 @@ module _ (k : base.Config) (clients servers d b form : ℕ) where
           nothing : Has pc [] → ⊥
           nothing y = y
 
-  starts : safety.IsHead k clients servers d b form → Reads_stand (terms_of k) (clients + servers) [] (traced (fresh_world k clients servers d b form))
+  pub starts : safety.IsHead k clients servers d b form → Reads_stand (terms_of k) (clients + servers) [] (traced (fresh_world k clients servers d b form))
   starts head = record { pages = begins k clients servers d b form head; reads = fresh_reads }
 
 in_run : (promise : Promise) → ((k : Config) (count : ℕ) (past : List Step) (t : Traced) (e : Event) (sc : Scene) → Kept past (step t e sc) → Reads_stand k count (past ++ step t e sc ∷ []) (traced_after e t sc) → promise past (step t e sc)) → In_runs_placed promise
