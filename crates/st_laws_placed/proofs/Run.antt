@@ -1,5 +1,5 @@
 -- Reads return the last writes and the pages hold throughout a run.
-use Rattle.std.proofs.Common.{◌≡◌, ℕ, zero, suc, ◌+◌, true, ◌==◌, List, [], ◌∷◌, ◌++◌, Option, Some, None, Ok, Err, refl, sym, ap, ◌∙◌, subst}
+use Rattle.std.proofs.Common.{◌≡◌, ℕ, zero, suc, ◌+◌, true, ◌==◌, List, [], ◌∷◌, ◌++◌, Option, Some, None, Ok, Err, refl, sym, ap, subst}
 use Rattle.std.specs.Prelude.{Result}
 use Rattle.std.specs.List.{list_all}
 use Rattle.std.proofs.lemmas.Bool.{eqb-true}
@@ -12,15 +12,13 @@ use Rattle.st_rules.specs.declared.extents.Extent.{Extent}
 use Rattle.st_rules.specs.declared.observation.WorldRefusal.{WorldRefusal}
 use Rattle.st_rules.specs.declared.world.IssuedCommand.{IssuedCommand}
 use Rattle.st_rules.specs.ClientPages as store
-use Rattle.st_rules.specs.ClientState.{Association}
 use Rattle.st_rules.specs.Events.{Scene, counted, world_step}
 use Rattle.st_rules.specs.History.{Traced, traced, traced_after}
 use Rattle.st_rules.specs.Keys.{client, same_page}
 use Rattle.st_rules.specs.Safety as safety
 use Rattle.st_rules.specs.Safety.{Promise, ReadsReturnLastWrites, Step, Throughout, is_event, step, steps}
-use Rattle.st_rules.specs.World.{World, ClientSite, fresh_world, numbered}
+use Rattle.st_rules.specs.World.{World, fresh_world, numbered}
 use Rattle.st_assoc.specs.Assoc.{Config}
-use Rattle.st_lemmas.specs.Lists.{Has}
 use Rattle.st_lemmas.proofs.Tables.{and_true, found_at}
 use Rattle.st_laws_pages.specs.Flush.{file_at}
 use Rattle.st_laws_pages.specs.Pages.{mapping_of}
