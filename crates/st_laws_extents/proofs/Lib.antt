@@ -7,3 +7,4 @@ pub mod Held
 pub mod World
 pub mod Locked
 pub mod Law
+pub mod Told

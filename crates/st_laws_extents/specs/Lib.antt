@@ -1,3 +1,4 @@
 pub mod Known
 pub mod Lies
 pub mod Law
+pub mod Told

@@ -1,0 +1,5 @@
+use Rattle.st_laws_extents.proofs.Told.{law}
+use Rattle.st_laws_extents.proofs.replies_tell_extents.Goals as goal
+
+pub returns : goal.returns
+returns c = law

@@ -1,0 +1,4 @@
+mod Sessions
+mod Rule
+mod Walk
+mod Step
