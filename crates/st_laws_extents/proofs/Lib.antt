@@ -8,3 +8,4 @@ pub mod World
 pub mod Locked
 pub mod Law
 pub mod Told
+pub mod Current

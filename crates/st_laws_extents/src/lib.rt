@@ -1,6 +1,7 @@
 //! What a client knows of where pages lie is as their servers have it, in every run in which replies tell it.
 #![tactic(auto)]
 
+ghost use Rattle.st_laws_extents.specs.Current.{Old_grants_stay_gone};
 ghost use Rattle.st_laws_extents.specs.Law.{In_runs_told, Known_after, Submits_at};
 ghost use Rattle.st_laws_extents.specs.Told.{Replies_tell_extents};
 
@@ -15,4 +16,10 @@ pub fn known_extents()
 /// rows is an extent that the server has behind the step.
 pub fn replies_tell_extents()
     ensures { Replies_tell_extents }
+{}
+
+/// In a session whose locks have the greatest grants that were seen of their files: behind a grant, a demand, a reduction or a drop the
+/// greatest grants seen have not fallen, and each lock with a grant that was seen before was there before.
+pub fn old_grants_stay_gone()
+    ensures { Old_grants_stay_gone }
 {}

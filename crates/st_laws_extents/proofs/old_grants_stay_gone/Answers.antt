@@ -1,0 +1,5 @@
+use Rattle.st_laws_extents.proofs.Current.{law}
+use Rattle.st_laws_extents.proofs.old_grants_stay_gone.Goals as goal
+
+pub returns : goal.returns
+returns c = law
