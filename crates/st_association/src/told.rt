@@ -1,13 +1,17 @@
 // What an association tells of itself between steps.
-ghost use Rattle.std.specs.Prelude.{◌≡◌, Some};
+ghost use Rattle.std.specs.Prelude.{◌≡◌, false, not, Some};
 ghost use Rattle.std.specs.List.{list_any};
 ghost use Rattle.st_association.specs.Associations.{has_room_at, may_ask};
+ghost use Rattle.st_association.specs.Awake.{is_awake, is_awake_by, may_send};
 ghost use Rattle.st_rules.specs.Client as client;
+ghost use Rattle.st_rules.specs.ClientInvariants.{lasts_here};
 ghost use Rattle.st_rules.specs.ClientLease as leases;
+ghost use Rattle.st_rules.specs.ClientLocks as locks;
 ghost use Rattle.st_rules.specs.ClientPages as pages;
 
 use crate::association::Association;
 use st_base::{Life, Stamp};
+use st_client_session::Session;
 use st_rules::Phase;
 
 impl Association {
@@ -68,5 +72,73 @@ impl Association {
         ensures { result ≡ has_room_at self.now.here }
     {
         self.store.has_room() && self.life.0 < 4_611_686_018_427_387_904 && self.may_ask()
+    }
+
+    /// Whether the lease is over.
+    pub fn is_over(&self, now: Stamp) -> bool
+        ensures { result ≡ not (lasts_here self.now.config now self.now.here) }
+    {
+        match &self.session {
+            Some(session) => session.is_over(now),
+            None => false,
+        }
+    }
+
+    /// Whether anything waits or is due at a session. It may say so of one where memory runs out.
+    fn is_session_awake(&self, session: &Session, now: Stamp, tick: bool) -> bool
+        requires config { session.now.of.config ≡ self.now.config }
+        ensures { result ≡ false → is_awake_by self.now.config now tick self.now.here.store (Some session.now.session) ≡ false }
+    {
+        has_demands(session) || self.has_dirty() || may_send(session, now, tick)
+    }
+
+    /// Whether anything waits or is due at the server, pending operations apart. It may say so where memory runs out.
+    pub fn is_awake(&self, now: Stamp, tick: bool) -> bool
+        ensures { result ≡ false → is_awake self.now.config now tick self.now.here ≡ false }
+    {
+        match &self.session {
+            Some(session) => self.is_session_awake(session, now, tick),
+            None => false,
+        }
+    }
+}
+
+/// Whether the lease is in renewal, in quiesce or in flush.
+fn is_renewing(phase: Phase) -> bool
+    ensures { result ≡ leases.is_renewing phase }
+{
+    match phase {
+        Phase::Renewal | Phase::Quiesce | Phase::Flush => true,
+        Phase::Valid | Phase::Expired => false,
+    }
+}
+
+/// Whether a release is to be sent.
+#[tactic(auto, using(crate::proofs::Emptiness::any_first))]
+fn has_release(session: &Session) -> bool
+    ensures { result ≡ client.is_any session.now.session.releases }
+{
+    session.first_release().is_some()
+}
+
+/// Whether there is a request to send.
+fn may_send(session: &Session, now: Stamp, tick: bool) -> bool
+    ensures { result ≡ may_send session.now.of.config now tick session.now.session }
+{
+    if session.has_asked() {
+        tick
+    } else {
+        session.is_due() || has_release(session) || is_renewing(session.phase(now))
+    }
+}
+
+/// Whether a file is demanded. It may say so where memory runs out.
+#[tactic(auto, using(crate::proofs::Emptiness::none_in))]
+fn has_demands(session: &Session) -> bool
+    ensures { result ≡ false → client.is_any (locks.demanded_files session.now.session.locks) ≡ false }
+{
+    match session.demanded_files() {
+        Ok(files) => !files.is_empty(),
+        Err(_) => true,
     }
 }

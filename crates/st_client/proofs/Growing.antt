@@ -88,6 +88,14 @@ pub machine_joined : (id : ClientId) (config : Config) (n : ℕ) (out : List Out
 machine_joined id config n out xs ys a server e f i =
     record { commands = i.commands; each = rw e (in_last id config n out xs a i.each (rw f (fresh_in id config n out server i.commands))) }
 
+-- one more association, where nothing was done
+pub machine_last : (t : ClientTurn) (xs ys : List ClientAssociation) (a : ClientAssociation) → ys ≡ xs ++ a ∷ [] → IsIn t.state.id t.state.config t.state.next_command t.out a →
+    IsMachine t.state.id t.state.config t.state.next_command t.out xs → IsMachine t.state.id t.state.config t.state.next_command t.out ys
+machine_last t xs ys a e i m = record { commands = m.commands; each = rw e (in_last t.state.id t.state.config t.state.next_command t.out xs a m.each i) }
+
+pub goes_last : (t : ClientTurn) (xs : List ClientAssociation) (a : Association) → IsMachine t.state.id t.state.config t.state.next_command t.out xs → Goes t (leave t (enter t a))
+goes_last t xs a m = record { id = refl; config = refl; next = same_number t.state.next_command; out = same_number (length t.out); below = m.commands }
+
 -- one number more
 pub numbers_more : (first n : ℕ) → map fresh_association (numbers first (suc n)) ≡ map fresh_association (numbers first n) ++ fresh_association (first + n) ∷ []
 unfolding numbers

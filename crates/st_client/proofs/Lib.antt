@@ -22,3 +22,4 @@ pub mod Crashing
 pub mod Servers
 pub mod Resting
 pub mod Running
+pub mod Sleeping

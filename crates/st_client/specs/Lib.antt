@@ -5,3 +5,4 @@ pub mod Inputs
 pub mod Ends
 pub mod Room
 pub mod Nodes
+pub mod Idle

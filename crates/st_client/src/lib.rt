@@ -15,3 +15,4 @@ mod step;
 pub use ends::LeaseEnds;
 pub use machine::Machine;
 pub use node::ClientNode;
+pub use st_rules::{ClientInput, Phase};

@@ -1,5 +1,6 @@
-ghost use Rattle.std.specs.Prelude.{◌≡◌, true, IfOk, map};
+ghost use Rattle.std.specs.Prelude.{◌≡◌, true, false, IfOk, map};
 ghost use Rattle.std.specs.List.{list_all};
+ghost use Rattle.st_client.specs.Idle.{IsIdle};
 ghost use Rattle.st_client.specs.Machines.{Goes, IsIn};
 ghost use Rattle.st_rules.specs.ClientState as client;
 
@@ -77,6 +78,38 @@ impl Machine {
         })
     }
 
+    /// An association where nothing is done goes last.
+    fn passed_by(self, a: Association) -> Result<Machine, AllocError>
+        requires one { IsIn self.state.id self.state.config self.state.next_command self.out a }
+        ensures run { IfOk result (λ m. m ≡ client.leave self (client.enter self a.here)) }
+        ensures goes { IfOk result (λ m. Goes self m) }
+    {
+        let mut machine = self;
+        machine.associations.push_back(a)?;
+        Ok(machine)
+    }
+
+    /// Whether a rule may do anything at an association.
+    fn is_touched<R: Rule>(&self, rule: &R, a: &Association) -> bool
+        ensures { result ≡ false → IsIdle (R.run rule.now) self.now.state.operations a.now }
+    {
+        rule.touches(a, &self.operations)
+    }
+
+    /// A rule at one association, where it may do anything there; the association goes last.
+    fn at_next<R: Rule>(self, rule: &R, a: Association) -> Result<Machine, AllocError>
+        requires one { IsIn self.state.id self.state.config self.state.next_command self.out a }
+        requires ready { R.is_ready rule.now self.state.config a.here ≡ true }
+        ensures run { IfOk result (λ m. m ≡ client.leave self (R.run rule.now (client.enter self a.here))) }
+        ensures goes { IfOk result (λ m. Goes self m) }
+    {
+        if self.is_touched(rule, &a) {
+            self.at_one(rule, a)
+        } else {
+            self.passed_by(a)
+        }
+    }
+
     /// A rule at each association, in order.
     #[tactic(auto, unfolding(st_rules::specs::ClientState::at_each, st_rules::specs::ClientState::at_these))]
     pub(crate) fn at_each<R: Rule>(self, rule: &R) -> Result<Machine, AllocError>
@@ -92,17 +125,18 @@ impl Machine {
             next_command,
             out,
         } = self;
+        let done = VecDeque::with_capacity(alloc, associations.len())?;
         let mut machine = Machine {
             alloc,
             id,
             config,
-            associations: VecDeque::new(alloc),
+            associations: done,
             operations,
             next_command,
             out,
         };
         while let Some(a) = associations.pop_front() {
-            machine = machine.at_one(rule, a)?;
+            machine = machine.at_next(rule, a)?;
         }
         Ok(machine)
     }

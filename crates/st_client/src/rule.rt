@@ -1,8 +1,10 @@
 // A rule for one association, as it is done at each server in turn.
-ghost use Rattle.std.specs.Prelude.{◌≡◌, true, OnOk};
+ghost use Rattle.std.specs.Prelude.{◌≡◌, true, false, OnOk};
+ghost use Rattle.st_client.specs.Idle.{IsIdle};
 ghost use Rattle.st_client.specs.Machines.{Advances};
 
-use st_association::Turn;
+use st_association::{Association, Turn};
+use st_operations::Operations;
 use std::alloc::AllocError;
 
 /// A rule at an association, and what it needs of it.
@@ -14,6 +16,10 @@ pub trait Rule {
     ghost run: { Self → shared.Turn → shared.Turn };
 
     ghost is_ready: { Self → settings.Config → shared.Association → Bool };
+
+    /// Whether the rule may do anything at an association, with these pending operations.
+    fn touches(&self, a: &Association, operations: &Operations) -> bool
+        ensures { result ≡ false → IsIdle (run self.now) operations.now a.now };
 
     /// The rule at an association.
     fn apply(&self, turn: &mut Turn) -> Result<(), AllocError>

@@ -1,15 +1,37 @@
 // The rules at each server: losses, messages, asks, ends of commands, and the passes.
-ghost use Rattle.std.specs.Prelude.{◌≡◌, true};
+ghost use Rattle.std.specs.Prelude.{◌≡◌, ◌==◌, ◌||◌, true};
+ghost use Rattle.st_rules.specs.Keys.{same_server, server_node};
 
 use crate::rule::Rule;
-use st_association::Turn;
-use st_base::{PageBytes, Stamp, Tag};
+use st_association::{Association, Turn};
+use st_base::{PageBytes, ServerId, Stamp, Tag};
 use st_client_inputs::{finish, lose, take_ask};
 use st_client_passes::passes;
 use st_client_replies::hear;
 use st_messages::{Ask, Body, Header};
-use st_operations::server_of;
+use st_operations::{OfServer, Operations, server_of};
 use std::alloc::AllocError;
+
+/// Whether a message is from a server.
+fn is_from(header: &Header, server: ServerId) -> bool
+    ensures { result ≡ (header.now.from == server_node server) }
+{
+    u32::from(header.from) == 32_768 + u32::from(server.0)
+}
+
+/// Whether two servers are one.
+fn is_same(a: ServerId, b: ServerId) -> bool
+    ensures { result ≡ same_server a b }
+{
+    a.0 == b.0
+}
+
+/// Whether one of two is true.
+fn either(a: bool, b: bool) -> bool
+    ensures { result ≡ (a || b) }
+{
+    a || b
+}
 
 /// The loss.
 #[derive(Clone, Copy)]
@@ -24,6 +46,10 @@ impl Rule for Lose {
     ghost run = { λ r t. client.lose r.now t };
 
     ghost is_ready = { λ r k a. true };
+
+    fn touches(&self, a: &Association, _operations: &Operations) -> bool {
+        a.is_over(self.now)
+    }
 
     fn apply(&self, turn: &mut Turn) -> Result<(), AllocError> {
         lose(turn, self.now)
@@ -44,6 +70,10 @@ impl Rule for Finish {
     ghost run = { λ r t. client.finish r.number r.result t };
 
     ghost is_ready = { λ r k a. true };
+
+    fn touches(&self, _a: &Association, _operations: &Operations) -> bool {
+        true
+    }
 
     fn apply(&self, turn: &mut Turn) -> Result<(), AllocError> {
         finish(turn, self.number, &self.result)
@@ -67,6 +97,10 @@ impl Rule for Hear {
 
     ghost is_ready = { λ r k a. nat_le r.now.0 (2 ^ 62) && lasts_here k r.now a };
 
+    fn touches(&self, a: &Association, _operations: &Operations) -> bool {
+        is_from(&self.header, a.server())
+    }
+
     fn apply(&self, turn: &mut Turn) -> Result<(), AllocError> {
         hear(turn, self.now, self.header, &self.body)
     }
@@ -86,6 +120,12 @@ impl Rule for Passes {
     ghost run = { λ r t. passes.passes r.now r.tick t };
 
     ghost is_ready = { λ r k a. lasts_here k r.now a };
+
+    fn touches(&self, a: &Association, operations: &Operations) -> bool {
+        let server = a.server();
+        let works = operations.any(&OfServer { server });
+        either(works, a.is_awake(self.now, self.tick))
+    }
 
     fn apply(&self, turn: &mut Turn) -> Result<(), AllocError> {
         passes(turn, self.now, self.tick)
@@ -107,6 +147,10 @@ impl Rule for TakeAsk {
     ghost run = { λ r t. only_at (server_of r.ask) (client.take_ask r.op r.ask) t };
 
     ghost is_ready = { λ r k a. is_ask r.ask };
+
+    fn touches(&self, a: &Association, _operations: &Operations) -> bool {
+        is_same(a.server(), server_of(&self.ask))
+    }
 
     #[tactic(auto, unfolding(st_rules::specs::ClientState::only_at))]
     fn apply(&self, turn: &mut Turn) -> Result<(), AllocError> {

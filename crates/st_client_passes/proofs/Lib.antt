@@ -8,4 +8,3 @@ pub mod Sessions
 pub mod Reducing
 pub mod Writing
 pub mod Repeating
-pub mod Growing

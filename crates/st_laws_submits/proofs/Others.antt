@@ -165,7 +165,7 @@ last_still w v cs ts ls h = subst (Last_in v) (sym ls) (last_fewer w v w.log w.l
 
 -- A cut.
 module _ (asks : ℕ → ℕ → Option Ask) (w : World) (copies : CopiesHold asks w) where
-  free_at : (f : FileId) (p : PageNo) (lease now : ℕ) (xs : List Association) → Cut_free_of f p lease now xs → (a : Association) → Has a xs → Lasts lease now a.session → f.server ≡ a.server → ((held_in a.session f.ino).mode ≡ 0) ⊎ ((q : PageNo) → p.0 ≤ q.0 → Nothing a.store f.ino q)
+  pub free_at : (f : FileId) (p : PageNo) (lease now : ℕ) (xs : List Association) → Cut_free_of f p lease now xs → (a : Association) → Has a xs → Lasts lease now a.session → f.server ≡ a.server → ((held_in a.session f.ino).mode ≡ 0) ⊎ ((q : PageNo) → p.0 ≤ q.0 → Nothing a.store f.ino q)
   free_at f p lease now [] r a i = elim i [ ]
   free_at f p lease now (x ∷ xs) r a (inl e) = subst (λ (y : Association). Lasts lease now y.session → f.server ≡ y.server → ((held_in y.session f.ino).mode ≡ 0) ⊎ ((q : PageNo) → p.0 ≤ q.0 → Nothing y.store f.ino q)) (sym e) r.one
   free_at f p lease now (x ∷ xs) r a (inr i) = free_at f p lease now xs r.rest a i

@@ -148,19 +148,19 @@ module _ (past : List Step) (k : Config) (count : ℕ) (t : Traced) (s : Pages_s
 
   -- One step.
   module _ (e : Event) (sc : Scene) (in_range : is_event count e ≡ true) (took : world_step w e ≡ Ok sc) (places : Places_after past (step t e sc)) (left : Is_left past (step t e sc)) (left_too : Pages_left past (step t e sc)) where
-    abbrev st : Step
+    abbrev pub st : Step
     st = step t e sc
 
-    is_full : Is_full w e
+    pub is_full : Is_full w e
     is_full = full count w e s.stood.all.nodes in_range
 
-    elders_now : Elders_alone (counted w)
+    pub elders_now : Elders_alone (counted w)
     elders_now = counted_alone w (alone past k count w s.elders s.stood.stand.both.flush)
 
-    owed : Taken_owed (counted w) e (taken (counted w) e)
+    pub owed : Taken_owed (counted w) e (taken (counted w) e)
     owed = all_owed (counted w) e (taken (counted w) e) elders_now left.taken
 
-    behind : Kept past st × Stood k count (past ++ st ∷ []) (traced_after e t sc)
+    pub behind : Kept past st × Stood k count (past ++ st ∷ []) (traced_after e t sc)
     behind = reads.next k count past t e sc in_range took s.stood places (record { taken = owed; cuts = left.cuts })
 
     elders_v : Elders_hold k count sc.world
@@ -175,27 +175,27 @@ module _ (past : List Step) (k : Config) (count : ℕ) (t : Traced) (s : Pages_s
     alone_v : Elders_alone sc.world
     alone_v = alone (past ++ st ∷ []) k count sc.world elders_v behind.1.stand.both.flush
 
-    is : sc ≡ happens (counted w) e
+    pub is : sc ≡ happens (counted w) e
     is = (step_happens w e sc took).1
 
-    free : taken (counted w) e ≡ None → Others_owed (counted w) e
+    pub free : taken (counted w) e ≡ None → Others_owed (counted w) e
     free q =
         others_owed k count (counted w) sc behind.1.all (clear_step w e sc took s.stood.clear) left.cuts s.stood.waits e (waits_owed k count w s.stood.all e (step_happens w e sc took).0) is
         (subst (Taken_owed (counted w) e) q owed)
 
-    all_there : (xs : List Association) → All_there w xs → All_there (counted w) xs
+    pub all_there : (xs : List Association) → All_there w xs → All_there (counted w) xs
     all_there [] h = record {}
     all_there (a ∷ xs) h = record { one = record { node = h.one.node; is = h.one.is }; rest = all_there xs h.rest }
 
-    copies_more : CopiesHold (known (past ++ st ∷ [])) w
+    pub copies_more : CopiesHold (known (past ++ st ∷ [])) w
     copies_more = more_known past st w s.stood.copies
 
     -- of a client that takes an input
     module _ (x : Taking) (q : taken (counted w) e ≡ Some x) where
-      there : Takes (counted w) sc x
+      pub there : Takes (counted w) sc x
       there = subst (λ (z : Scene). Takes (counted w) z x) (sym is) (takes_event (counted w) e x q)
 
-      due : Taking_owed (known (past ++ st ∷ [])) x
+      pub due : Taking_owed (known (past ++ st ∷ [])) x
       due =
           record {
             numbered = numbered_there past st (counted w) e x refl (λ c site f. let z = s.stood.stand.asks c site f in record { count = z.count; keys = z.keys }) q;

@@ -34,42 +34,54 @@ use Rattle.st_laws_pages.proofs.World.{at_set}
 use Rattle.st_laws_causes.proofs.Placed.{Input_tells, Places_at}
 use Rattle.st_laws_copies.specs.World.{Taking, asking, hearing, hearing_of, taken, taking, told_at, told_of}
 
+-- A command but for its report was there.
+pub record Was_command (ds : Disks) (k : ℕ) (c : DiskCommand) : Type 0 where
+  pub command : DiskCommand
+  pub is : disks.command_at ds.commands k ≡ Some command
+  pub what : c.what ≡ command.what
+  pub sample : c.sample ≡ command.sample
+
 -- An open command of these disks is one of those.
 pub record Same_open (ds es : Disks) : Type 0 where
   pub count : length es.commands ≡ length ds.commands
   pub same : (k : ℕ) (c : DiskCommand) → disks.command_at es.commands k ≡ Some c → c.report ≡ reports.Open → disks.command_at ds.commands k ≡ Some c
+  pub was : (k : ℕ) (c : DiskCommand) → disks.command_at es.commands k ≡ Some c → Was_command ds k c
 
 same_disks : (ds : Disks) → Same_open ds ds
-same_disks ds = record { count = refl; same = λ k c i o. i }
+same_disks ds = record { count = refl; same = λ k c i o. i; was = λ k c i. record { command = c; is = i; what = refl; sample = refl } }
 
 shut : (ok : Bool) → disks.report_of ok ≡ reports.Open → ⊥
 shut true e = cc
 shut false e = cc
 
-report_open : (d : Disks) (n : ℕ) (ok : Bool) → Same_open d (ev.disks_after d (disks.done d n ok))
+pub report_open : (d : Disks) (n : ℕ) (ok : Bool) → Same_open d (ev.disks_after d (disks.done d n ok))
 unfolding disks.done disks.done_at disks.done_unreported disks.done_once
 report_open d zero ok = same_disks d
-report_open d (suc n) ok = at (disks.command d (suc n))
+report_open d (suc n) ok = at (disks.command d (suc n)) refl
   where
-    told : (c : DiskCommand) → Same_open d (disks.with_command (suc n) (disks.reported ok c) d)
-    told c = record { count = set_length d.commands n (disks.reported ok c); same = λ k y i o. go k y o (at_set d.commands n k (disks.reported ok c) y i) }
+    told : (c : DiskCommand) → disks.command d (suc n) ≡ Some c → Same_open d (disks.with_command (suc n) (disks.reported ok c) d)
+    told c e = record { count = set_length d.commands n (disks.reported ok c); same = λ k y i o. go k y o (at_set d.commands n k (disks.reported ok c) y i); was = λ k y i. before k y (at_set d.commands n k (disks.reported ok c) y i) }
       where
+        before : (k : ℕ) (y : DiskCommand) → ((k ≡ suc n) × (y ≡ disks.reported ok c)) ⊎ ((k ≢ suc n) × (disks.command_at d.commands k ≡ Some y)) → Was_command d k y
+        before k y (inl q) = record { command = c; is = ap (disks.command_at d.commands) q.0 ∙ e; what = ap (λ (z : DiskCommand). z.what) q.1; sample = ap (λ (z : DiskCommand). z.sample) q.1 }
+        before k y (inr q) = record { command = y; is = q.1; what = refl; sample = refl }
+
         go : (k : ℕ) (y : DiskCommand) → y.report ≡ reports.Open → ((k ≡ suc n) × (y ≡ disks.reported ok c)) ⊎ ((k ≢ suc n) × (disks.command_at d.commands k ≡ Some y)) → disks.command_at d.commands k ≡ Some y
         go k y o (inl q) = absurd (shut ok (sym (ap (λ (z : DiskCommand). z.report) q.1) ∙ o))
         go k y o (inr q) = q.1
 
-    once : (c : DiskCommand) (b : Bool) → Same_open d (ev.disks_after d (if b then Err (refusals.NotEffected (suc n)) else Ok (disks.with_command (suc n) (disks.reported ok c) d)))
-    once c true = same_disks d
-    once c false = told c
+    once : (c : DiskCommand) → disks.command d (suc n) ≡ Some c → (b : Bool) → Same_open d (ev.disks_after d (if b then Err (refusals.NotEffected (suc n)) else Ok (disks.with_command (suc n) (disks.reported ok c) d)))
+    once c e true = same_disks d
+    once c e false = told c e
 
-    reported : (c : DiskCommand) (r : Report) → Same_open d (ev.disks_after d (disks.done_unreported d (suc n) ok c r))
-    reported c reports.Open = once c (disks.lacks_effect ok c)
-    reported c reports.Succeeded = same_disks d
-    reported c reports.Failed = same_disks d
+    reported : (c : DiskCommand) → disks.command d (suc n) ≡ Some c → (r : Report) → Same_open d (ev.disks_after d (disks.done_unreported d (suc n) ok c r))
+    reported c e reports.Open = once c e (disks.lacks_effect ok c)
+    reported c e reports.Succeeded = same_disks d
+    reported c e reports.Failed = same_disks d
 
-    at : (o : Option DiskCommand) → Same_open d (ev.disks_after d (disks.done_at d (suc n) ok o))
-    at None = same_disks d
-    at (Some c) = reported c c.report
+    at : (o : Option DiskCommand) → disks.command d (suc n) ≡ o → Same_open d (ev.disks_after d (disks.done_at d (suc n) ok o))
+    at None e = same_disks d
+    at (Some c) e = reported c e c.report
 
 -- The world in which it does: with other disks at most.
 pub record Taken_in (w : World) (x : Taking) : Type 0 where
@@ -77,26 +89,30 @@ pub record Taken_in (w : World) (x : Taking) : Type 0 where
   pub is : x.world ≡ ev.with_disks disks w
   pub open_ : Same_open w.disks disks
   pub tells : Input_tells (length w.servers) x.input
+  pub starts : (old : ClientSite) → site_of w x.client ≡ Some old → old.starts ≡ x.site.starts
 
-in_same : (w : World) (c : ClientId) (input : ClientInput) (site : ClientSite) (x : Taking) → Input_tells (length w.servers) input → record { world = w; client = c; input = input; site = site } ≡ x → Taken_in w x
-in_same w c input site x t e = subst (Taken_in w) e (record { disks = w.disks; is = refl; open_ = same_disks w.disks; tells = t })
+in_same : (w : World) (c : ClientId) (input : ClientInput) (site : ClientSite) (x : Taking) → Input_tells (length w.servers) input → ((old : ClientSite) → site_of w c ≡ Some old → old.starts ≡ site.starts) → record { world = w; client = c; input = input; site = site } ≡ x → Taken_in w x
+in_same w c input site x t f e = subst (Taken_in w) e (record { disks = w.disks; is = refl; open_ = same_disks w.disks; tells = t; starts = f })
 
-by_client : (w : World) (c : ClientId) (input : ClientInput) (o : Option ClientSite) (x : Taking) → Input_tells (length w.servers) input → taking w c input o ≡ Some x → Taken_in w x
-by_client w c input None x t e = cc e
-by_client w c input (Some site) x t e = in_same w c input site x t (some_is e)
+same_starts : (w : World) (c : ClientId) (site old : ClientSite) → site_of w c ≡ Some site → site_of w c ≡ Some old → old.starts ≡ site.starts
+same_starts w c site old a b = ap (λ (z : ClientSite). z.starts) (some_is (sym b ∙ a))
+
+by_client : (w : World) (c : ClientId) (input : ClientInput) (o : Option ClientSite) (x : Taking) → Input_tells (length w.servers) input → site_of w c ≡ o → taking w c input o ≡ Some x → Taken_in w x
+by_client w c input None x t f e = cc e
+by_client w c input (Some site) x t f e = in_same w c input site x t (λ old g. same_starts w c site old f g) (some_is e)
 
 pub taken_in : (w : World) (e : Event) (x : Taking) → Places_at (length w.servers) w → taken w e ≡ Some x → Taken_in w x
-taken_in w (events.Tick (nodes.Client c)) x p q = by_client w c inputs.Tick (site_of w c) x tt q
+taken_in w (events.Tick (nodes.Client c)) x p q = by_client w c inputs.Tick (site_of w c) x tt refl q
 taken_in w (events.Tick (nodes.Server s)) x p q = cc q
-taken_in w (events.App c ask) x p q = go (site_of w c) q
+taken_in w (events.App c ask) x p q = go (site_of w c) refl q
   where
-    go : (o : Option ClientSite) → asking w c ask o ≡ Some x → Taken_in w x
-    go None q = cc q
-    go (Some site) q = in_same w c (inputs.App (site.asks + 1) ask) (ev.asked_once_more site) x tt (some_is q)
+    go : (o : Option ClientSite) → site_of w c ≡ o → asking w c ask o ≡ Some x → Taken_in w x
+    go None f q = cc q
+    go (Some site) f q = in_same w c (inputs.App (site.asks + 1) ask) (ev.asked_once_more site) x tt (λ old g. same_starts w c site old f g) (some_is q)
 taken_in w (events.Deliver n) x p q = go (message_of w n) refl q
   where
     to : (m : SentMessage) → Has m w.net.messages → (r : NodeId) → hearing w m.message r ≡ Some x → Taken_in w x
-    to m i (nodes.Client c) q = by_client w c (inputs.Control m.message) (site_of w c) x (p.told m i) q
+    to m i (nodes.Client c) q = by_client w c (inputs.Control m.message) (site_of w c) x (p.told m i) refl q
     to m i (nodes.Server s) q = cc q
 
     go : (o : Option SentMessage) → message_of w n ≡ o → hearing_of w o ≡ Some x → Taken_in w x
@@ -107,18 +123,18 @@ taken_in w (events.Report n ok) x p q = go (issued_of w n) q
     v : World
     v = ev.with_disks (ev.disks_after w.disks (disks.done w.disks n ok)) w
 
-    at : (y : IssuedCommand) (site : ClientSite) (b : Bool) →
+    at : (y : IssuedCommand) (site : ClientSite) → site_of w y.client ≡ Some site → (b : Bool) →
         (if b then taking (ev.with_disks (ev.disks_after w.disks (disks.done w.disks n ok)) w) y.client (ev.end_told (ev.with_disks (ev.disks_after w.disks (disks.done w.disks n ok)) w) n ok y) (Some site) else None) ≡ Some x → Taken_in w x
-    at y site true q = subst (Taken_in w) (some_is q) (record { disks = ev.disks_after w.disks (disks.done w.disks n ok); is = refl; open_ = report_open w.disks n ok; tells = tt })
-    at y site false q = cc q
+    at y site f true q = subst (Taken_in w) (some_is q) (record { disks = ev.disks_after w.disks (disks.done w.disks n ok); is = refl; open_ = report_open w.disks n ok; tells = tt; starts = λ old g. same_starts w y.client site old f g })
+    at y site f false q = cc q
 
-    at_site : (y : IssuedCommand) (o : Option ClientSite) → told_at (ev.with_disks (ev.disks_after w.disks (disks.done w.disks n ok)) w) n ok y o ≡ Some x → Taken_in w x
-    at_site y None q = cc q
-    at_site y (Some site) q = at y site (ev.is_same_instance y site) q
+    at_site : (y : IssuedCommand) (o : Option ClientSite) → site_of w y.client ≡ o → told_at (ev.with_disks (ev.disks_after w.disks (disks.done w.disks n ok)) w) n ok y o ≡ Some x → Taken_in w x
+    at_site y None f q = cc q
+    at_site y (Some site) f q = at y site f (ev.is_same_instance y site) q
 
     go : (o : Option IssuedCommand) → told_of (ev.with_disks (ev.disks_after w.disks (disks.done w.disks n ok)) w) n ok o ≡ Some x → Taken_in w x
     go None q = cc q
-    go (Some y) q = at_site y (site_of w y.client) q
+    go (Some y) q = at_site y (site_of w y.client) refl q
 taken_in w e x p q = cc q
 
 -- What is owed of the pages, from what is owed of what is taken, and at a server.

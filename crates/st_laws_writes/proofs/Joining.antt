@@ -53,6 +53,7 @@ pub record Is_new (c : ClientId) (site : ClientSite) (size : ℕ) (os : List Out
   pub server : x.server ≡ world.server (pred at.disk.0 % size + 1)
   pub life : x.life ≡ life_with site.node.state x.server
   pub what_is : d.what ≡ what
+  pub fresh : d.sample ≡ None
 
 -- Commands go by one number at the disks and at their clients.
 pub record Counted (c : ClientId) (site : ClientSite) (size : ℕ) (sc : Scene) : Type 0 where
@@ -111,6 +112,7 @@ one_says c before site size (outputs.Submit number at what) sc h = go (site_of s
               server = ap (λ (z : IssuedCommand). z.server) q ∙ ap (λ n. world.server (pred at.disk.0 % n + 1)) h.servers;
               life = ap (λ (z : IssuedCommand). z.life) q ∙ ap (λ (z : ClientSite). life_with z.node.state y.server) (some_is e) ∙ ap (life_with site.node.state) (ap (λ (z : IssuedCommand). z.server) (sym q));
               what_is = ap (λ (z : DiskCommand). z.what) r;
+              fresh = ap (λ (z : DiskCommand). z.sample) r;
             })
 one_says c before site size (outputs.Note n) sc h = note n
   where
@@ -121,7 +123,7 @@ one_says c before site size (outputs.Note n) sc h = note n
     note n = record { counts = h.counts; servers = h.servers; from = λ k x d i. inl i }
 
 new_more : (c : ClientId) (site : ClientSite) (size : ℕ) (os ps : List Output) (x : IssuedCommand) (d : DiskCommand) → ((o : Output) → Has o os → Has o ps) → Is_new c site size os x d → Is_new c site size ps x d
-new_more c site size os ps x d f n = record { at = n.at; what = n.what; said = f _ n.said; client = n.client; starts = n.starts; server = n.server; life = n.life; what_is = n.what_is }
+new_more c site size os ps x d f n = record { at = n.at; what = n.what; said = f _ n.said; client = n.client; starts = n.starts; server = n.server; life = n.life; what_is = n.what_is; fresh = n.fresh }
 
 -- all outputs
 pub all_say : (c : ClientId) (before : ClientState) (site : ClientSite) (size : ℕ) (os : List Output) (sc : Scene) → Counted c site size sc → (k : ℕ) (x : IssuedCommand) (d : DiskCommand) → Is_at (After c before sc os) k x d →

@@ -2,6 +2,7 @@ pub mod Room
 pub mod Ranges
 pub mod Steps
 pub mod First
+pub mod Begun
 pub mod Newlines
 pub mod Feeding
 pub mod LastLines

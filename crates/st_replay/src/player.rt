@@ -1,4 +1,4 @@
-ghost use Rattle.std.specs.Prelude.{◌≡◌, ◌+◌, ◌≤◌, ◌∷◌, [], ℕ, List, OnOk, None, length};
+ghost use Rattle.std.specs.Prelude.{◌≡◌, ◌+◌, ◌≤◌, ◌∷◌, [], ℕ, List, OnOk, None, Some, length};
 ghost use Rattle.st_schedule.specs.declared.reader.Progress.TheVariants.{Nothing};
 ghost use Rattle.st_replay.specs.Replay.{behind};
 ghost use Rattle.st_replay.specs.Playing.{EndsAt, Goes, IsHere, OnStop, from_here, needs};
@@ -18,6 +18,13 @@ pub(crate) struct Player {
     pub(crate) world: Option<World>,
     pub(crate) line: u64,
     pub(crate) text: Vec<u8>,
+}
+
+/// Keeps the world of a head.
+fn keep(place: &mut Option<World>, world: World)
+    ensures { place.new ≡ Some world }
+{
+    *place = Some(world);
 }
 
 impl Player {
@@ -56,7 +63,7 @@ impl Player {
             }
             None => {
                 let world = play_head(self.alloc, &mut self.text, &mut self.reader, bytes)?;
-                self.world = Some(world);
+                keep(&mut self.world, world);
                 self.line += 1;
                 Ok(())
             }

@@ -51,6 +51,33 @@ fn play_all<I: Source, O: Sink>(
     }
 }
 
+/// Replays a schedule with a player that has read nothing, and no bytes held.
+fn replay_with<I: Source, O: Sink>(
+    player: &mut Player,
+    held: &mut Vec<u8>,
+    input: &mut I,
+    out: &mut O,
+) -> Result<(Summary, World), ReplayFault>
+    requires reader { player.old.reader ≡ Nothing }
+    requires world { player.old.world ≡ None }
+    requires line { player.old.line ≡ 1 }
+    requires text { player.old.text.items ≡ [] }
+    requires held { held.old.items ≡ [] }
+    ensures report { IfSome (I.left input.old) (λ bytes. Reports result (O.written out.old) (O.written out.new) (replay_of bytes)) }
+    ensures counts { IfOk result (λ r. r.0 ≡ rules.summary r.1) }
+    ensures through { IfOk result (λ r. IsAtEnd (I.left input.new)) }
+    ensures read { OnRead result (IsCutOff (I.left input.old) (I.left input.new) (O.written out.old) (O.written out.new)) }
+    ensures causes { HasCauses result (I.faults input.old) (I.faults input.new) (O.faults out.old) (O.faults out.new) }
+    ensures complete { IfSome (I.left input.old) (λ bytes. Completes result (replay_of bytes).last) }
+{
+    match play_all(player, held, input, out) {
+        Ok(()) => finish(player, held.as_slice(), out),
+        Err(Halt::Stopped(stop)) => Err(refuse(out, &mut player.text, stop)),
+        Err(Halt::Read) => Err(ReplayFault::Read),
+        Err(Halt::Write) => Err(ReplayFault::Write),
+    }
+}
+
 /// Replays a schedule: reads it from `input` in pieces of at most 4,096 bytes, runs each line as soon as it is whole, and writes the
 /// report to `out`; what is observed of the lines of a piece is written before the next piece is read. Neither the schedule nor
 /// the report is kept: between two reads at most 256 bytes of the schedule are held. It hands back the counts of the run, and the
@@ -77,10 +104,5 @@ pub fn replay<I: Source, O: Sink>(
 {
     let mut player = Player::new(alloc);
     let mut held = Vec::new(alloc);
-    match play_all(&mut player, &mut held, input, out) {
-        Ok(()) => finish(&mut player, held.as_slice(), out),
-        Err(Halt::Stopped(stop)) => Err(refuse(out, &mut player.text, stop)),
-        Err(Halt::Read) => Err(ReplayFault::Read),
-        Err(Halt::Write) => Err(ReplayFault::Write),
-    }
+    replay_with(&mut player, &mut held, input, out)
 }

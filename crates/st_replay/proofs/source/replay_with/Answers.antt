@@ -1,5 +1,5 @@
 use Rattle.st_replay.proofs.Reported.{reported, refused_everywhere, all_completes}
-use Rattle.st_replay.proofs.source.replay.Goals as goal
+use Rattle.st_replay.proofs.source.replay_with.Goals as goal
 
 pub returns-in-Ok-clause-report : goal.returns-in-Ok-clause-report
 returns-in-Ok-clause-report g c =

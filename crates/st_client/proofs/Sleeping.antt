@@ -1,0 +1,164 @@
+-- Where nothing waits and nothing is due, rules do nothing.
+use Rattle.std.proofs.Common.{◌≡◌, ℕ, Bool, true, false, ◌||◌, ◌&&◌, List, [], ◌∷◌, ◌++◌, refl, sym, ap, ◌∙◌, append_assoc, append-nil}
+use Rattle.std.specs.Prelude.{Option, Some, None, ◌==◌, cond, is_some, not}
+use Rattle.std.specs.List.{list_any}
+use Rattle.st_lemmas.proofs.Tables.{and_left, cond_false, not_false, not_true}
+use Rattle.st_association.specs.Associations.{ClientAssociation}
+use Rattle.st_association.specs.Awake.{is_awake, is_awake_by, may_send}
+use Rattle.st_base.specs.declared.ids.PageNo.{PageNo}
+use Rattle.st_base.specs.declared.ids.ServerId.{ServerId}
+use Rattle.st_base.specs.declared.ids.Stamp.{Stamp}
+use Rattle.st_messages.specs.declared.ask.Ask.{Ask}
+use Rattle.st_messages.specs.declared.message.Body.{Body}
+use Rattle.st_messages.specs.declared.message.Header.{Header}
+use Rattle.st_rules.specs.declared.client.Operation.{Operation}
+use Rattle.st_rules.specs.declared.client.Release.{Release}
+use Rattle.st_rules.specs.declared.client.Request.{Request}
+use Rattle.st_rules.specs.declared.pages.DirtyPage.{DirtyPage}
+use Rattle.st_rules.specs.Client.{is_any, is_over, lose, lose_by, lose_over, take_ask}
+use Rattle.st_rules.specs.ClientInvariants.{lasts_here, lasts_in}
+use Rattle.st_rules.specs.ClientLease.{is_renewing, phase_of}
+use Rattle.st_rules.specs.ClientLocks.{demanded_files}
+use Rattle.st_rules.specs.ClientPages.{Pages, dirty_places}
+use Rattle.st_rules.specs.ClientPasses as passes
+use Rattle.st_rules.specs.ClientPasses.{Asking, ask_by, ask_new, ask_next, asked_by, asks_or, first_asking, greet, greeting, greeting_by, is_greeting_due, is_old, keep_alive, ask_for_or, may_ask, must_greet, operate, operate_each, operations, reduce_each, reductions, repeat, requests, requests_at, requests_by, requests_under, write_each, writes, writes_by}
+use Rattle.st_rules.specs.ClientReplies.{hear, is_heard}
+use Rattle.st_rules.specs.ClientState.{ClientSession, Turn, is_at, is_of, is_serving, keep, only_at, with_operations}
+use Rattle.st_rules.specs.Keys.{rising, server_node}
+use Rattle.st_client.specs.Idle.{IsIdle}
+
+or_parts : (a b : Bool) → (a || b) ≡ false → (a ≡ false) × (b ≡ false)
+or_parts true b e = cc
+or_parts false b e = (refl, e)
+
+-- Losses, messages and asks.
+
+lose_idle : (now : Stamp) (t : Turn) (s : Option ClientSession) → lasts_in t.config now s ≡ true → lose_by t now s ≡ t
+unfolding lose_by lose_over
+lose_idle now t None e = refl
+lose_idle now t (Some s) e = cond_false (is_over t s now) _ t (not_true (is_over t s now) e)
+
+pub idle_lose : (now : Stamp) (operations : List Operation) (a : ClientAssociation) (b : Bool) → b ≡ not (lasts_here a.config now a.here) → b ≡ false → IsIdle (lose now) operations a
+unfolding lose
+idle_lose now os a b e f t h k o =
+    lose_idle now t t.here.session
+    (ap (λ c. lasts_here c now t.here) k ∙ ap (λ x. lasts_here a.config now x) h ∙ not_false (lasts_here a.config now a.here) (sym e ∙ f))
+
+pub idle_hear : (now : Stamp) (h : Header) (body : Body) (operations : List Operation) (a : ClientAssociation) (b : Bool) → b ≡ (h.from == server_node a.here.server) → b ≡ false → IsIdle (hear now h body) operations a
+unfolding hear
+idle_hear now h body os a b e f t i k o =
+    cond_false (is_heard t now h) _ t (and_left (h.from == server_node t.here.server) _ (ap (λ x. h.from == server_node x.server) i ∙ sym e ∙ f))
+
+pub idle_ask : (op : ℕ) (ask : Ask) (server : ServerId) (operations : List Operation) (a : ClientAssociation) (b : Bool) → b ≡ is_at server a.here → b ≡ false → IsIdle (only_at server (take_ask op ask)) operations a
+unfolding only_at
+idle_ask op ask server os a b e f t i k o = cond_false (is_at server t.here) _ t (ap (is_at server) i ∙ sym e ∙ f)
+
+-- Operations: none is of the server.
+
+each_kept : (all : List Operation) (now : Stamp) (os : List Operation) (t : Turn) → list_any (is_of t.here.server) os ≡ false → operate_each all now os t ≡ with_operations (t.operations ++ os) t
+unfolding operate_each operate
+each_kept all now [] t e = ap (λ xs. with_operations xs t) (sym (append-nil t.operations))
+each_kept all now (o ∷ os) t e =
+    let p = or_parts (is_of t.here.server o) (list_any (is_of t.here.server) os) e in
+    let q : operate all t now o ≡ keep o t = cond_false (is_of t.here.server o) _ (keep o t) p.0 in
+    ap (operate_each all now os) q ∙ each_kept all now os (keep o t) p.1 ∙ ap (λ xs. with_operations xs t) (append_assoc t.operations (o ∷ []) os)
+
+operations_idle : (now : Stamp) (t : Turn) → list_any (is_of t.here.server) t.operations ≡ false → operations now t ≡ t
+unfolding operations
+operations_idle now t e = each_kept t.operations now t.operations (with_operations [] t) e
+
+-- Reductions and writes.
+
+none_there : {A : Type 0} (xs : List A) → is_any xs ≡ false → xs ≡ []
+none_there [] e = refl
+none_there (x ∷ xs) e = cc
+
+reductions_idle : (t : Turn) → passes.files_demanded t.here.session ≡ [] → reductions t ≡ t
+unfolding reductions reduce_each
+reductions_idle t e = ap (λ xs. reduce_each xs t) e
+
+writes_idle : (now : Stamp) (tick : Bool) (t : Turn) (s : Option ClientSession) → dirty_places t.here.store.pages ≡ [] → writes_by t now tick s ≡ t
+unfolding writes_by write_each
+writes_idle now tick t None e = refl
+writes_idle now tick t (Some s) e = ap (λ xs. write_each s now tick xs t) e
+
+no_places : (ps : Pages) → ps.dirty ≡ [] → dirty_places ps ≡ []
+unfolding dirty_places rising
+no_places ps e = ap (λ (ds : List DirtyPage). dirty_places (record ps { dirty = ds })) e
+
+-- Greeting.
+
+greeting_idle : (now : Stamp) (tick : Bool) (t : Turn) (s : Option ClientSession) → list_any (is_of t.here.server) t.operations ≡ false → greeting_by t now tick s ≡ t
+unfolding greeting_by greet
+greeting_idle now tick t None e = cond_false (must_greet t now tick) _ t (and_left (list_any (is_of t.here.server) t.operations) (is_greeting_due t.config now tick t.here.greeting) e)
+greeting_idle now tick t (Some s) e = refl
+
+-- Requests.
+
+no_asking : (t : Turn) (s : ClientSession) (now : Stamp) (os : List Operation) → list_any (is_of t.here.server) os ≡ false → first_asking t s now os ≡ None
+unfolding first_asking asks_or asked_by
+no_asking t s now [] e = refl
+no_asking t s now (o ∷ os) e =
+    let p = or_parts (is_of t.here.server o) (list_any (is_of t.here.server) os) e in
+    let q : asked_by t s now o ≡ None = cond_false (may_ask t s o) _ None (and_left (is_of t.here.server o) _ p.0) in
+    ap (asks_or o os (first_asking t s now os)) q ∙ ap (λ a. passes.behind o a) (no_asking t s now os p.1)
+
+keep_alive_idle : (t : Turn) (s : ClientSession) (now : Stamp) → is_renewing (phase_of t.config s.lease now) ≡ false → keep_alive t s now ≡ t
+unfolding keep_alive
+keep_alive_idle t s now e = cond_false (is_renewing (phase_of t.config s.lease now)) _ t e
+
+either_same : (b : Bool) (x y t : Turn) → x ≡ t → y ≡ t → cond b x y ≡ t
+either_same true x y t e f = e
+either_same false x y t e f = f
+
+next_idle : (t : Turn) (s : ClientSession) (now : Stamp) → list_any (is_of t.here.server) t.operations ≡ false → is_renewing (phase_of t.config s.lease now) ≡ false → ask_next t s now ≡ t
+unfolding ask_next ask_for_or
+next_idle t s now e f =
+    either_same (is_serving t.config s now) _ (keep_alive t s now) t (ap (ask_for_or t s now) (no_asking t s now t.operations e) ∙ keep_alive_idle t s now f) (keep_alive_idle t s now f)
+
+new_idle : (t : Turn) (s : ClientSession) (now : Stamp) (rs : List Release) → list_any (is_of t.here.server) t.operations ≡ false → is_any rs ≡ false →
+    is_renewing (phase_of t.config s.lease now) ≡ false → ask_by t s now rs ≡ t
+unfolding ask_by
+new_idle t s now [] e r f = next_idle t s now e f
+new_idle t s now (x ∷ rs) e r f = cc
+
+at_idle : (t : Turn) (s : ClientSession) (now : Stamp) (tick : Bool) (q : Option Request) → list_any (is_of t.here.server) t.operations ≡ false →
+    cond (is_some q) tick (s.due || (is_any s.releases || is_renewing (phase_of t.config s.lease now))) ≡ false → requests_at t s now tick q ≡ t
+unfolding requests_at ask_new repeat
+at_idle t s now tick None e f =
+    let p = or_parts s.due (is_any s.releases || is_renewing (phase_of t.config s.lease now)) f in
+    let r = or_parts (is_any s.releases) (is_renewing (phase_of t.config s.lease now)) p.1 in
+    cond_false s.due _ (ask_by t s now s.releases) p.0 ∙ new_idle t s now s.releases e r.0 r.1
+at_idle t s now tick (Some q) e f = cond_false (is_old t.config now tick q) _ t (and_left tick _ f)
+
+requests_idle : (now : Stamp) (tick : Bool) (t : Turn) (s : ClientSession) → list_any (is_of t.here.server) t.operations ≡ false → may_send t.config now tick s ≡ false → requests_by t now tick (Some s) ≡ t
+unfolding requests_by requests_under
+requests_idle now tick t s e f = either_same s.lease.condemned t (requests_at t s now tick s.requests.asked) t refl (at_idle t s now tick s.requests.asked e f)
+
+-- All passes.
+
+with_session_idle : (now : Stamp) (tick : Bool) (t : Turn) (o : Option ClientSession) → t.here.session ≡ o → list_any (is_of t.here.server) t.operations ≡ false →
+    is_awake_by t.config now tick t.here.store o ≡ false → passes.passes now tick t ≡ t
+unfolding passes.passes greeting writes writes_by requests requests_by
+with_session_idle now tick t None h e f =
+    ap (λ u. requests now tick (greeting now tick (writes now tick (reductions u)))) (operations_idle now t e)
+    ∙ ap (λ u. requests now tick (greeting now tick (writes now tick u))) (reductions_idle t (ap passes.files_demanded h))
+    ∙ ap (λ u. requests now tick (greeting now tick u)) (ap (writes_by t now tick) h)
+    ∙ ap (requests now tick) (greeting_idle now tick t t.here.session e)
+    ∙ ap (requests_by t now tick) h
+with_session_idle now tick t (Some s) h e f =
+    let p = or_parts (is_any (demanded_files s.locks)) (is_any t.here.store.pages.dirty || may_send t.config now tick s) f in
+    let q = or_parts (is_any t.here.store.pages.dirty) (may_send t.config now tick s) p.1 in
+    ap (λ u. requests now tick (greeting now tick (writes now tick (reductions u)))) (operations_idle now t e)
+    ∙ ap (λ u. requests now tick (greeting now tick (writes now tick u))) (reductions_idle t (ap passes.files_demanded h ∙ none_there (demanded_files s.locks) p.0))
+    ∙ ap (λ u. requests now tick (greeting now tick u)) (writes_idle now tick t t.here.session (no_places t.here.store.pages (none_there t.here.store.pages.dirty q.0)))
+    ∙ ap (requests now tick) (greeting_idle now tick t t.here.session e)
+    ∙ ap (requests_by t now tick) h
+    ∙ requests_idle now tick t s e q.1
+
+pub idle_passes : (now : Stamp) (tick : Bool) (operations : List Operation) (a : ClientAssociation) (b d : Bool) → b ≡ list_any (is_of a.here.server) operations → (d ≡ false → is_awake a.config now tick a.here ≡ false) →
+    (b || d) ≡ false → IsIdle (passes.passes now tick) operations a
+idle_passes now tick os a b d e g f t h k o =
+    let p = or_parts b d f in
+    with_session_idle now tick t t.here.session refl (ap (λ x. list_any (is_of x.server) t.operations) h ∙ ap (list_any (is_of a.here.server)) o ∙ sym e ∙ p.0)
+    (ap (λ c. is_awake c now tick t.here) k ∙ ap (λ x. is_awake a.config now tick x) h ∙ g p.1)

@@ -1,0 +1,10 @@
+use Rattle.std.proofs.Common.{ap, ◌∙◌}
+use Rattle.std.specs.Prelude.{◌==◌}
+use Rattle.st_rules.specs.Keys.{server_node}
+use Rattle.st_client.proofs.Sleeping.{idle_hear}
+use Rattle.st_client.proofs.rules.HearRule.touches.Goals as goal
+
+pub returns : goal.returns
+returns c =
+    idle_hear c.args.self.now.now c.args.self.now.header c.args.self.now.body _ c.args.a.now c.is_from.result
+    (c.is_from.ensures ∙ ap (λ s. c.args.self.now.header.from == server_node s) c.server.ensures)

@@ -1,0 +1,11 @@
+pub mod Rules
+pub mod Working
+pub mod Asking
+pub mod Replying
+pub mod Losing
+pub mod Step
+pub mod Contents
+pub mod Client
+pub mod Others
+pub mod Ending
+pub mod Run
