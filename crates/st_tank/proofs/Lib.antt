@@ -1,1 +1,2 @@
 mod Prefixed
+mod Statuses

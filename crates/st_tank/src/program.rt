@@ -4,12 +4,12 @@ ghost use Rattle.st_link.specs.Causes.{Rose};
 ghost use Rattle.st_link.specs.Prefixes.{AppendsPrefix};
 ghost use Rattle.st_replay.specs.Ends.{IsCutOff};
 ghost use Rattle.st_replay.specs.Replay.{replay_of, report_of};
-ghost use Rattle.st_tank.specs.Status.{status_of};
+ghost use Rattle.st_tank.specs.Status.{status_in, status_of};
 ghost use Rattle.st_tank.specs.Words as words_of;
 ghost use Rattle.st_tank.specs.Words.{complaint};
 
 use st_link::{Sink, Source, put_all};
-use st_replay::ReplayFault;
+use st_replay::{ReplayFault, Summary, World};
 use std::alloc::Global;
 
 const REPLAY: &[u8] = b"replay";
@@ -26,6 +26,19 @@ fn are_right(words: &[String]) -> bool
     }
 }
 
+/// The status of a replay that ended so.
+fn status_after(ended: &Result<(Summary, World), ReplayFault>) -> u8
+    ensures { result ≡ status_in ended.now }
+{
+    match ended {
+        Ok(_) => 0,
+        Err(ReplayFault::Line(..)) => 1,
+        Err(ReplayFault::Read) => 3,
+        Err(ReplayFault::Write) => 4,
+        Err(ReplayFault::Memory) => 5,
+    }
+}
+
 /// Replays a schedule. Returns 0 or 1, 3 for a failed read, 4 for a failed write, and 5 where memory ran out.
 fn replay<I: Source, O: Sink>(alloc: Global, input: &mut I, out: &mut O) -> u8
     ensures report { result ≤ 1 → IfSome (I.left input.old) (λ bytes.
@@ -39,13 +52,8 @@ fn replay<I: Source, O: Sink>(alloc: Global, input: &mut I, out: &mut O) -> u8
     ensures other { ¬ (result ≡ 2) }
     ensures known { result ≤ 5 }
 {
-    match st_replay::replay(alloc, input, out) {
-        Ok(_) => 0,
-        Err(ReplayFault::Line(..)) => 1,
-        Err(ReplayFault::Read) => 3,
-        Err(ReplayFault::Write) => 4,
-        Err(ReplayFault::Memory) => 5,
-    }
+    let ended = st_replay::replay(alloc, input, out);
+    status_after(&ended)
 }
 
 /// Writes a text to the error sink, and returns whether all of it was written.
