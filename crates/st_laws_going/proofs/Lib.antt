@@ -1,0 +1,4 @@
+pub mod Walking
+pub mod Hearing
+pub mod Requesting
+pub mod Step

@@ -1,0 +1,2 @@
+//! Outstanding requests go on under their locks, in every run.
+#![tactic(auto)]
