@@ -55,12 +55,12 @@ module _ (w v : World) (stays : Stays w v) (right : Asked_right w) where
       by (inr u) =
           record {
             sent = λ m ino rows h r. absurd (u.sent m ino rows (stays.messages m h a.server r.from) r);
-            kept = λ run ino rows k. let y = n.2.kept run (client c) a.life.0 q.number ino rows k in absurd (u.kept n.0 n.1 y.0 ino rows y.1.0);
+            kept = λ run ino rows k. let y = n.2.kept run (client c) a.life.0 q.number ino rows k in absurd (u.kept n.0 n.1 y.0 ino rows y.1);
           }
       by (inl o) =
           record {
             sent = λ m ino rows h r. told ino rows (old.sent m ino rows (stays.messages m h a.server r.from) (replies_then c a o.by x o.session q o.request m ino rows o.server o.life o.epoch o.number r));
-            kept = λ run ino rows k. let y = n.2.kept run (client c) a.life.0 q.number ino rows k in told ino rows (old.kept y.0 ino rows (subst (λ l. Kept_rows n.0.state.sessions (client c) l o.request.number ino rows) (sym o.life) (subst (λ j. Kept_rows n.0.state.sessions (client c) a.life.0 j ino rows) (sym o.number) y.1.0)));
+            kept = λ run ino rows k. let y = n.2.kept run (client c) a.life.0 q.number ino rows k in told ino rows (old.kept y.0 ino rows (subst (λ l. Kept_rows n.0.state.sessions (client c) l o.request.number ino rows) (sym o.life) (subst (λ j. Kept_rows n.0.state.sessions (client c) a.life.0 j ino rows) (sym o.number) y.1)));
           }
         where
           old : Replies_right w c o.by o.session o.request n.0
