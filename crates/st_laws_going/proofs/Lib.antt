@@ -1,6 +1,9 @@
-pub mod Walking
-pub mod Hearing
-pub mod Requesting
-pub mod Step
-pub mod Keys
-pub mod Seen
+mod Walking
+mod Hearing
+mod Requesting
+mod Step
+mod Keys
+mod Seen
+mod World
+mod Taking
+pub mod Law
