@@ -1,7 +1,6 @@
 -- What a message that is heard leaves of the requests of a session: they go on.
-use Rattle.std.proofs.Common.{◌≡◌, ℕ, ◌≤◌, ◌<◌, Bool, true, false, ◌==◌, List, Option, Some, None, refl, sym, ap, subst, arith, if◌then◌else◌}
+use Rattle.std.proofs.Common.{◌≡◌, ℕ, ◌≤◌, ◌<◌, Bool, true, false, ◌==◌, List, Option, Some, None, refl, sym, subst, arith, if◌then◌else◌}
 use Rattle.st_base.specs.declared.ids.Epoch.{Epoch}
-use Rattle.st_base.specs.declared.ids.GrantNo.{GrantNo}
 use Rattle.st_base.specs.declared.ids.PageNo.{PageNo}
 use Rattle.st_base.specs.declared.ids.ServerId.{ServerId}
 use Rattle.st_base.specs.declared.ids.Stamp.{Stamp}
@@ -18,14 +17,13 @@ use Rattle.st_messages.specs.declared.message.Why.{Why}
 use Rattle.st_messages.specs.declared.message.Why.TheVariants as why
 use Rattle.st_rules.specs.declared.client.HeldLock.{HeldLock}
 use Rattle.st_rules.specs.declared.client.Request.{Request}
-use Rattle.st_rules.specs.Keys.{server_node}
 use Rattle.st_lemmas.proofs.Tables.{and_true}
-use Rattle.std.proofs.lemmas.Bool.{eqb-true, ltb-true}
+use Rattle.std.proofs.lemmas.Bool.{ltb-true}
 use Rattle.st_rules.specs.ClientLocks as locks
 use Rattle.st_rules.specs.ClientReplies as cr
 use Rattle.st_rules.specs.ClientState as state
 use Rattle.st_rules.specs.ClientState.{Association, ClientSession, Turn, answer_each, answered, is_at, is_file, is_open_file, keep, only_at, send, with_session, with_store}
-use Rattle.st_laws_extents.specs.Current.{Lock_seen, Locks_go_on}
+use Rattle.st_laws_extents.specs.Current.{Lock_seen}
 use Rattle.st_laws_extents.proofs.Current.{law}
 use Rattle.st_laws_going.specs.Going.{Before, Free, Of, Stand}
 use Rattle.st_laws_going.proofs.Walking as walk

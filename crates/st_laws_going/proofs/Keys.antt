@@ -1,5 +1,5 @@
 -- Every event: replies of extents answer requests that were sent.
-use Rattle.std.proofs.Common.{◌≡◌, ◌≢◌, ◌⊎◌, ℕ, ◌+◌, true, List, Some, refl, sym, ap, ◌∙◌, subst, inl, inr, arith}
+use Rattle.std.proofs.Common.{◌≡◌, ◌≢◌, ◌⊎◌, ℕ, ◌+◌, true, List, Some, sym, ap, ◌∙◌, subst, inl, inr, arith}
 use Rattle.st_base.specs.declared.ids.ClientId.{ClientId}
 use Rattle.st_base.specs.declared.ids.ServerId.{ServerId}
 use Rattle.st_base.specs.declared.rows.ExtentRow.{ExtentRow}
@@ -15,7 +15,7 @@ use Rattle.st_lemmas.proofs.Numbers.{numbered_below, numbered_other, numbered_ow
 use Rattle.st_lemmas.proofs.Tables.{same_or_not}
 use Rattle.st_laws_dates.specs.Dates.{messages}
 use Rattle.st_laws_told.specs.Events.{Event_tells, Server_steps, Stays}
-use Rattle.st_laws_told.specs.Steps.{Answers_now, Kept_rows, Step_tells, Told_by}
+use Rattle.st_laws_told.specs.Steps.{Kept_rows, Step_tells, Told_by}
 use Rattle.st_laws_told.proofs.Step.{step_tells}
 use Rattle.st_laws_going.specs.Keys.{Has_key, Keys_told}
 

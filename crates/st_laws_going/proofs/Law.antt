@@ -1,20 +1,18 @@
 -- Outstanding requests go on: at the start, behind every event, and over whole runs.
-use Rattle.std.proofs.Common.{◌≡◌, ◌⊎◌, ℕ, ◌+◌, Bool, true, false, List, [], ◌∷◌, ◌++◌, Option, Some, None, Ok, refl, sym, ap, ◌∙◌, subst, inl, inr}
+use Rattle.std.proofs.Common.{◌≡◌, ℕ, ◌+◌, Bool, true, false, List, [], ◌∷◌, ◌++◌, Option, Some, None, Ok, refl, sym, ap, ◌∙◌, subst, inl, inr}
 use Rattle.st_base.specs.declared.config.Config as base
 use Rattle.st_messages.specs.declared.event.Event.{Event}
 use Rattle.st_messages.specs.declared.message.Message.{Message}
-use Rattle.st_rules.specs.ClientState.{Association, ClientSession}
-use Rattle.st_rules.specs.declared.client.Request.{Request}
 use Rattle.st_rules.specs.Events.{Scene, counted, happens, world_step}
 use Rattle.st_rules.specs.History.{Traced, traced, traced_after}
-use Rattle.st_rules.specs.Safety.{IsHead, Step, is_event, step}
+use Rattle.st_rules.specs.Safety.{Step, is_event, step}
 use Rattle.std.specs.Prelude.{find}
 use Rattle.st_rules.specs.declared.sessions.Session.{Session}
 use Rattle.st_rules.specs.Extents.{numbers}
 use Rattle.st_rules.specs.Sessions as sessions
 use Rattle.st_lemmas.proofs.Numbers.{numbered_has}
 use Rattle.st_lemmas.proofs.Tables.{has_map}
-use Rattle.st_rules.specs.World.{World, ClientSite, fresh_world, node_at_start}
+use Rattle.st_rules.specs.World.{World, fresh_world, node_at_start}
 use Rattle.st_rules.specs.Server as server
 use Rattle.st_assoc.specs.Assoc.{Config}
 use Rattle.st_lemmas.specs.Lists.{Has}
@@ -27,9 +25,8 @@ use Rattle.st_laws_dates.specs.Dates.{messages}
 use Rattle.st_laws_reads.proofs.Takings.{Takes, takes_event}
 use Rattle.st_laws_cutters.proofs.Law as cutters
 use Rattle.st_laws_extents.specs.Law.{Is_told, Known_after, Submits_at}
-use Rattle.st_laws_told.specs.Law.{Asked_after, In_runs_asked, Is_asked, Requests_go, Untold, Was_asked}
+use Rattle.st_laws_told.specs.Law.{Asked_after, Is_asked, Requests_go}
 use Rattle.st_laws_told.specs.Maps.{Maps_at}
-use Rattle.st_laws_told.specs.Told.{Asked_at}
 use Rattle.st_laws_told.proofs.Events.{event_tells}
 use Rattle.st_laws_told.proofs.Law as told
 use Rattle.st_laws_told.proofs.Heard as heard

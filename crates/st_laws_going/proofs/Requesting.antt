@@ -1,11 +1,8 @@
 -- What a client asks at the end of a step: a new request has the next number, and asks for extents under the grant of its lock.
-use Rattle.std.proofs.Common.{◌≡◌, ℕ, ◌+◌, Bool, true, false, List, [], ◌∷◌, Option, Some, None, refl, sym, ap, ◌∙◌, subst, ◌≤◌, inl, inr, arith, if◌then◌else◌}
+use Rattle.std.proofs.Common.{◌≡◌, ℕ, Bool, true, false, List, [], ◌∷◌, Option, Some, None, refl, subst, ◌≤◌, inr, arith, if◌then◌else◌}
 use Rattle.st_base.specs.declared.ids.GrantNo.{GrantNo}
-use Rattle.st_base.specs.declared.ids.PageNo.{PageNo}
-use Rattle.st_base.specs.declared.ids.ServerId.{ServerId}
 use Rattle.st_base.specs.declared.ids.Stamp.{Stamp}
 use Rattle.st_base.specs.declared.mode.Mode.{Mode}
-use Rattle.st_base.specs.declared.mode.Mode.TheVariants as modes
 use Rattle.st_messages.specs.declared.ask.Ask.{Ask}
 use Rattle.st_messages.specs.declared.ask.Ask.TheVariants as asks
 use Rattle.st_messages.specs.declared.message.Body.{Body}
@@ -21,9 +18,6 @@ use Rattle.st_rules.specs.ClientPasses as cp
 use Rattle.st_rules.specs.ClientState as state
 use Rattle.st_rules.specs.ClientState.{Association, ClientSession, Turn, answer_each, answered, is_at, is_file, is_open_file, keep, only_at, send, with_session, with_store}
 use Rattle.st_lemmas.proofs.Lookups.{some_is}
-use Rattle.st_base.specs.declared.names.NameAsk.{NameAsk}
-use Rattle.st_base.specs.declared.names.NameAsk.TheVariants as names
-use Rattle.st_messages.specs.declared.message.NameOp.TheVariants as ops
 use Rattle.st_base.specs.Mode.{covers}
 use Rattle.st_laws_extents.specs.Current.{Lock_seen}
 use Rattle.st_laws_going.specs.Going.{Before, Free, Of, Request_goes, Stand, Under}

@@ -1,8 +1,5 @@
 -- A client's step behind its losses, at all its servers: the requests of each session go on.
-use Rattle.std.proofs.Common.{◌≡◌, ◌⊎◌, ℕ, Bool, true, false, ◌==◌, List, [], ◌∷◌, refl, sym, ap, ◌∙◌, subst, inl, inr, if◌then◌else◌}
-use Rattle.std.proofs.lemmas.Bool.{eqb-true}
-use Rattle.st_base.specs.declared.ids.GrantNo.{GrantNo}
-use Rattle.st_base.specs.declared.ids.ServerId.{ServerId}
+use Rattle.std.proofs.Common.{◌⊎◌, Bool, true, false, ◌==◌, List, [], ◌∷◌, refl, sym, subst, inl, inr, if◌then◌else◌}
 use Rattle.st_base.specs.declared.ids.Stamp.{Stamp}
 use Rattle.st_messages.specs.declared.answer.AppAnswer.TheVariants as answers
 use Rattle.st_rules.specs.declared.client.ClientInput.{ClientInput}

@@ -1,5 +1,5 @@
 -- An event at which a client takes an input: its outstanding requests go on.
-use Rattle.std.proofs.Common.{◌≡◌, ◌≢◌, ◌⊎◌, ℕ, ◌≤◌, ◌<◌, Bool, true, false, List, [], Option, Some, None, Ok, Err, refl, sym, ap, ◌∙◌, subst, inl, inr, arith, if◌then◌else◌}
+use Rattle.std.proofs.Common.{◌≡◌, ◌≢◌, ◌⊎◌, ℕ, ◌≤◌, Bool, true, false, List, [], Option, Some, None, Ok, Err, refl, sym, ap, ◌∙◌, subst, inl, inr, arith, if◌then◌else◌}
 use Rattle.st_base.specs.declared.ids.ServerId.{ServerId}
 use Rattle.st_messages.specs.declared.message.Body.{Body}
 use Rattle.st_messages.specs.declared.message.Message.{Message}
@@ -13,9 +13,8 @@ use Rattle.st_rules.specs.Events.{Scene, counted}
 use Rattle.st_rules.specs.History.{Traced}
 use Rattle.st_rules.specs.Keys.{client, server_node}
 use Rattle.st_rules.specs.Safety.{Step}
-use Rattle.st_rules.specs.Server.{ServerNode}
 use Rattle.st_rules.specs.Sessions as sessions
-use Rattle.st_rules.specs.World.{World, ClientSite, clock_of, node_of, numbered, site_of, with_numbered}
+use Rattle.st_rules.specs.World.{World, ClientSite, clock_of, numbered, site_of, with_numbered}
 use Rattle.st_assoc.specs.Assoc.{Config}
 use Rattle.st_lemmas.specs.Lists.{Has}
 use Rattle.st_laws_client.specs.Shown.{Lasts}
@@ -27,7 +26,7 @@ use Rattle.st_laws_pages.proofs.Flushing.{pair_of}
 use Rattle.st_laws_pages.proofs.Stepping.{Lost_or_not, losses_left}
 use Rattle.st_laws.specs.World.{AllStand}
 use Rattle.st_laws_copies.specs.World.{Taking, now_at, turn_of}
-use Rattle.st_laws_cuts.specs.Cuts.{Association_ok, Keyed, Numbered, Numbers, view}
+use Rattle.st_laws_cuts.specs.Cuts.{Keyed, Numbered, Numbers, view}
 use Rattle.st_laws_cutters.proofs.Law.{Hold}
 use Rattle.st_laws_cutters.proofs.Standing.{own_session}
 use Rattle.st_laws_dates.specs.Dates.{messages}
@@ -37,7 +36,7 @@ use Rattle.st_laws_extents.proofs.World.{set_cases}
 use Rattle.st_laws_told.specs.Law.{Requests_go, Untold, Was_asked}
 use Rattle.st_laws_told.specs.Told.{Asked_at}
 use Rattle.st_laws_going.specs.Going.{Before, Free, Of, Stand}
-use Rattle.st_laws_going.specs.Keys.{Has_key, Keys_told}
+use Rattle.st_laws_going.specs.Keys.{Keys_told}
 use Rattle.st_laws_going.specs.Seen.{All_seen, any_before, any_free}
 use Rattle.st_laws_going.proofs.Step.{Each, step_goes}
 use Rattle.st_laws_going.proofs.World.{back_same, was_at}

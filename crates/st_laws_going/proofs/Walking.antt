@@ -1,5 +1,5 @@
 -- The rules of a client that ask nothing: its requests go on.
-use Rattle.std.proofs.Common.{◌≡◌, ℕ, ◌≤◌, Bool, true, false, List, [], ◌∷◌, Option, Some, None, Ok, Err, refl, sym, ap, subst, arith, if◌then◌else◌}
+use Rattle.std.proofs.Common.{◌≡◌, ℕ, Bool, true, false, List, [], ◌∷◌, Option, Some, None, Ok, Err, refl, sym, subst, arith, if◌then◌else◌}
 use Rattle.st_base.specs.declared.disk.Tag.{Tag}
 use Rattle.st_base.specs.declared.ids.FileId.{FileId}
 use Rattle.st_base.specs.declared.ids.GrantNo.{GrantNo}
@@ -34,10 +34,9 @@ use Rattle.st_rules.specs.ClientState as state
 use Rattle.st_rules.specs.ClientState.{Association, ClientSession, Turn, answer_each, answered, is_at, is_file, is_open_file, keep, only_at, send, with_session, with_store}
 use Rattle.st_laws_extents.specs.Current.{Lock_seen, Locks_go_on}
 use Rattle.st_laws_extents.proofs.Current.{demands_go_on, grant_goes_on, reduce_goes_on}
-use Rattle.st_laws_going.specs.Going.{Before, Free, Of, Request_goes, Stand, Under}
+use Rattle.st_laws_going.specs.Going.{Before, Free, Of, Stand, Under}
 use Rattle.st_messages.specs.declared.message.Body.{Body}
 use Rattle.st_messages.specs.declared.message.Body.TheVariants as bodies
-use Rattle.st_rules.specs.declared.client.Request.{Request}
 use Rattle.st_rules.specs.ClientReplies.{is_current}
 use Rattle.st_rules.specs.ClientState.{Requests}
 

@@ -1,5 +1,5 @@
 -- Every event: a request that is outstanding under its lock behind an event was so before, or nothing was told under its number.
-use Rattle.std.proofs.Common.{◌≡◌, ◌≢◌, ◌⊎◌, ℕ, ◌≤◌, ◌<◌, Bool, true, false, List, [], ◌∷◌, Option, Some, None, Ok, Err, refl, sym, ap, ◌∙◌, subst, inl, inr, arith, if◌then◌else◌}
+use Rattle.std.proofs.Common.{◌≡◌, ◌≢◌, ◌⊎◌, ℕ, ◌≤◌, Bool, true, false, Option, Some, None, Ok, Err, refl, sym, ap, ◌∙◌, subst, inl, inr, arith, if◌then◌else◌}
 use Rattle.st_base.specs.declared.ids.ClientId.{ClientId}
 use Rattle.st_base.specs.declared.ids.NodeId.{NodeId}
 use Rattle.st_base.specs.declared.ids.NodeId.TheVariants as nodes
@@ -7,7 +7,6 @@ use Rattle.st_base.specs.declared.ids.ServerId.{ServerId}
 use Rattle.st_messages.specs.declared.ask.Ask.{Ask}
 use Rattle.st_messages.specs.declared.event.Event.{Event}
 use Rattle.st_messages.specs.declared.event.Event.TheVariants as events
-use Rattle.st_messages.specs.declared.message.Body.{Body}
 use Rattle.st_messages.specs.declared.message.Message.{Message}
 use Rattle.st_rules.specs.declared.client.ClientInput.{ClientInput}
 use Rattle.st_rules.specs.declared.client.ClientInput.TheVariants as inputs
@@ -32,7 +31,7 @@ use Rattle.st_laws_client.specs.Shown.{Lasts}
 use Rattle.st_laws_pages.specs.Lives.{clock_in}
 use Rattle.st_laws_pages.proofs.Moves.{clock_up}
 use Rattle.st_laws_server.proofs.Delivery.{all_parts}
-use Rattle.st_laws_copies.specs.World.{Taking, asking, hearing, hearing_of, taken, taking, told_at, told_of}
+use Rattle.st_laws_copies.specs.World.{asking, hearing, hearing_of, taken, taking, told_at, told_of}
 use Rattle.st_laws_extents.proofs.World.{set_cases}
 use Rattle.st_laws_told.specs.Law.{Was_asked}
 use Rattle.st_laws_told.specs.Told.{Asked_at}

@@ -1,8 +1,6 @@
 -- What stands of the locks and the requests of all sessions.
-use Rattle.std.specs.Prelude.{◌≡◌, ℕ, Some}
+use Rattle.std.specs.Prelude.{◌≡◌, Some}
 use Rattle.st_base.specs.declared.ids.ClientId.{ClientId}
-use Rattle.st_base.specs.declared.ids.ServerId.{ServerId}
-use Rattle.st_messages.specs.declared.message.Body.{Body}
 use Rattle.st_rules.specs.ClientState.{Association}
 use Rattle.st_rules.specs.World.{World, ClientSite, site_of}
 use Rattle.st_lemmas.specs.Lists.{Has}
