@@ -1,0 +1,2 @@
+//! Where the reads go that clients submit.
+#![tactic(auto)]
