@@ -5,3 +5,5 @@ pub mod Asking
 pub mod Replying
 pub mod Losing
 pub mod Step
+pub mod Lies
+pub mod Run

@@ -65,12 +65,12 @@ both_of now t u v a b =
       reads = λ pc i k. later pc (b.reads pc i k) k;
     }
   where
-    up : {n : ℕ} → t.next_command ≤ n → n < v.next_command → (t.next_command ≤ n) × (n < v.next_command)
-    up {n} l h = (l, h)
+    up : (n : ℕ) → t.next_command ≤ n → n < v.next_command → (t.next_command ≤ n) × (n < v.next_command)
+    up n l h = (l, h)
 
     said : (n : ℕ) (at to : BlockAt) → Has (outputs.Submit n at (commands.Read to)) a.more ⊎ Has (outputs.Submit n at (commands.Read to)) b.more → (t.next_command ≤ n) × (n < v.next_command)
-    said n at to (inl i) = let z = a.fresh n at to i in up {n} z.0 (let h = z.1 in let y = b.low in omega (arith, h, y))
-    said n at to (inr i) = let z = b.fresh n at to i in up {n} (let l = z.0 in let y = a.low in omega (arith, l, y)) z.1
+    said n at to (inl i) = let z = a.fresh n at to i in up n z.0 (let h = z.1 in let y = b.low in omega (arith, h, y))
+    said n at to (inr i) = let z = b.fresh n at to i in up n (let l = z.0 in let y = a.low in omega (arith, l, y)) z.1
 
     to_both : (pc : PageCommand) → Goes_to v.here.store pc a.more → Goes_to v.here.store pc b.more → Goes_to v.here.store pc (a.more ++ b.more)
     to_both pc f g at to i = go (has_append a.more b.more (outputs.Submit pc.number at (commands.Read to)) i)
@@ -187,12 +187,12 @@ begun now t ino p kind at what u out next cs xs known =
     what_is : (n : ℕ) (b : BlockAt) (w : Command) → outputs.Submit n b w ≡ outputs.Submit t.next_command at what → w ≡ what
     what_is n b w e = cc
 
-    within : {n : ℕ} → t.next_command ≤ n → n < u.next_command → (t.next_command ≤ n) × (n < u.next_command)
-    within {n} l h = (l, h)
+    within : (n : ℕ) → t.next_command ≤ n → n < u.next_command → (t.next_command ≤ n) × (n < u.next_command)
+    within n l h = (l, h)
 
     numbers : (n : ℕ) (b : BlockAt) (w : Command) → Has (outputs.Submit n b w) os → (t.next_command ≤ n) × (n < u.next_command)
     numbers n b w (inr i) = absurd i
-    numbers n b w (inl e) = let q = number_is n b w e in within {n} (omega (arith, q)) (let z = next in omega (arith, q, z))
+    numbers n b w (inl e) = let q = number_is n b w e in within n (omega (arith, q)) (let z = next in omega (arith, q, z))
 
     to_known : (pc : PageCommand) → pc ≡ pages.page_command t.next_command ino p kind → pc.kind ≡ io.Read → Goes_to u.here.store pc os
     to_known pc q k b to (inr i) = absurd i
