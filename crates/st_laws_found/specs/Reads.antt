@@ -57,7 +57,8 @@ pub record Lies_at (w : World) (a : Association) (pc : PageCommand) (to : BlockA
 -- Each read that a step of a client that runs submits goes to where the server has its page.
 abbrev pub Reads_lie : Taking → Type 0
 Reads_lie x =
-    x.site.node.running ≡ true → (a : Association) → Has a (turn_of x).state.associations → (pc : PageCommand) → Has pc a.store.commands → pc.kind ≡ io.Read →
+    x.site.node.running ≡ true → (a : Association) → Has a (turn_of x).state.associations →
+    (pc : PageCommand) → Has pc a.store.commands → pc.kind ≡ io.Read →
     (at to : BlockAt) → Has (outputs.Submit pc.number at (commands.Read to)) (turn_of x).out → Lies_at x.world a pc to
 
 -- Where the server has a page is what a client that runs knows of it.

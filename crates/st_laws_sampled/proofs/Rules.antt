@@ -26,7 +26,7 @@ use Rattle.st_rules.specs.ClientPasses as passes
 use Rattle.st_rules.specs.ClientState.{ClientSession, Turn, answered, is_serving, keep, note, say, with_operations, with_session, with_store}
 use Rattle.st_lemmas.specs.Lists.{Has}
 use Rattle.st_lemmas.proofs.Contents.{find_stays, one_place}
-use Rattle.st_lemmas.proofs.Tables.{and_true, has_append, has_filter, not_true, same_or_not, some_passes}
+use Rattle.st_lemmas.proofs.Tables.{and_true, has_append, has_filter, not_true, some_passes}
 use Rattle.st_laws_pages.specs.Client.{Changes_page, Goes_on, Plain, with_greeted}
 use Rattle.st_laws_pages.proofs.Clash.{clash}
 use Rattle.st_laws_pages.proofs.Nexts.{append_assoc, empty_right}
@@ -84,12 +84,12 @@ both_of now t u v a b =
     earlier pc q (inl h) = inl (h.0, λ m e. q m (h.1 m e))
     earlier pc q (inr h) =
         inr (
-          record {
-            low = h.low;
-            high = (let x = h.high in let y = b.low in omega (arith, x, y));
-            to = to_both pc (λ at to i. let z = h.to at to i in record { mapping = z.mapping; is = q z.mapping z.is; at = z.at })
-                (λ at to i. let z = (b.fresh pc.number at to i).0 in let x = h.high in absurd (omega (arith, z, x)));
-          }
+        record {
+          low = h.low;
+          high = (let x = h.high in let y = b.low in omega (arith, x, y));
+          to = to_both pc (λ at to i. let z = h.to at to i in record { mapping = z.mapping; is = q z.mapping z.is; at = z.at })
+              (λ at to i. let z = (b.fresh pc.number at to i).0 in let x = h.high in absurd (omega (arith, z, x)));
+        }
         )
 
     later : (pc : PageCommand) → (Has pc u.here.store.commands × Stays_known u.here.store v.here.store pc) ⊎ Begun u v b.more pc → pc.kind ≡ io.Read →
@@ -97,11 +97,11 @@ both_of now t u v a b =
     later pc (inl h) k = earlier pc h.1 (a.reads pc h.0 k)
     later pc (inr h) k =
         inr (
-          record {
-            low = (let x = a.low in let l = h.low in omega (arith, l, x));
-            high = h.high;
-            to = to_both pc (λ at to i. let z = (a.fresh pc.number at to i).1 in let l = h.low in absurd (omega (arith, z, l))) h.to;
-          }
+        record {
+          low = (let x = a.low in let l = h.low in omega (arith, l, x));
+          high = h.high;
+          to = to_both pc (λ at to i. let z = (a.fresh pc.number at to i).1 in let l = h.low in absurd (omega (arith, z, l))) h.to;
+        }
         )
 
 pub both : {now : Stamp} {t u v : Turn} → Changes now t u → Changes now u v → Changes now t v

@@ -1,5 +1,5 @@
 -- The reads that a whole step of a client submits: where they go, the step knows that their pages lie.
-use Rattle.std.proofs.Common.{◌≡◌, ℕ, ◌≤◌, ◌<◌, ◌⊎◌, Bool, true, false, ◌==◌, List, [], ◌∷◌, ◌++◌, Option, Some, None, refl, sym, ap, ◌∙◌, subst, inl, inr, arith, if◌then◌else◌}
+use Rattle.std.proofs.Common.{◌≡◌, ℕ, ◌<◌, ◌⊎◌, Bool, true, false, ◌==◌, List, [], ◌∷◌, refl, sym, ◌∙◌, subst, inl, inr, arith, if◌then◌else◌}
 use Rattle.st_base.specs.declared.disk.BlockAt.{BlockAt}
 use Rattle.st_base.specs.declared.disk.Command.{Command}
 use Rattle.st_base.specs.declared.disk.Command.TheVariants as commands
@@ -26,9 +26,9 @@ use Rattle.st_laws_pages.proofs.Flushing.{pair_of}
 use Rattle.st_laws_pages.proofs.Nexts.{empty_right}
 use Rattle.st_laws_pages.proofs.Stepping.{Losses_left, Lost_or_not, losses_left, pairs_has}
 use Rattle.st_laws_submits.proofs.Quiet.{All_quiet, losses_quiet}
-use Rattle.st_laws_sampled.specs.Sampled.{All_sent, Begun, Calm, Goes_to, Known_to, None_sent, Reads_sent, Sent_right, Stays_known, Submits_none}
+use Rattle.st_laws_sampled.specs.Sampled.{All_sent, Begun, Calm, Known_to, None_sent, Reads_sent, Sent_right, Stays_known, Submits_none}
 use Rattle.st_laws_sampled.proofs.Asking.{c_passes}
-use Rattle.st_laws_sampled.proofs.Calm.{answers_none, both_none, both_of, none_said, plain_none}
+use Rattle.st_laws_sampled.proofs.Calm.{both_none, both_of, none_said, plain_none}
 use Rattle.st_laws_sampled.proofs.Losing.{Finished, c_only, finish_is, is_done}
 use Rattle.st_laws_sampled.proofs.Replying.{c_hear}
 

@@ -1,4 +1,4 @@
--- The passes of a client at a server are lists of changes: operations, reductions, writes and greeting.
+-- The passes of a client at a server leave reads right: operations, reductions, writes and greeting.
 use Rattle.std.proofs.Common.{◌≡◌, ℕ, Bool, true, false, not, List, [], ◌∷◌, ◌==◌, Option, Some, None, Ok, Err, refl, ap, ◌∙◌, if◌then◌else◌}
 use Rattle.std.proofs.lemmas.Bool.{eqb-true}
 use Rattle.st_base.specs.declared.ids.FileId.{FileId}
