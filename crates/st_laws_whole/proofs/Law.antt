@@ -1,4 +1,4 @@
--- What replies tell is right in every run: so reads return the last writes where they go to where the server has the page.
+-- What replies tell is right in every run: so reads return the last writes.
 use Rattle.std.proofs.Common.{List, [], ◌∷◌, ◌++◌, Option, Some, None}
 use Rattle.st_rules.specs.declared.client.ClientInput.{ClientInput}
 use Rattle.st_rules.specs.declared.client.ClientInput.TheVariants as inputs
@@ -12,10 +12,10 @@ use Rattle.st_laws_extents.specs.Law.{Is_told}
 use Rattle.st_laws_found.specs.Law.{Input_maps, Taken_maps}
 use Rattle.st_laws_going.proofs.Law as going
 use Rattle.st_laws_pages.specs.Runs.{Pages_after}
-use Rattle.st_laws_placed.specs.Law.{In_runs_told_so, Is_told_so}
-use Rattle.st_laws_placed.proofs.Run as placed
+use Rattle.st_laws_sampled.specs.Law.{Is_told_right}
+use Rattle.st_laws_sampled.proofs.Run as sampled
 use Rattle.st_laws_told.specs.Maps.{Input_mapped, Maps_at, Taken_mapped}
-use Rattle.st_laws_whole.specs.Law.{In_runs_reads_right, Maps_tell_right, Reads_go_right}
+use Rattle.st_laws_whole.specs.Law.{Maps_tell_right}
 
 -- the same of an input, and of what is taken
 input_maps : (x : Taking) (i : ClientInput) → Input_mapped x i → Input_maps x i
@@ -38,19 +38,18 @@ pub maps_right : In_every_run Maps_tell_right
 maps_right k clients servers disks blocks form es head events =
     all_maps [] (steps es (traced (fresh_world k clients servers disks blocks form))) (going.maps_at k clients servers disks blocks form es head events)
 
--- three promises at once
-all_so : (past xs : List Step) → Throughout Is_told past xs → Throughout Maps_tell_right past xs → Throughout Reads_go_right past xs → Throughout Is_told_so past xs
+-- both promises at once
+all_right : (past xs : List Step) → Throughout Is_told past xs → Throughout Maps_tell_right past xs → Throughout Is_told_right past xs
 unfolding Throughout
-all_so past [] h m r = tt
-all_so past (x ∷ xs) h m r = (record { told = h.0; maps = m.0; reads = r.0 }, all_so (past ++ x ∷ []) xs h.1 m.1 r.1)
+all_right past [] h m = tt
+all_right past (x ∷ xs) h m = (record { told = h.0; maps = m.0 }, all_right (past ++ x ∷ []) xs h.1 m.1)
 
-so : (promise : Promise) → In_runs_told_so promise → In_runs_reads_right promise
-so promise f k clients servers disks blocks form es head events r =
-    f k clients servers disks blocks form es head events
-    (all_so [] (steps es (traced (fresh_world k clients servers disks blocks form))) (going.is_told k clients servers disks blocks form es head events) (maps_right k clients servers disks blocks form es head events) r)
+right : In_every_run Is_told_right
+right k clients servers disks blocks form es head events =
+    all_right [] (steps es (traced (fresh_world k clients servers disks blocks form))) (going.is_told k clients servers disks blocks form es head events) (maps_right k clients servers disks blocks form es head events)
 
-pub reads : In_runs_reads_right ReadsReturnLastWrites
-reads = so ReadsReturnLastWrites placed.reads
+pub reads : In_every_run ReadsReturnLastWrites
+reads k clients servers disks blocks form es head events = sampled.reads k clients servers disks blocks form es head events (right k clients servers disks blocks form es head events)
 
-pub pages : In_runs_reads_right Pages_after
-pages = so Pages_after placed.pages
+pub pages : In_every_run Pages_after
+pages k clients servers disks blocks form es head events = sampled.pages k clients servers disks blocks form es head events (right k clients servers disks blocks form es head events)

@@ -1,5 +1,5 @@
 use Rattle.st_laws_whole.proofs.Law.{pages, reads}
-use Rattle.st_laws_whole.proofs.runs_read_where_reads_go_right.Goals as goal
+use Rattle.st_laws_whole.proofs.runs_read.Goals as goal
 
 pub returns-clause-reads : goal.returns-clause-reads
 returns-clause-reads c = reads
