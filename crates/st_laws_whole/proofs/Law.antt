@@ -4,7 +4,7 @@ use Rattle.st_rules.specs.declared.client.ClientInput.{ClientInput}
 use Rattle.st_rules.specs.declared.client.ClientInput.TheVariants as inputs
 use Rattle.st_rules.specs.Events.{counted}
 use Rattle.st_rules.specs.History.{traced}
-use Rattle.st_rules.specs.Safety.{Promise, ReadsReturnLastWrites, Step, Throughout, steps}
+use Rattle.st_rules.specs.Safety.{ReadsReturnLastWrites, Step, Throughout, steps}
 use Rattle.st_rules.specs.World.{fresh_world}
 use Rattle.st_laws.specs.Law.{In_every_run}
 use Rattle.st_laws_copies.specs.World.{Taking, taken}
