@@ -1,10 +1,10 @@
--- What replies tell is right in every run: so reads return the last writes, and the pages hold.
+-- What replies tell is right in every run: so reads return the last writes.
 use Rattle.std.proofs.Common.{List, [], ◌∷◌, ◌++◌, Option, Some, None}
 use Rattle.st_rules.specs.declared.client.ClientInput.{ClientInput}
 use Rattle.st_rules.specs.declared.client.ClientInput.TheVariants as inputs
 use Rattle.st_rules.specs.Events.{counted}
 use Rattle.st_rules.specs.History.{traced}
-use Rattle.st_rules.specs.Safety.{Promise, ReadsReturnLastWrites, Step, Throughout, steps}
+use Rattle.st_rules.specs.Safety.{ReadsReturnLastWrites, Step, Throughout, steps}
 use Rattle.st_rules.specs.World.{fresh_world}
 use Rattle.st_laws.specs.Law.{In_every_run}
 use Rattle.st_laws_copies.specs.World.{Taking, taken}
@@ -12,7 +12,7 @@ use Rattle.st_laws_extents.specs.Law.{Is_told}
 use Rattle.st_laws_found.specs.Law.{Input_maps, Taken_maps}
 use Rattle.st_laws_going.proofs.Law as going
 use Rattle.st_laws_pages.specs.Runs.{Pages_after}
-use Rattle.st_laws_sampled.specs.Law.{In_runs_told_right, Is_told_right}
+use Rattle.st_laws_sampled.specs.Law.{Is_told_right}
 use Rattle.st_laws_sampled.proofs.Run as sampled
 use Rattle.st_laws_told.specs.Maps.{Input_mapped, Maps_at, Taken_mapped}
 use Rattle.st_laws_whole.specs.Law.{Maps_tell_right}
@@ -44,13 +44,12 @@ unfolding Throughout
 all_right past [] h m = tt
 all_right past (x ∷ xs) h m = (record { told = h.0; maps = m.0 }, all_right (past ++ x ∷ []) xs h.1 m.1)
 
-everywhere : (promise : Promise) → In_runs_told_right promise → In_every_run promise
-everywhere promise f k clients servers disks blocks form es head events =
-    f k clients servers disks blocks form es head events
-    (all_right [] (steps es (traced (fresh_world k clients servers disks blocks form))) (going.is_told k clients servers disks blocks form es head events) (maps_right k clients servers disks blocks form es head events))
+right : In_every_run Is_told_right
+right k clients servers disks blocks form es head events =
+    all_right [] (steps es (traced (fresh_world k clients servers disks blocks form))) (going.is_told k clients servers disks blocks form es head events) (maps_right k clients servers disks blocks form es head events)
 
 pub reads : In_every_run ReadsReturnLastWrites
-reads = everywhere ReadsReturnLastWrites sampled.reads
+reads k clients servers disks blocks form es head events = sampled.reads k clients servers disks blocks form es head events (right k clients servers disks blocks form es head events)
 
 pub pages : In_every_run Pages_after
-pages = everywhere Pages_after sampled.pages
+pages k clients servers disks blocks form es head events = sampled.pages k clients servers disks blocks form es head events (right k clients servers disks blocks form es head events)

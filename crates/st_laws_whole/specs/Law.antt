@@ -1,4 +1,4 @@
--- What a map's reply tells is right at each step.
+-- What a map's reply tells, at each step.
 use Rattle.st_rules.specs.Events.{counted}
 use Rattle.st_rules.specs.Safety.{Promise}
 use Rattle.st_laws_copies.specs.World.{taken}
