@@ -184,7 +184,7 @@ module _ (asks : ℕ → ℕ → Option Ask) (k : Config) (count : ℕ) (past mo
       go : (wh : Command) → n.what ≡ wh → Read_right sc.world sc.world.log b pc d
       go (commands.Write at tag bytes) h = let z = both_v.writes.commands.writes j y d at tag bytes yi di (n.what_is ∙ h) in absurd (none_some z.carried (sym carries ∙ z.is))
       go (commands.Read to) h =
-          let l = lies b i pc m r n.at to (subst (λ v. Has (outputs.Submit v n.at (commands.Read to)) T.out) its.number_is (subst (λ v. Has (outputs.Submit y.number n.at v) T.out) h n.said)) in
+          let l = lies runs b i pc m r n.at to (subst (λ v. Has (outputs.Submit v n.at (commands.Read to)) T.out) its.number_is (subst (λ v. Has (outputs.Submit y.number n.at v) T.out) h n.said)) in
           record { extent = l.extent; is = mapped_there (file_at b pc.ino) pc.page ∙ l.is; what = n.what_is ∙ h ∙ ap (λ v. commands.Read v) (sym l.at); sampled = λ u z. absurd (no_sample u (sym n.fresh ∙ z)) }
 
   -- one that was outstanding

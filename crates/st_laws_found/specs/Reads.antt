@@ -1,5 +1,5 @@
 -- What reads of pages found that are outstanding: the content of the page.
-use Rattle.std.specs.Prelude.{◌≡◌, ℕ, List, Some}
+use Rattle.std.specs.Prelude.{◌≡◌, ℕ, true, List, Some}
 use Rattle.st_base.specs.declared.ids.PageNo.{PageNo}
 use Rattle.st_base.specs.declared.disk.BlockAt.{BlockAt}
 use Rattle.st_base.specs.declared.disk.Command.TheVariants as commands
@@ -54,10 +54,11 @@ pub record Lies_at (w : World) (a : Association) (pc : PageCommand) (to : BlockA
   pub is : mapped_in w (file_at a pc.ino) pc.page ≡ Some extent
   pub at : extent.at ≡ to
 
--- Each read that a step submits goes to where the server has its page.
+-- Each read that a step of a client that runs submits goes to where the server has its page.
 abbrev pub Reads_lie : Taking → Type 0
 Reads_lie x =
-    (a : Association) → Has a (turn_of x).state.associations → (pc : PageCommand) → Has pc a.store.commands → pc.kind ≡ io.Read →
+    x.site.node.running ≡ true → (a : Association) → Has a (turn_of x).state.associations →
+    (pc : PageCommand) → Has pc a.store.commands → pc.kind ≡ io.Read →
     (at to : BlockAt) → Has (outputs.Submit pc.number at (commands.Read to)) (turn_of x).out → Lies_at x.world a pc to
 
 -- Where the server has a page is what a client that runs knows of it.

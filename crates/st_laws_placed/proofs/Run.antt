@@ -46,7 +46,7 @@ use Rattle.st_laws_found.proofs.Run.{Reads_stand}
 use Rattle.st_laws_placed.specs.Law.{In_runs_told_so, Is_told_so}
 
 -- What clients know, as it is asked for.
-known_right : (w : World) → All_know w → Known_right w
+pub known_right : (w : World) → All_know w → Known_right w
 known_right w h c site run a i l ino p m e = go (store.known_of a.store.extents ino p) refl e
   where
     none_some : ◌≡◌ {A = Option Mapping} None (Some m) → ⊥
@@ -65,7 +65,7 @@ known_right w h c site run a i l ino p m e = go (store.known_of a.store.extents 
         let g : k.page ≡ p = ap (λ v. record { 0 = v }) (eqb-true k.page.0 p.0 b.1) in
         of_lies a.server (subst (λ (v : PageNo). Lies_as (mapped_in w (record { server = a.server; ino = ino }) v) m) g (subst (λ (v : ℕ). Lies_as (mapped_in w (record { server = a.server; ino = v }) k.page) m) n y))
 
-submits_left : (o : Option Taking) → Submits_of o → Submits_left o
+pub submits_left : (o : Option Taking) → Submits_of o → Submits_left o
 submits_left None s = tt
 submits_left (Some x) s = λ number at to tag bytes i. let z = s number at to tag bytes i in record { extent = z.extent; is = z.is; at = z.at; birth = z.birth }
 

@@ -1,15 +1,16 @@
 -- The promises over every run, gathered from the crates that prove them.
+use Rattle.st_rules.specs.Safety.{EveryRunIsSafe, IsAllPromised}
 use Rattle.st_laws.proofs.Kept.{most_promised}
 use Rattle.st_laws_cuts.proofs.Law as cuts
 use Rattle.st_laws_order.proofs.Grants.{order_law}
-use Rattle.st_laws_cutters.proofs.Runs as reads
-use Rattle.st_laws_safe.specs.Safe.{Every_run_is_safe_but_reads, IsPromisedButReads, Safe_from_what_reads_owe}
+use Rattle.st_laws_whole.proofs.Law as whole
 
-every_run : Every_run_is_safe_but_reads
+pub every_run : EveryRunIsSafe
 every_run k clients servers disks blocks form es head events =
     let most = most_promised.runs k clients servers disks blocks form es head events in
     record {
       alone = most.alone;
+      reads = whole.reads k clients servers disks blocks form es head events;
       causes = most.causes;
       stays = most.stays;
       hard = most.hard;
@@ -26,27 +27,5 @@ every_run k clients servers disks blocks form es head events =
       history = most.history;
     }
 
-pub promised_but_reads : IsPromisedButReads
-promised_but_reads = record { runs = every_run; clients = most_promised.clients; servers = most_promised.servers }
-
-pub safe_from_owed : Safe_from_what_reads_owe
-safe_from_owed k clients servers disks blocks form es head events owed =
-    let rest = every_run k clients servers disks blocks form es head events in
-    record {
-      alone = rest.alone;
-      reads = reads.reads k clients servers disks blocks form es head events owed;
-      causes = rest.causes;
-      stays = rest.stays;
-      hard = rest.hard;
-      thefts = rest.thefts;
-      dates = rest.dates;
-      waits = rest.waits;
-      conflicts = rest.conflicts;
-      told = rest.told;
-      logged = rest.logged;
-      once = rest.once;
-      locked = rest.locked;
-      order = rest.order;
-      emptied = rest.emptied;
-      history = rest.history;
-    }
+pub all_promised : IsAllPromised
+all_promised = record { runs = every_run; clients = most_promised.clients; servers = most_promised.servers }

@@ -1,15 +1,15 @@
-//! Safety over whole runs: what is proved of every run, in one record.
+//! Safety over whole runs: every promise of every run, in one record.
 #![tactic(auto)]
 
-ghost use Rattle.st_laws_safe.specs.Safe.{IsPromisedButReads, Safe_from_what_reads_owe};
+ghost use Rattle.st_rules.specs.Safety.{EveryRunIsSafe, IsAllPromised};
 
-/// In every run fifteen of the sixteen promises that make a run safe are kept at every step, restarts and several servers included; and
-/// old messages change nothing, at clients and at servers. The one that is missing is that reads return the last writes.
-pub fn all_but_reads_is_promised()
-    ensures { IsPromisedButReads }
+/// Every run is safe: from the world of every head and over every list of events in their ranges, up to the first that is refused, each
+/// step keeps all sixteen promises. Restarts and several servers are included.
+pub fn every_run_is_safe()
+    ensures { EveryRunIsSafe }
 {}
 
-/// A run is safe in which each step has what other laws owe to the law of reads.
-pub fn runs_are_safe_from_what_reads_owe()
-    ensures { Safe_from_what_reads_owe }
+/// All that is promised: every run is safe, and old messages change nothing, at clients and at servers.
+pub fn all_is_promised()
+    ensures { IsAllPromised }
 {}

@@ -89,7 +89,7 @@ says_clocks s (o ∷ os) sc = says_clocks s os (server_says sc s o) ∙ says_one
 
 -- a node that is as it was
 node_same : (n : ServerNode) → Node_stays n n
-node_same n = record { extents = refl; kept = λ run c life number ino rows k. (run, k) }
+node_same n = record { extents = refl; kept = λ run c life number ino rows k. (run, k, refl) }
 
 module _ (past : List Step) (t : Traced) (r : Replies_hold past t) (few : length t.world.clients ≤ 16) where
   w : World
@@ -225,7 +225,7 @@ module _ (past : List Step) (t : Traced) (r : Replies_hold past t) (few : length
           pick n = which n.0 (said.get n.0 m n.1)
 
       go : (b : Bool) → node.running ≡ b → Event_tells t.world (ev.server_took w s (if b then Ok (server.node_turn node u) else Err Crashed)).world
-      go true run = inr (record { server = s; node = node; there = at; running = run; now = now; input = i; comes = comes; clients = said.clients; clocks = says_clocks s u.out a; servers = said.servers; messages = from; says = λ m h. (k.sent m h).0 })
+      go true run = inr (record { server = s; node = node; there = at; running = run; now = now; input = i; comes = comes; clients = said.clients; clocks = says_clocks s u.out a; servers = said.servers; messages = from; says = λ m h. (k.sent m h).0; dated = λ m h. (k.sent m h).1; epoch = ap (λ (y : Rattle.st_base.specs.declared.ids.Epoch.Epoch). y.0) k.epoch })
       go false run = still w refl refl
 
   -- Every event.

@@ -40,8 +40,8 @@ server_same : (s r : ServerId) → s.0 ≡ r.0 → s ≡ r
 server_same s r e = ap (λ n. record { 0 = n }) e
 
 -- the same request in another view of its association
-replies_then : (c : ℕ) (a b : Association) (x y : ClientSession) (q : Request) (m : Message) (ino : ℕ) (rows : List ExtentRow) → b.server ≡ a.server → b.life.0 ≡ a.life.0 → y.epoch.0 ≡ x.epoch.0 → Replies_to c a x q m ino rows → Replies_to c b y q m ino rows
-replies_then c a b x y q m ino rows s l e r = record { from = r.from ∙ ap server_node (sym s); to = r.to; of_life = r.of_life ∙ sym l; of_epoch = r.of_epoch ∙ sym e; under = r.under; body = r.body }
+replies_then : (c : ℕ) (a b : Association) (x y : ClientSession) (q p : Request) (m : Message) (ino : ℕ) (rows : List ExtentRow) → b.server ≡ a.server → b.life.0 ≡ a.life.0 → y.epoch.0 ≡ x.epoch.0 → p.number ≡ q.number → Replies_to c a x q m ino rows → Replies_to c b y p m ino rows
+replies_then c a b x y q p m ino rows s l e n r = record { from = r.from ∙ ap server_node (sym s); to = r.to; of_life = r.of_life ∙ sym l; of_epoch = r.of_epoch ∙ sym e; under = r.under ∙ sym n; body = r.body }
 
 -- Where no server takes a step.
 module _ (w v : World) (stays : Stays w v) (right : Asked_right w) where
@@ -59,15 +59,15 @@ module _ (w v : World) (stays : Stays w v) (right : Asked_right w) where
           }
       by (inl o) =
           record {
-            sent = λ m ino rows h r. told ino rows (old.sent m ino rows (stays.messages m h a.server r.from) (replies_then c a o.by x o.session q m ino rows o.server o.life o.epoch r));
-            kept = λ run ino rows k. let y = n.2.kept run (client c) a.life.0 q.number ino rows k in told ino rows (old.kept y.0 ino rows (subst (λ l. Kept_rows n.0.state.sessions (client c) l q.number ino rows) (sym o.life) y.1));
+            sent = λ m ino rows h r. told ino rows (old.sent m ino rows (stays.messages m h a.server r.from) (replies_then c a o.by x o.session q o.request m ino rows o.server o.life o.epoch o.number r));
+            kept = λ run ino rows k. let y = n.2.kept run (client c) a.life.0 q.number ino rows k in told ino rows (old.kept y.0 ino rows (subst (λ l. Kept_rows n.0.state.sessions (client c) l o.request.number ino rows) (sym o.life) (subst (λ j. Kept_rows n.0.state.sessions (client c) a.life.0 j ino rows) (sym o.number) y.1)));
           }
         where
-          old : Replies_right w c o.by o.session q n.0
-          old = right c o.site o.by o.session q o.at n.0 (ap (node_of w) o.server ∙ n.1)
+          old : Replies_right w c o.by o.session o.request n.0
+          old = right c o.site o.by o.session o.request o.at n.0 (ap (node_of w) o.server ∙ n.1)
 
-          told : (ino : ℕ) (rows : List ExtentRow) → Tells_rows o.by.server n.0.state.stable.extents q.body ino rows → Tells_rows a.server p.state.stable.extents q.body ino rows
-          told ino rows y = subst (λ e. Tells_rows a.server e q.body ino rows) (sym n.2.extents) (subst (λ s. Tells_rows s n.0.state.stable.extents q.body ino rows) o.server y)
+          told : (ino : ℕ) (rows : List ExtentRow) → Tells_rows o.by.server n.0.state.stable.extents o.request.body ino rows → Tells_rows a.server p.state.stable.extents q.body ino rows
+          told ino rows y = subst (λ e. Tells_rows a.server e q.body ino rows) (sym n.2.extents) (subst (λ s. Tells_rows s n.0.state.stable.extents q.body ino rows) o.server (subst (λ b. Tells_rows o.by.server n.0.state.stable.extents b ino rows) o.body y))
 
 -- Where a server does.
 module _ (k : Config) (count : ℕ) (past : List Step) (t : Traced) (h : cutters.Hold k count past t) (v : World) (y : Server_steps t.world v) (right : Asked_right t.world) where

@@ -1,9 +1,9 @@
 mod Sessions
 mod Rule
 mod Walk
-mod Step
+pub mod Step
 mod Held
 mod Serving
-mod Events
-mod Law
-mod Heard
+pub mod Events
+pub mod Law
+pub mod Heard

@@ -16,11 +16,11 @@ use Rattle.st_lemmas.specs.Lists.{Has}
 use Rattle.st_laws_dates.specs.Dates.{messages}
 use Rattle.st_laws_told.specs.Steps.{Kept_rows}
 
--- a server has its extents, and keeps no reply of extents that it did not keep
+-- a server has its extents, and keeps no reply of extents that it did not keep, in the same epoch
 pub record Node_stays (n p : ServerNode) : Type 0 where
   pub extents : p.state.stable.extents ≡ n.state.stable.extents
   pub kept : p.running ≡ true → (c : ClientId) (life number ino : ℕ) (rows : List ExtentRow) → Kept_rows p.state.sessions c life number ino rows →
-      (n.running ≡ true) × Kept_rows n.state.sessions c life number ino rows
+      (n.running ≡ true) × Kept_rows n.state.sessions c life number ino rows × (p.state.stable.epoch.0 ≡ n.state.stable.epoch.0)
 
 -- so does each server, and none says anything
 pub record Stays (w v : World) : Type 0 where
@@ -41,6 +41,8 @@ pub record Server_steps (w v : World) : Type 0 where
   pub servers : v.servers ≡ with_numbered server.0 (record node { state = (server_step node.state now input).state }) w.servers
   pub messages : (m : Message) → Has m (messages v) → Has m (messages w) ⊎ Has (outputs.Send m) (server_step node.state now input).out
   pub says : (m : Message) → Has (outputs.Send m) (server_step node.state now input).out → m.header.from ≡ server_node server
+  pub dated : (m : Message) → Has (outputs.Send m) (server_step node.state now input).out → m.header.epoch ≡ node.state.stable.epoch.0
+  pub epoch : (server_step node.state now input).state.stable.epoch.0 ≡ node.state.stable.epoch.0
 
 -- one of these
 abbrev pub Event_tells : World → World → Type 0

@@ -18,15 +18,18 @@ use Rattle.st_laws_dates.specs.Dates.{messages}
 use Rattle.st_laws_told.specs.Steps.{Kept_rows}
 use Rattle.st_laws_told.specs.Told.{Asked_at, Asked_right, Replies_to}
 
--- a request was outstanding before, at the same server in the same life and epoch, under a lock that was held
+-- a request of this number and body was outstanding before, at the same server in the same life and epoch, under a lock that was held
 pub record Was_asked (w : World) (c : ℕ) (a : Association) (x : ClientSession) (q : Request) : Type 0 where
   pub site : ClientSite
   pub by : Association
   pub session : ClientSession
-  pub at : Asked_at w c site by session q
+  pub request : Request
+  pub at : Asked_at w c site by session request
   pub server : by.server ≡ a.server
   pub life : by.life.0 ≡ a.life.0
   pub epoch : session.epoch.0 ≡ x.epoch.0
+  pub number : request.number ≡ q.number
+  pub body : request.body ≡ q.body
 
 -- no reply of extents was sent or kept under the number of a request
 pub record Untold (w : World) (c : ℕ) (a : Association) (x : ClientSession) (q : Request) : Type 0 where
