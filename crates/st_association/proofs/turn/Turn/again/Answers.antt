@@ -10,12 +10,12 @@ use Rattle.st_association.proofs.turn.Turn.again.Goals as goal
 pub invariant_of-self-2 : goal.invariant_of-self-2
 invariant_of-self-2 c =
     let x = c.self.inside in
-    let i = subst (λ (s : Option ServerSession). IsTurn x.id x.config x.server x.life s x.store x.next_command x.out.items) c.in-Some.is c.self.invariant in
+    let i = subst (λ (s : Option ServerSession). IsTurn x.here.value.id x.here.value.config x.here.value.server x.here.value.life s x.here.value.store x.next_command x.out.items) c.in-Some.is c.self.invariant in
     let k = again_keeps c.in-Some.session c.again.new.self c.in_ok-message-in-Some.message c.args.now c.in-Some.session.session.requests.asked c.in_ok-message-in-Some.ensures.ok in
-    turn_changed x.id x.config x.server x.life c.in-Some.session c.again.new.self x.store x.store x.next_command x.out.items i k.0 k.1 refl i.given refl
+    turn_changed x.here.value.id x.here.value.config x.here.value.server x.here.value.life c.in-Some.session c.again.new.self x.here.value.store x.here.value.store x.next_command x.out.items i k.0 k.1 refl i.given refl
 
 pub returns : goal.returns
 returns c =
     let x = c.self.inside in
-    let i = subst (λ (s : Option ServerSession). IsTurn x.id x.config x.server x.life s x.store x.next_command x.out.items) c.in-Some.is c.self.invariant in
+    let i = subst (λ (s : Option ServerSession). IsTurn x.here.value.id x.here.value.config x.here.value.server x.here.value.life s x.here.value.store x.next_command x.out.items) c.in-Some.is c.self.invariant in
     rw (← c.self.view_is, c.in-Some.is) (sends_again (the_view x) c.in-Some.session c.again.new.self c.in_ok-message-in-Some.message c.args.now _ i.parties c.in_ok-message-in-Some.ensures.ok)

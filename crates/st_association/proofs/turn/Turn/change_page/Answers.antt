@@ -10,9 +10,9 @@ pub invariant_of-self-in-Ok : goal.invariant_of-self-in-Ok
 unfolding forget_read
 invariant_of-self-in-Ok c =
     let x = c.self.inside in
-    let i = subst (λ (s : Option ServerSession). IsTurn x.id x.config x.server x.life s x.store x.next_command x.out.items) c.in-Some.is c.self.invariant in
+    let i = subst (λ (s : Option ServerSession). IsTurn x.here.value.id x.here.value.config x.here.value.server x.here.value.life s x.here.value.store x.next_command x.out.items) c.in-Some.is c.self.invariant in
     let left = c.in-Ok.ensures.changed.left in
     rw (c.push_reserved.ensures.items, c.reserve.ensures.items)
-    (turn_written x.id x.config x.server x.life c.in-Some.session c.change-changed.new.self x.store c.change-changed.new.store x.next_command x.out.items _ i c.change-changed.ensures.stays
-    (ap (λ s. s.server) left) (rw left (below_fewer x.next_command _ x.store.store.commands i.given))
-    (version_written x.store.store.pages _ c.args.ino c.args.page c.args.bytes.now c.in-Ok.ensures.changed.written))
+    (turn_written x.here.value.id x.here.value.config x.here.value.server x.here.value.life c.in-Some.session c.change-changed.new.self x.here.value.store c.change-changed.new.store x.next_command x.out.items _ i c.change-changed.ensures.stays
+    (ap (λ s. s.server) left) (rw left (below_fewer x.next_command _ x.here.value.store.store.commands i.given))
+    (version_written x.here.value.store.store.pages _ c.args.ino c.args.page c.args.bytes.now c.in-Ok.ensures.changed.written))

@@ -6,4 +6,4 @@ use Rattle.st_association.proofs.turn.Turn.fail.Goals as goal
 pub invariant_of-self : goal.invariant_of-self
 invariant_of-self c =
     let x = c.self.inside in
-    rw c.fail.ensures (store_changed x.id x.config x.server x.life x.session x.store _ x.next_command x.out.items c.self.invariant refl c.self.invariant.given (version_failed x.store.store.pages c.args.ino c.args.page c.args.command))
+    rw c.fail.ensures (store_changed x.here.value.id x.here.value.config x.here.value.server x.here.value.life x.here.value.session x.here.value.store _ x.next_command x.out.items c.self.invariant refl c.self.invariant.given (version_failed x.here.value.store.store.pages c.args.ino c.args.page c.args.command))

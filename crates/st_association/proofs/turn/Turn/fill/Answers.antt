@@ -6,4 +6,4 @@ use Rattle.st_association.proofs.turn.Turn.fill.Goals as goal
 pub invariant_of-self-2 : goal.invariant_of-self-2
 invariant_of-self-2 c =
     let x = c.self.inside in
-    rw c.in_ok-fill.ensures.ok (store_changed x.id x.config x.server x.life x.session x.store _ x.next_command x.out.items c.self.invariant refl c.self.invariant.given (version_filled x.store.store.pages c.args.ino c.args.page c.args.bytes.now))
+    rw c.in_ok-fill.ensures.ok (store_changed x.here.value.id x.here.value.config x.here.value.server x.here.value.life x.here.value.session x.here.value.store _ x.next_command x.out.items c.self.invariant refl c.self.invariant.given (version_filled x.here.value.store.store.pages c.args.ino c.args.page c.args.bytes.now))

@@ -8,6 +8,6 @@ use Rattle.st_association.proofs.turn.Turn.use_page.Goals as goal
 pub invariant_of-self : goal.invariant_of-self
 invariant_of-self c =
     let x = c.self.inside in
-    let i = subst (λ (s : Option ServerSession). IsTurn x.id x.config x.server x.life s x.store x.next_command x.out.items) c.in-Some.is c.self.invariant in
+    let i = subst (λ (s : Option ServerSession). IsTurn x.here.value.id x.here.value.config x.here.value.server x.here.value.life s x.here.value.store x.next_command x.out.items) c.in-Some.is c.self.invariant in
     rw (c.use_page.ensures.stays, c.use_page.ensures.used)
-    (turn_changed x.id x.config x.server x.life c.in-Some.session c.in-Some.session x.store _ x.next_command x.out.items i refl refl refl i.given (versions_used x.store.store.pages c.args.ino c.args.page))
+    (turn_changed x.here.value.id x.here.value.config x.here.value.server x.here.value.life c.in-Some.session c.in-Some.session x.here.value.store _ x.next_command x.out.items i refl refl refl i.given (versions_used x.here.value.store.store.pages c.args.ino c.args.page))
