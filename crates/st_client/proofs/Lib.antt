@@ -18,6 +18,7 @@ pub mod InputsGrow
 pub mod PassesGrow
 pub mod HearLasts
 pub mod AllLast
+pub mod Losing
 pub mod Crashing
 pub mod Servers
 pub mod Resting

@@ -1,6 +1,7 @@
 // A whole step of a client: losses, the rule for the input, and the passes at each server in turn.
 ghost use Rattle.std.specs.Prelude.{◌≡◌, ◌==◌, ◌≤◌, ◌^◌, true, [], IfOk};
 ghost use Rattle.st_client.specs.Inputs.{comes_fit};
+ghost use Rattle.st_client.specs.Losses.{lasts_by};
 ghost use Rattle.st_messages.specs.Fits.{is_ask};
 ghost use Rattle.st_rules.specs.Client as client;
 ghost use Rattle.st_rules.specs.ClientInvariants.{all_last};
@@ -13,17 +14,52 @@ use crate::rules::{Finish, Hear, Lose, Passes, TakeAsk};
 use st_base::{PageBytes, ServerId, Stamp, Tag};
 use st_messages::{AppAnswer, Ask, Body, Header, Message, Output};
 use st_operations::server_of;
-use st_rules::ClientInput;
+use st_rules::{ClientInput, Phase};
 use std::alloc::AllocError;
 
+/// Whether no lease is held in this phase that is over.
+fn lasts(phase: Option<Phase>) -> bool
+    ensures { result ≡ lasts_by phase }
+{
+    match phase {
+        Some(Phase::Expired) => false,
+        _ => true,
+    }
+}
+
 impl Machine {
-    /// The losses.
-    #[tactic(auto, unfolding(st_rules::specs::Client::losses), using(crate::proofs::AllLast::losses_last, crate::proofs::AllLast::all_same))]
-    pub(crate) fn losses(self, now: Stamp) -> Result<Machine, AllocError>
+    /// Whether no lease is over.
+    #[tactic(auto, using(crate::proofs::Losing::lasts_is))]
+    fn all_last(&self, now: Stamp) -> bool
+        ensures { result ≡ all_last self.now.state now }
+    {
+        let mut each = true;
+        for a in self.associations.iter() {
+            each = each && lasts(a.phase(now));
+        }
+        each
+    }
+
+    /// The losses, where there may be one.
+    #[tactic(auto, using(crate::proofs::AllLast::losses_last, crate::proofs::AllLast::all_same), unfolding(st_rules::specs::Client::losses))]
+    fn lose_each(self, now: Stamp) -> Result<Machine, AllocError>
         ensures rule { IfOk result (λ m. m ≡ client.losses self now) }
         ensures last { IfOk result (λ m. all_last m.state now ≡ true) }
     {
         self.at_each(&Lose { now })
+    }
+
+    /// The losses.
+    #[tactic(auto, using(crate::proofs::Losing::nothing_lost))]
+    pub(crate) fn losses(self, now: Stamp) -> Result<Machine, AllocError>
+        ensures rule { IfOk result (λ m. m ≡ client.losses self now) }
+        ensures last { IfOk result (λ m. all_last m.state now ≡ true) }
+    {
+        if self.all_last(now) {
+            Ok(self)
+        } else {
+            self.lose_each(now)
+        }
     }
 
     /// A message, at each server.
