@@ -1,5 +1,5 @@
 mod Sizes
-mod Drawn
+pub mod Drawn
 mod Choices
 mod Runs
 mod Full

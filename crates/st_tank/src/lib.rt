@@ -1,10 +1,6 @@
-//! The tank: a schedule is read from a source, run through a world, and told of in a report. `docs/PROTOCOL.md`,
-//! "Schedules" and "Report lines".
+//! The tank over the world of all events: to take the place of `st_tank` once that world stands.
 #![tactic(auto)]
 
-mod lines;
 mod program;
-mod replay;
-mod report;
 
 pub use program::run;

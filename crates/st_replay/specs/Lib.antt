@@ -1,0 +1,6 @@
+pub mod Schedule
+pub mod Replay
+pub mod Pieces
+pub mod Playing
+pub mod Ends
+pub mod Streaming
