@@ -5,7 +5,8 @@ ghost use Rattle.st_link.specs.Prefixes.{AppendsPrefix};
 ghost use Rattle.st_replay.specs.Streaming.{Refuses, RefusalCauses, RefusesLine};
 
 use crate::ending::put_stopped;
-use crate::fault::{LineRefusal, ReplayFault, Stop};
+use crate::fault::{ReplayFault, Stop};
+use st_runs::LineRefusal;
 use st_link::{Failed, Sink, put_all};
 
 /// Writes the text, and empties it.

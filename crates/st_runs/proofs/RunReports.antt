@@ -6,8 +6,8 @@ use Rattle.st_rules.specs.declared.observation.WorldRefusal.{WorldRefusal}
 use Rattle.st_rules.specs.World.{World}
 use Rattle.st_rules.specs.Run.{Run, run}
 use Rattle.st_rules.specs.Report as report
-use Rattle.st_replay.specs.Replay.{behind, ended_by, last_line, line_refusal, replay_from, text}
-use Rattle.st_replay.specs.Schedule.{Whole}
+use Rattle.st_runs.specs.Replay.{behind, ended_by, last_line, line_refusal, replay_from, text}
+use Rattle.st_runs.specs.Schedule.{Whole}
 
 last_of_run : (r : Run) (f : Option WorldRefusal) → last_line (ended_by (1 + length r.seen) r.world Whole f) ≡ report.ending r f
 unfolding last_line line_refusal report.ending

@@ -18,10 +18,10 @@ use Rattle.st_schedule.specs.declared.reader.Line.TheVariants as said
 use Rattle.st_schedule.specs.declared.reader.Progress.{Progress}
 use Rattle.st_schedule.specs.declared.reader.Progress.TheVariants.{Nothing}
 use Rattle.st_schedule.specs.Reader.{Told, read_line}
-use Rattle.st_replay.specs.declared.fault.LineRefusal.{LineRefusal}
-use Rattle.st_replay.specs.declared.fault.LineRefusal.TheVariants as why
-use Rattle.st_replay.specs.Schedule.{lines_of, Ending, Schedule, schedule_of}
-use Rattle.st_replay.specs.Schedule as schedule
+use Rattle.st_runs.specs.declared.fault.LineRefusal.{LineRefusal}
+use Rattle.st_runs.specs.declared.fault.LineRefusal.TheVariants as why
+use Rattle.st_runs.specs.Schedule.{lines_of, Ending, Schedule, schedule_of}
+use Rattle.st_runs.specs.Schedule as schedule
 
 -- how a replay ends: it went through the end of the schedule, to this world; or this line is refused
 pub data Last : Type 0 where
