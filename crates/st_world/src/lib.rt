@@ -22,6 +22,7 @@ mod judging;
 mod machine;
 mod missing;
 mod noting;
+mod parts;
 mod site;
 mod stepping;
 mod summing;

@@ -3,7 +3,7 @@ use Rattle.st_rules.specs.Safety.{is_event}
 use Rattle.st_rules.specs.World.{World}
 use Rattle.st_world.proofs.Admitted.{timed_any}
 use Rattle.st_world.proofs.Shaped.{laid}
-use Rattle.st_world.proofs.world.World.refusal.Goals as goal
+use Rattle.st_world.proofs.parts.Parts.refusal.Goals as goal
 
 pub refusal-requires-clause-clients : goal.refusal-requires-clause-clients
 refusal-requires-clause-clients c =

@@ -4,7 +4,7 @@ use Rattle.st_rules.specs.Safety.{IsHead}
 use Rattle.st_world.specs.Heads.{HasCounts, least}
 use Rattle.st_world.proofs.Goes.{quiet_fresh}
 use Rattle.st_world.proofs.Shaped.{head_counts, least_head}
-use Rattle.st_world.proofs.world.World.new.Goals as goal
+use Rattle.st_world.proofs.parts.Parts.new.Goals as goal
 
 pub fresh-requires-2-clause-counts : goal.fresh-requires-2-clause-counts
 fresh-requires-2-clause-counts c =

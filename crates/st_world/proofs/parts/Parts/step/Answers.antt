@@ -4,7 +4,7 @@ use Rattle.st_rules.specs.World.{World}
 use Rattle.st_world.proofs.Goes.{quiet_after}
 use Rattle.st_world.proofs.Shaped.{laid}
 use Rattle.st_world.proofs.Stepped.{stepped}
-use Rattle.st_world.proofs.world.World.step.Goals as goal
+use Rattle.st_world.proofs.parts.Parts.step.Goals as goal
 
 pub step-requires-clause-laid : goal.step-requires-clause-laid
 step-requires-clause-laid c =
