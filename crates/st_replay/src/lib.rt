@@ -14,6 +14,6 @@ mod source;
 
 pub use fault::ReplayFault;
 pub use source::replay;
-pub use st_runs::LineRefusal;
 pub use st_rules::Summary;
+pub use st_runs::LineRefusal;
 pub use st_world::World;

@@ -10,9 +10,9 @@ ghost use Rattle.st_replay.specs.Playing.{EndsAt, IsPlaying, IsUnread, OnStop, f
 
 use crate::fault::Stop;
 use st_base::Config;
-use st_runs::LineRefusal;
 use st_messages::{Counts, Event};
 use st_report::{put_lines, put_opening};
+use st_runs::LineRefusal;
 use st_schedule::{Line, ScheduleReader, ScheduleRefusal};
 use st_world::{World, WorldFault};
 use std::alloc::Global;

@@ -6,8 +6,8 @@ ghost use Rattle.st_replay.specs.Streaming.{Refuses, RefusalCauses, RefusesLine}
 
 use crate::ending::put_stopped;
 use crate::fault::{ReplayFault, Stop};
-use st_runs::LineRefusal;
 use st_link::{Failed, Sink, put_all};
+use st_runs::LineRefusal;
 
 /// Writes the text, and empties it.
 pub(crate) fn flush<O: Sink>(out: &mut O, text: &mut Vec<u8>) -> Result<(), Failed>

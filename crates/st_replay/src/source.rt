@@ -13,9 +13,9 @@ use crate::feed::feed;
 use crate::finish::finish;
 use crate::player::Player;
 use crate::sinks::{flush, refuse};
-use st_runs::schedules_run_safely;
 use st_link::{Sink, Source};
 use st_rules::Summary;
+use st_runs::schedules_run_safely;
 use st_world::World;
 use std::alloc::Global;
 

@@ -11,9 +11,9 @@ ghost use Rattle.st_tank.specs.Status.{status_in, status_of};
 ghost use Rattle.st_tank.specs.Words as words_of;
 ghost use Rattle.st_tank.specs.Words.{complaint};
 
-use st_runs::{all_is_promised, schedules_run_safely};
 use st_link::{Sink, Source, put_all};
 use st_replay::{ReplayFault, Summary, World};
+use st_runs::{all_is_promised, schedules_run_safely};
 use std::alloc::Global;
 
 const REPLAY: &[u8] = b"replay";
