@@ -23,6 +23,7 @@ mod machine;
 mod missing;
 mod noting;
 mod parts;
+mod safe;
 mod site;
 mod stepping;
 mod summing;

@@ -7,6 +7,7 @@ ghost use Rattle.st_rules.specs.Safety.{IsHead, is_event};
 ghost use Rattle.st_rules.specs.World as rules;
 ghost use Rattle.st_rules.specs.World.{fresh_world};
 ghost use Rattle.st_network.specs.Pieces as pieces;
+ghost use Rattle.st_world.specs.Safe.{GoesOnSafely, IsLedSafely};
 ghost use Rattle.st_world.specs.Steps.{StepsAs};
 
 use crate::fault::WorldFault;
@@ -39,24 +40,33 @@ impl World {
     /// The world of a head.
     pub fn new(alloc: Global, config: Config, counts: Counts, form: u8) -> Result<World, AllocError>
         requires head { IsHead config counts.clients counts.servers counts.disks counts.blocks form }
-        ensures { IfOk result (λ w. w ≡ fresh_world config counts.clients counts.servers counts.disks counts.blocks form) }
+        ensures fresh { IfOk result (λ w. w ≡ fresh_world config counts.clients counts.servers counts.disks counts.blocks form) }
+        ensures led { IfOk result IsLedSafely }
     {
         let parts = Parts::new(alloc, config, counts, form)?;
+        parts.runs_here_are_safe();
         Ok(World {
             of: Box::new(alloc, parts)?,
         })
     }
 
     /// Runs one event, and returns what is observed of it, in order. A refusal changes nothing. Where memory runs out nothing is
-    /// known of the world, and every later step returns `Memory`: discard it.
+    /// known of the world, and every later step returns `Memory`: discard it. Whatever it returns, a run leads to the world that it
+    /// leaves, and every run that leads there is safe; so is every run that led to the world before, with this event after it.
     pub fn step(&mut self, event: Event) -> Result<Vec<Observation>, WorldFault>
         requires event { is_event (length self.old.clocks) event ≡ true }
         requires room { self.old.tally.events < 2 ^ 29 }
         ensures machine { StepsAs (λ seen. seen.items) self.old self.new result (events.world_step self.old event) }
         ensures events { OnOk result (self.new.tally.events ≡ self.old.tally.events + 1) }
         ensures clocks { OnOk result (length self.new.clocks ≡ length self.old.clocks) }
+        ensures led { IsLedSafely self.new }
+        ensures safe { GoesOnSafely self.old event }
     {
-        self.of.step(event)
+        let parts: &mut Parts = &mut self.of;
+        parts.runs_on_are_safe(&event);
+        let stepped = parts.step(event);
+        parts.runs_here_are_safe();
+        stepped
     }
 
     /// Returns the first refusal of an event that stands. It changes nothing and takes no memory.
