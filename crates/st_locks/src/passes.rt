@@ -8,7 +8,7 @@ ghost use Rattle.st_locks.specs.Since.{IsClient, KeepsSince, since_of_demand};
 ghost use Rattle.st_locks.specs.Calls.{demanding, file_demanded, file_granted, granting, is_lock, row_demanded, rows_demanded};
 
 use crate::since::passed;
-use crate::table::{LockTable, push_if};
+use crate::table::{PlainTable, push_if};
 use st_base::{ClientId, Config, GrantNo, Life, Mode, Stamp};
 use st_rules::{LockRow, RowDemand, Waiter};
 use std::alloc::{AllocError, Global};
@@ -18,10 +18,10 @@ pub type Sent = (ClientId, Life, u32, GrantNo, Mode);
 
 /// One demanding pass: the settings, the moment, and whether it is on a tick.
 #[derive(Clone, Copy)]
-struct Pass {
-    config: Config,
-    now: Stamp,
-    tick: bool,
+pub(crate) struct Pass {
+    pub(crate) config: Config,
+    pub(crate) now: Stamp,
+    pub(crate) tick: bool,
 }
 
 #[tactic(auto, unfolding(st_rules::specs::Locks::demanded))]
@@ -122,7 +122,7 @@ fn drop_among(clients: &mut Vec<ClientId>, suspects: &[ClientId])
     clients.retain(|c| !is_among(suspects, *c));
 }
 
-impl LockTable {
+impl PlainTable {
     /// The first waiter of the file, where no other client's row conflicts.
     fn next_waiter(&self, ino: u32) -> Option<Waiter>
         ensures next { result ≡ locks.next_waiter self.now ino }
@@ -154,7 +154,7 @@ impl LockTable {
     }
 
     #[tactic(auto, unfolding(st_rules::specs::Locks::grant_file))]
-    fn grant_file(&mut self, granted: &mut Vec<Sent>, ino: u32) -> Result<(), AllocError>
+    pub(crate) fn grant_file(&mut self, granted: &mut Vec<Sent>, ino: u32) -> Result<(), AllocError>
         requires { self.old.grants + length self.old.waiters < 2 ^ 32 }
         ensures ok { OnOk result (granting self.new granted.new.items ≡ file_granted ino (granting self.old granted.old.items)) }
         ensures room { OnOk result (self.new.grants + length self.new.waiters < 2 ^ 32) }
@@ -169,21 +169,6 @@ impl LockTable {
             left -= 1;
         }
         Ok(())
-    }
-
-    /// All grants that may be made now.
-    #[tactic(auto, unfolding(st_rules::specs::Locks::next_grants, st_rules::specs::Locks::grant_files))]
-    pub fn next_grants(&mut self) -> Result<Vec<Sent>, AllocError>
-        requires { self.old.grants + length self.old.waiters < 2 ^ 32 }
-        ensures { IfOk result (λ v. locks.next_grants self.old ≡ granting self.new v.items) }
-    {
-        let alloc = self.alloc;
-        let files = self.waited_files()?;
-        let mut granted = Vec::new(alloc);
-        for ino in files.as_slice() {
-            self.grant_file(&mut granted, *ino)?;
-        }
-        Ok(granted)
     }
 
     #[tactic(auto, unfolding(st_rules::specs::Locks::demand_with, st_rules::specs::Locks::demanded))]
@@ -250,7 +235,7 @@ impl LockTable {
     }
 
     #[tactic(auto, unfolding(st_rules::specs::Locks::demand_for))]
-    fn demand_for(
+    pub(crate) fn demand_for(
         &mut self,
         due: &mut Vec<Sent>,
         pass: Pass,
@@ -266,27 +251,6 @@ impl LockTable {
                 self.demand_clients(due, pass, w.ino, wish(w.mode), clients.as_slice())
             }
         }
-    }
-
-    /// All demands that are due now; `tick` tells whether the old ones are sent once more.
-    #[tactic(auto, unfolding(st_rules::specs::Locks::demands_due, st_rules::specs::Locks::demand_files))]
-    pub fn demands_due(
-        &mut self,
-        now: Stamp,
-        tick: bool,
-        suspects: &[ClientId],
-        config: Config,
-    ) -> Result<Vec<Sent>, AllocError>
-        ensures { IfOk result (λ v. locks.demands_due self.old now tick suspects.now config ≡ demanding self.new v.items) }
-    {
-        let pass = Pass { config, now, tick };
-        let alloc = self.alloc;
-        let files = self.waited_files()?;
-        let mut due = Vec::new(alloc);
-        for ino in files.as_slice() {
-            self.demand_for(&mut due, pass, suspects, *ino)?;
-        }
-        Ok(due)
     }
 
     /// Whether one request more and all waiters may be granted in this epoch.
