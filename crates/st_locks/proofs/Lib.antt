@@ -10,3 +10,4 @@ pub mod Sound
 pub mod Settled
 pub mod Demanded
 pub mod Walks
+pub mod Moments

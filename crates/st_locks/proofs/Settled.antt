@@ -17,9 +17,10 @@ use Rattle.st_locks.specs.Calls.{Answers, acquired}
 use Rattle.st_rules.specs.declared.locks.LockRow.{LockRow}
 use Rattle.st_rules.specs.declared.locks.Waiter.{Waiter}
 use Rattle.st_rules.specs.Keys.{put, same_client}
-use Rattle.st_rules.specs.Locks.{Locks, Acquired, Granting, acquire, acquire_at, acquire_granted, acquire_held, acquire_more, acquire_new, acquire_over, acquire_queued, answered_row, demand_seen, drop_file_waits, grant, grantable, grant_and, grant_file, grant_files, grant_waiter, has_place, ino_of_wait, is_row_of, is_row_on, is_under, is_wait_of, is_wait_on, lower, lowered, may_grant, new_row, new_wait, next_grants, next_waiter, not_released, nothing_granted, queue, queue_at, release, release_to, released, released_at, row_of, stands_against, wait_for, wait_of, waited_files}
+use Rattle.st_rules.specs.Locks.{Locks, Acquired, Granting, is_among, wish, acquire, acquire_at, acquire_granted, acquire_held, acquire_more, acquire_new, acquire_over, acquire_queued, answered_row, demand_seen, drop_file_waits, grant, grantable, grant_and, grant_file, grant_files, grant_waiter, has_place, ino_of_wait, is_row_of, is_row_on, is_under, is_wait_of, is_wait_on, lower, lowered, may_grant, new_row, new_wait, next_grants, next_waiter, not_released, nothing_granted, queue, queue_at, release, release_to, released, released_at, row_of, stands_against, wait_for, wait_of, waited_files}
 use Rattle.st_tables.proofs.RisingKeys.{has, has_rising}
-use Rattle.st_locks.specs.Settled.{AreDemanded, IsSettled, Marked, Marks, is_in_way, is_marked}
+use Rattle.st_rules.specs.declared.locks.RowDemand.{RowDemand}
+use Rattle.st_locks.specs.Settled.{EachInWay, IsSettled, Marked, Marks, Moments, is_in_way, is_low, is_marked, is_timed}
 use Rattle.st_locks.proofs.Grants.{grantable_found, length_without, same_wait}
 
 -- Lists, and the part of them that is of one file.
@@ -99,7 +100,7 @@ module _ {A : Type 0} where
 
 -- One file beside another.
 
-other_file : (k i j : ℕ) → (k == i) ≡ true → (i == j) ≡ false → (k == j) ≡ false
+pub other_file : (k i j : ℕ) → (k == i) ≡ true → (i == j) ≡ false → (k == j) ≡ false
 other_file k i j e n = ap (λ z. z == j) (eqb-true k i e) ∙ n
 
 no_not : (b : Bool) → not b ≡ false → b ≡ true
@@ -221,12 +222,13 @@ not_of_file c j i r e n = ap (λ z. (r.client.0 == c.0) && z) (ap (λ z. r.ino =
     no true = refl
     no false = refl
 
-pub demanded_same : (j : ℕ) (l m : Locks) → SameOn j l m → AreDemanded l j → AreDemanded m j
-demanded_same j l m s d w f c t r e =
+-- what is so of the rows in a file's way, in two tables that have the same rows of it
+pub each_same : (P : Waiter → Option RowDemand → Bool) (j : ℕ) (l m : Locks) (cs : List ClientId) → SameOn j l m → EachInWay l cs j P → EachInWay m cs j P
+each_same P j l m cs s d w f c t r e =
     let first = sym (first_same j l m s) ∙ f in
     let at : w.ino ≡ j = eqb-true w.ino j (found_passes (is_wait_on j) w m.waiters f) in
     d w first c
-    (sym (any_rows_same j l m s (is_in_way w c) (λ x n. ap (λ z. z && same_client x.client c) (not_in_way w.client j w.ino w.mode x at n))) ∙ t)
+    (ap (λ b. b && not (is_among cs c)) (sym (any_rows_same j l m s (is_in_way w c) (λ x n. ap (λ z. z && same_client x.client c) (not_in_way w.client j w.ino w.mode x at n)))) ∙ t)
     r
     (sym (find_within (is_row_on j) (is_row_of c w.ino) (λ x n. not_of_file c j w.ino x at n) l.rows) ∙ ap (find (is_row_of c w.ino)) (sym s.rows) ∙ find_within (is_row_on j) (is_row_of c w.ino) (λ x n. not_of_file c j w.ino x at n) m.rows ∙ e)
 
@@ -240,10 +242,11 @@ marked_itself ino g t j e = (e, by (ino == j) (λ s. true≢false (sym t ∙ ap 
     by false h = refl
 
 -- a change of one file that was marked leaves a table settled
-pub kept : (l m : Locks) (ino : ℕ) (g d h k : Marked) → IsSettled l g d → ((j : ℕ) → (ino == j) ≡ false → SameOn j l m) → Marks ino g h → Marks ino d k → IsSettled m h k
-kept l m ino g d h k s f a b = record {
+pub kept : (l m : Locks) (ino : ℕ) (g d h k : Marked) (ms : Moments) (cs : List ClientId) → IsSettled l g d ms cs → ((j : ℕ) → (ino == j) ≡ false → SameOn j l m) → Marks ino g h → Marks ino d k → IsSettled m h k ms cs
+kept l m ino g d h k ms cs s f a b = record {
   granted = λ j e. next_same j l m (f j (a j e).1) ∙ s.granted j (a j e).0;
-  demanded = λ j e. demanded_same j l m (f j (b j e).1) (s.demanded j (b j e).0);
+  demanded = λ j e. each_same (λ w o. is_low (wish w.mode) o) j l m cs (f j (b j e).1) (s.demanded j (b j e).0);
+  timed = λ j e. each_same (λ w o. is_timed ms j o) j l m cs (f j (b j e).1) (s.timed j (b j e).0);
 }
 
 -- Changes of one file.

@@ -4,6 +4,7 @@
 
 mod install;
 mod lock_table;
+mod parts;
 mod passes;
 mod refusal;
 mod release;
@@ -11,6 +12,7 @@ mod rows;
 mod since;
 mod table;
 mod touched;
+mod waking;
 
 pub use lock_table::LockTable;
 pub use passes::Sent;

@@ -7,14 +7,15 @@ ghost use Rattle.st_base.specs.declared.ids.Stamp.{Stamp};
 ghost use Rattle.st_rules.specs.Locks as locks;
 ghost use Rattle.st_rules.specs.ServerInvariants.{IsLockTable};
 ghost use Rattle.st_locks.specs.Since.{IsClient, is_since, since_of, wait_order};
-ghost use Rattle.st_locks.specs.Settled.{walked};
 ghost use Rattle.st_locks.specs.Calls.{Answers, Installs, demanding, file_demanded, file_granted, granting, is_lock, is_lock_row, is_old_row, is_row_from, same_file, told};
 
+use crate::parts::{Parts, walked};
 use crate::passes::{Pass, Sent};
 use crate::refusal::LockRefusal;
 use crate::since::Unanswered;
 use crate::table::PlainTable;
 use crate::touched::Touched;
+use crate::waking::Waking;
 use st_base::{ClientId, Config, Epoch, GrantNo, Life, Mode, ServerId, Stamp};
 use st_rules::Verdict;
 use std::alloc::{AllocError, Global};
@@ -25,9 +26,7 @@ use std::marker::Model;
 /// list of waiters.
 #[derive(Drop)]
 pub struct LockTable {
-    table: PlainTable,
-    granting: Touched,
-    demanding: Touched,
+    parts: Parts,
 }
 
 impl Model for LockTable {
@@ -37,20 +36,9 @@ impl Model for LockTable {
 
     ghost use Rattle.st_locks.specs.Settled.{IsSettled};
 
-    ghost view = { λ t. t.table };
+    ghost view = { λ t. t.parts.table };
 
-    ghost invariant = { λ t. IsSettled t.table t.granting t.demanding };
-}
-
-/// The files that a pass walks, in rising order: all that are waited for, or those that were touched.
-fn walked(table: &PlainTable, all: bool, marks: &Touched) -> Result<Vec<u32>, AllocError>
-    ensures { IfOk result (λ v. v.items ≡ walked all marks.now (locks.waited_files table.now)) }
-{
-    if all || marks.is_all() {
-        table.waited_files()
-    } else {
-        marks.rising(table.alloc)
-    }
+    ghost invariant = { λ t. IsSettled t.parts.table t.parts.granting t.parts.demanding t.parts.waking t.parts.besides.items };
 }
 
 impl LockTable {
@@ -60,9 +48,13 @@ impl LockTable {
         ensures { result ≡ locks.no_locks epoch }
     {
         LockTable {
-            table: PlainTable::new(alloc, server, epoch),
-            granting: Touched::new(alloc),
-            demanding: Touched::new(alloc),
+            parts: Parts {
+                table: PlainTable::new(alloc, server, epoch),
+                granting: Touched::new(alloc),
+                demanding: Touched::new(alloc),
+                waking: Waking::new(alloc),
+                besides: Vec::new(alloc),
+            },
         }
     }
 
@@ -72,28 +64,28 @@ impl LockTable {
         ensures epoch { result ≡ self.now.epoch }
         ensures valid { IsLockTable self.now }
     {
-        self.table.epoch()
+        self.parts.table.epoch()
     }
 
     /// The grant number and the mode of the client's row of the file.
     pub fn row(&self, client: ClientId, ino: u32) -> Option<(GrantNo, Mode)>
         ensures { result ≡ told (locks.row_of self.now client ino) }
     {
-        self.table.row(client, ino)
+        self.parts.table.row(client, ino)
     }
 
     /// Whether the client has a row.
     pub fn has_rows(&self, client: ClientId) -> bool
         ensures { result ≡ locks.has_rows self.now client }
     {
-        self.table.has_rows(client)
+        self.parts.table.has_rows(client)
     }
 
     /// Whether the client has a row of this life or a higher one. It looks at every row.
     pub fn has_rows_from(&self, client: ClientId, life: Life) -> bool
         ensures { result ≡ list_any (is_row_from client life) self.now.rows }
     {
-        self.table.has_rows_from(client, life)
+        self.parts.table.has_rows_from(client, life)
     }
 
     /// The demands that wait for an answer: since when, of which file, of which client; a row is there exactly where its
@@ -101,16 +93,16 @@ impl LockTable {
     pub fn by_since(&self) -> &BTreeSet<Unanswered>
         ensures { (s : Stamp) (i : ℕ) (c : ClientId) → contains wait_order result.now (s, i, c) ≡ is_since s (since_of (locks.row_of self.now c i)) }
     {
-        self.table.by_since()
+        self.parts.table.by_since()
     }
 
     /// Room to keep which files are touched.
     fn reserve(&mut self) -> Result<(), AllocError>
         ensures { self.new ≡ self.old }
     {
-        let room = self.table.waits.len() + 16;
-        self.granting.reserve(room)?;
-        self.demanding.reserve(room)?;
+        let room = self.parts.table.waits.len() + 16;
+        self.parts.granting.reserve(room)?;
+        self.parts.demanding.reserve(room)?;
         Ok(())
     }
 
@@ -133,16 +125,16 @@ impl LockTable {
         ensures { Answers self.old self.new result (locks.acquire self.old client life ino mode grants) }
     {
         self.reserve()?;
-        self.granting.touch(ino);
-        self.demanding.touch(ino);
-        self.table.acquire(client, life, ino, mode, grants)
+        self.parts.granting.touch(ino);
+        self.parts.demanding.touch(ino);
+        self.parts.table.acquire(client, life, ino, mode, grants)
     }
 
     /// Whether one more lock may be granted in this epoch.
     pub fn has_room(&self) -> bool
         ensures { result ≡ nat_lt (self.now.grants + 1) (2 ^ 32) }
     {
-        self.table.has_room()
+        self.parts.table.has_room()
     }
 
     /// The rows of a file, by rising client: the client, the grant number and the mode.
@@ -153,7 +145,7 @@ impl LockTable {
     ) -> Result<Vec<(ClientId, GrantNo, Mode)>, AllocError>
         ensures { IfOk result (λ v. v.items ≡ locks.holders self.now ino) }
     {
-        self.table.holders(alloc, ino)
+        self.parts.table.holders(alloc, ino)
     }
 
     /// The rows of a client, by rising file: the file, the grant number and the mode.
@@ -164,7 +156,7 @@ impl LockTable {
     ) -> Result<Vec<(u32, GrantNo, Mode)>, AllocError>
         ensures { IfOk result (λ v. v.items ≡ locks.rows_of self.now client) }
     {
-        self.table.of(alloc, client)
+        self.parts.table.of(alloc, client)
     }
 
     /// All rows of a client are installed, or none, at the first row that conflicts with another client's.
@@ -181,54 +173,54 @@ impl LockTable {
         requires earlier { list_all (is_old_row self.old.epoch) rows.now ≡ true }
         ensures { Installs self.old self.new result (locks.install self.old client life rows.now) }
     {
-        self.granting.touch_all();
-        self.demanding.touch_all();
-        self.table.install(client, life, rows)
+        self.parts.granting.touch_all();
+        self.parts.demanding.touch_all();
+        self.parts.table.install(client, life, rows)
     }
 
     /// All rows and waits of the client go.
     pub fn forget(&mut self, client: ClientId)
         ensures { self.new ≡ locks.forget self.old client }
     {
-        self.granting.touch_all();
-        self.demanding.touch_all();
-        self.table.forget(client);
+        self.parts.granting.touch_all();
+        self.parts.demanding.touch_all();
+        self.parts.table.forget(client);
     }
 
     /// All waits of the client go.
     pub fn drop_waits(&mut self, client: ClientId)
         ensures { self.new ≡ locks.drop_waits self.old client }
     {
-        self.granting.touch_all();
-        self.demanding.touch_all();
-        self.table.drop_waits(client);
+        self.parts.granting.touch_all();
+        self.parts.demanding.touch_all();
+        self.parts.table.drop_waits(client);
     }
 
     /// All waits for the file go.
     pub fn drop_file_waits(&mut self, ino: u32)
         ensures { self.new ≡ locks.drop_file_waits self.old ino }
     {
-        self.granting.touch(ino);
-        self.demanding.touch(ino);
-        self.table.drop_file_waits(ino);
+        self.parts.granting.touch(ino);
+        self.parts.demanding.touch(ino);
+        self.parts.table.drop_file_waits(ino);
     }
 
     /// The client lowers its lock of the file to this mode; false exactly where it has none of this life and grant number.
     pub fn released(&mut self, client: ClientId, life: Life, ino: u32, g: GrantNo, to: Mode) -> bool
         ensures { locks.released self.old client life ino g to ≡ record { locks = self.new; found = result } }
     {
-        self.granting.touch(ino);
-        self.demanding.touch(ino);
-        self.table.released(client, life, ino, g, to)
+        self.parts.granting.touch(ino);
+        self.parts.demanding.touch(ino);
+        self.parts.table.released(client, life, ino, g, to)
     }
 
     /// The demand on the client's row of the file and grant number waits for no answer.
     pub fn answered(&mut self, client: ClientId, ino: u32, g: GrantNo)
         ensures { self.new ≡ locks.demand_seen self.old client ino g }
     {
-        self.granting.touch(ino);
-        self.demanding.touch(ino);
-        self.table.answered(client, ino, g);
+        self.parts.granting.touch(ino);
+        self.parts.demanding.touch(ino);
+        self.parts.table.answered(client, ino, g);
     }
 
     /// The grants of one file.
@@ -237,13 +229,13 @@ impl LockTable {
         ensures ok { OnOk result (granting self.new granted.new.items ≡ file_granted ino (granting self.old granted.old.items)) }
         ensures room { OnOk result (self.new.grants + length self.new.waiters < 2 ^ 32) }
     {
-        self.granting.touch(ino);
-        self.demanding.touch(ino);
-        match self.table.grant_file(granted, ino) {
+        self.parts.granting.touch(ino);
+        self.parts.demanding.touch(ino);
+        match self.parts.table.grant_file(granted, ino) {
             Ok(()) => Ok(()),
             Err(error) => {
-                self.granting.touch_all();
-                self.demanding.touch_all();
+                self.parts.granting.touch_all();
+                self.parts.demanding.touch_all();
                 Err(error)
             }
         }
@@ -266,8 +258,8 @@ impl LockTable {
         requires { self.old.grants + length self.old.waiters < 2 ^ 32 }
         ensures { IfOk result (λ v. locks.next_grants self.old ≡ granting self.new v.items) }
     {
-        let mut granted = Vec::new(self.table.alloc);
-        let files = walked(&self.table, false, &self.granting)?;
+        let mut granted = Vec::new(self.parts.table.alloc);
+        let files = walked(&self.parts.table, &self.parts.granting)?;
         self.grant_each(&mut granted, files.as_slice())?;
         Ok(granted)
     }
@@ -278,59 +270,12 @@ impl LockTable {
         ensures { IfOk result (λ v. locks.next_grants self.old ≡ granting self.new v.items) }
     {
         let granted = self.grant_touched()?;
-        self.granting.clear();
+        self.parts.granting.clear();
         Ok(granted)
     }
 
-    /// The demands of one file.
-    fn demand_on(
-        &mut self,
-        due: &mut Vec<Sent>,
-        pass: Pass,
-        suspects: &[ClientId],
-        ino: u32,
-    ) -> Result<(), AllocError>
-        ensures { OnOk result (demanding self.new due.new.items ≡ file_demanded pass suspects.now ino (demanding self.old due.old.items)) }
-    {
-        match self.table.demand_for(due, pass, suspects, ino) {
-            Ok(()) => Ok(()),
-            Err(error) => {
-                self.granting.touch_all();
-                self.demanding.touch_all();
-                Err(error)
-            }
-        }
-    }
-
-    /// The demands of these files, one file after another.
-    #[tactic(auto, unfolding(st_rules::specs::Locks::demand_files))]
-    fn demand_each(
-        &mut self,
-        due: &mut Vec<Sent>,
-        pass: Pass,
-        suspects: &[ClientId],
-        files: &[u32],
-    ) -> Result<(), AllocError>
-        ensures { OnOk result (demanding self.new due.new.items ≡ locks.demand_files pass.config pass.now pass.tick suspects.now files.now (demanding self.old due.old.items)) }
-    {
-        for ino in files {
-            self.demand_on(due, pass, suspects, *ino)?;
-        }
-        Ok(())
-    }
-
-    /// The demands of all waited files on a tick, and else of those that a call touched.
-    fn demand_touched(&mut self, pass: Pass, suspects: &[ClientId]) -> Result<Vec<Sent>, AllocError>
-        ensures { IfOk result (λ v. locks.demands_due self.old pass.now pass.tick suspects.now pass.config ≡ demanding self.new v.items) }
-    {
-        let mut due = Vec::new(self.table.alloc);
-        let files = walked(&self.table, pass.tick, &self.demanding)?;
-        self.demand_each(&mut due, pass, suspects, files.as_slice())?;
-        Ok(due)
-    }
-
-    /// All demands that are due now; `tick` tells whether the old ones are sent once more. Without a tick it looks at the rows
-    /// of the files that a call touched; where there are suspects, of the files that were touched since there were none.
+    /// All demands that are due now; `tick` tells whether the old ones are sent once more. It looks at the rows of the files that
+    /// a call touched, and on a tick of those of which a demand is old; where the suspects changed, of all that are waited for.
     pub fn demands_due(
         &mut self,
         now: Stamp,
@@ -340,18 +285,14 @@ impl LockTable {
     ) -> Result<Vec<Sent>, AllocError>
         ensures { IfOk result (λ v. locks.demands_due self.old now tick suspects.now config ≡ demanding self.new v.items) }
     {
-        let due = self.demand_touched(Pass { config, now, tick }, suspects)?;
-        if suspects.is_empty() {
-            self.demanding.clear();
-        }
-        Ok(due)
+        self.parts.demands_due(Pass { config, now, tick }, suspects)
     }
 
     /// Whether one request more and all waiters may be granted in this epoch.
     pub fn has_room_for_waiters(&self) -> bool
         ensures { result ≡ nat_lt (self.now.grants + length self.now.waiters) (2 ^ 32 - 1) }
     {
-        self.table.has_room_for_waiters()
+        self.parts.table.has_room_for_waiters()
     }
 
     /// The clients that left a demand unanswered for the time that the settings give, in rising order. It looks at the rows of
@@ -364,6 +305,6 @@ impl LockTable {
     ) -> Result<Vec<ClientId>, AllocError>
         ensures { IfOk result (λ v. v.items ≡ locks.unanswered self.now now config) }
     {
-        self.table.unanswered(alloc, now, config)
+        self.parts.table.unanswered(alloc, now, config)
     }
 }

@@ -74,8 +74,8 @@ impl Touched {
         Ok(())
     }
 
-    /// Keeps a file that is not in the list. It takes no memory: where the list is full, all files are touched.
-    fn keep(&mut self, ino: u32)
+    /// Puts a file last in the list. It takes no memory: where the list is full, all files are touched.
+    pub fn keep(&mut self, ino: u32)
         ensures { Marks ino self.old self.new }
     {
         if self.files.len() < self.files.capacity() {

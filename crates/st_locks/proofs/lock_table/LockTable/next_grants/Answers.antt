@@ -7,4 +7,5 @@ pub invariant_of-self : goal.invariant_of-self
 invariant_of-self c = record {
   granted = λ j e. subst (λ (l : Locks). next_waiter l j ≡ None) (ap (λ p. p.locks) c.in_ok-granted.ensures ∙ sym c.self.view_is) (all_granted c.args.self.now j);
   demanded = c.self.invariant.demanded;
+  timed = c.self.invariant.timed;
 }
