@@ -32,7 +32,7 @@ OBSERVED = {name: re.compile(form) for name, form in {
 END = re.compile("end events N sent N commands N writes N reads N hard N gone N stolen N".replace("N", NUMBER))
 REFUSED = re.compile("line ([1-9][0-9]*) ([A-Z][A-Za-z]+)((?: [^ ]+)*)")
 # How many values each refusal has, and the events that it can refuse; a refusal of the text has none.
-REFUSALS = {"Syntax": 1, "LineTooLong": 1, "Number": 1, "NoHead": 0, "NoEnd": 0, "AfterEnd": 0, "TooMany": 1, "Config": 1, "NotBuilt": 0,
+REFUSALS = {"Syntax": 1, "LineTooLong": 1, "Number": 1, "NoHead": 0, "NoEnd": 0, "AfterEnd": 0, "TooMany": 1, "Config": 1,
             "NoNode": 1, "NotRunning": 1, "Running": 1, "NoMessage": 1, "LostMessage": 1, "LinkCut": 2, "NoCommand": 1, "DiskState": 1,
             "ClockRate": 2, "ClockDrift": 3, "LateDisk": 2, "FlushMissed": 2, "NetFull": 1}
 REFUSES = {"NoNode": "tick app cut heal crash start", "NotRunning": "tick app deliver crash", "Running": "start",

@@ -1,11 +1,13 @@
 -- One try after another.
-use Rattle.std.proofs.Common.{◌≡◌, ℕ, suc, ◌+◌, ◌-◌, ◌<◌, Option, Some, None, refl, sym, ap, ◌∙◌, arith, if◌then◌else◌}
+use Rattle.std.proofs.Common.{◌≡◌, ℕ, suc, ◌+◌, ◌-◌, ◌<◌, true, Option, Some, None, subst, refl, sym, ap, ◌∙◌, arith, if◌then◌else◌}
 use Rattle.std.specs.Prelude.{is_none}
 use Rattle.st_messages.specs.declared.event.Event.{Event}
 use Rattle.st_rules.specs.declared.observation.WorldRefusal.{WorldRefusal}
 use Rattle.st_rules.specs.Admissible.{refusal}
 use Rattle.st_rules.specs.World.{World}
 use Rattle.st_rules.specs.Generator.{candidate, candidate_in, choice, fallback, try_first, tried, unless_refused}
+use Rattle.st_rules.specs.Safety.{is_event}
+use Rattle.st_generate.proofs.Drawn.{GoodDrawn, candidate_good}
 use Rattle.st_candidates.specs.Choice.{IsTry, admitted_of}
 
 -- what a candidate gives
@@ -44,3 +46,8 @@ is_made i w x e y c l t h =
 pub falls_back : (w : World) (x : ℕ) (c : Event × ℕ) → choice (16 - 16) w x ≡ c → (fallback, x) ≡ c
 unfolding choice
 falls_back w x c h = h
+
+-- a candidate has its fields in their ranges, in a world of five nodes
+pub candidate_fits : (sent submitted x : ℕ) (e : Event) (y : ℕ) → (Some e, y) ≡ candidate sent submitted x → is_event 5 e ≡ true
+candidate_fits sent submitted x e y h =
+    (subst (λ (c : Option Event × ℕ). GoodDrawn sent submitted c.0) (sym h) (candidate_good sent submitted x)).range

@@ -4,6 +4,7 @@
 mod candidates;
 mod choice;
 mod draws;
+mod world;
 
 pub use candidates::candidate;
 pub use choice::{Judge, choose};

@@ -1,11 +1,32 @@
 // The commands, by their numbers from 1.
 ghost use Rattle.std.specs.Prelude.{◌≡◌, ◌<◌, Some, length, set, slice_get};
-ghost use Rattle.std.specs.Option.{option_copied};
+ghost use Rattle.std.specs.Option.{option_copied, option_map};
+ghost use Rattle.st_disk.specs.Standings.{standing_of};
 ghost use Rattle.st_rules.specs.declared.disks.DiskCommand.{DiskCommand};
 ghost use Rattle.st_rules.specs.Disks as disks;
 ghost use Rattle.st_disk.specs.Calls.{IsIndex};
 
 use st_rules::{Block, DiskCommand, Report};
+
+/// How a command stands: whether it had its effect, and how it was reported.
+#[derive(Clone, Copy, Debug, PartialEq, Eq)]
+pub struct Standing {
+    pub effected: bool,
+    pub report: Report,
+}
+
+/// How a command stands, if there is one.
+pub fn standing_of(command: Option<&DiskCommand>) -> Option<Standing>
+    ensures { result ≡ option_map standing_of (option_copied command.entry) }
+{
+    match command {
+        None => None,
+        Some(command) => Some(Standing {
+            effected: command.effected,
+            report: command.report,
+        }),
+    }
+}
 
 /// The index of the command with this number, if there is one.
 pub fn index_of(commands: &[DiskCommand], n: u64) -> Option<usize>

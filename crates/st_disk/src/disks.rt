@@ -4,10 +4,13 @@ ghost use Rattle.std.specs.Option.{option_map};
 ghost use Rattle.st_rules.specs.declared.disks.DiskCommand.{DiskCommand};
 ghost use Rattle.st_rules.specs.Disks as disks;
 ghost use Rattle.st_rules.specs.Disks.{fresh_disks};
-ghost use Rattle.st_disk.specs.Calls.{Answers, HasBlock, SameSize, ended, place, sampled_at, shown, told, written_at};
+ghost use Rattle.st_disk.specs.Standings.{standing_of};
+ghost use Rattle.st_disk.specs.Calls.{Answers, HasBlock, SameSize, ended, sampled_at, shown, told, written_at};
 
-use crate::blocks::{find_block, put_block};
-use crate::commands::{command_at, effect_command, index_of, report_command, sample_command};
+use crate::blocks::Blocks;
+use crate::commands::{
+    Standing, command_at, effect_command, index_of, report_command, sample_command, standing_of,
+};
 use crate::refusal::DiskRefusal;
 use st_base::{BlockAt, Command, FileId, PageBytes, PageNo, ServerId, Tag};
 use st_rules::{Block, DiskCommand, Report};
@@ -19,7 +22,7 @@ use std::marker::Model;
 pub struct Disks {
     disks: u16,
     blocks: u32,
-    written: Vec<Block>,
+    written: Blocks,
     commands: Vec<DiskCommand>,
     zeros: PageBytes,
 }
@@ -31,7 +34,7 @@ impl Model for Disks {
 
     ghost Value = { shared_disks.Disks };
 
-    ghost view = { λ d. record { disks = d.disks; blocks = d.blocks; written = d.written.items; commands = d.commands.items } };
+    ghost view = { λ d. record { disks = d.disks; blocks = d.blocks; written = d.written; commands = d.commands.items } };
 
     ghost invariant = { λ d. d.zeros ≡ filled 0 };
 }
@@ -54,7 +57,7 @@ impl Disks {
         Disks {
             disks,
             blocks,
-            written: Vec::new(alloc),
+            written: Blocks::new(alloc),
             commands: Vec::new(alloc),
             zeros: PageBytes::filled(0),
         }
@@ -62,7 +65,6 @@ impl Disks {
 
     /// Takes a command, and returns its number: 1, 2 and so on. The command has no effect yet.
     pub fn submit(&mut self, command: Command) -> Result<u64, AllocError>
-        requires exists { HasBlock self.old (place command) }
         ensures ok { OnOk result (self.new ≡ disks.submit self.old command) }
         ensures number { IfOk result (λ n. n ≡ length self.new.commands) }
         ensures size { SameSize self.old self.new }
@@ -77,13 +79,20 @@ impl Disks {
         Ok(self.commands.len() as u64)
     }
 
+    /// Returns how the command of this number stands, if there is one. It does not allocate.
+    pub fn standing(&self, n: u64) -> Option<Standing>
+        ensures { result ≡ option_map standing_of (disks.command self.now n) }
+    {
+        standing_of(command_at(&self.commands, n))
+    }
+
     /// Returns the tag and the bytes of a block: birth 0 and zeros if it was never written. It does not allocate.
     pub fn block(&self, at: BlockAt) -> (Tag, &PageBytes)
         requires exists { HasBlock self.now at }
         ensures tag { result.0 ≡ (disks.block self.now at).tag }
         ensures bytes { result.1.now ≡ (disks.block self.now at).bytes }
     {
-        match find_block(&self.written, at) {
+        match self.written.find(at) {
             Some(block) => (block.tag, &block.bytes),
             None => (FRESH_TAG, &self.zeros),
         }
@@ -103,7 +112,7 @@ impl Disks {
     fn found(&self, at: BlockAt) -> Result<Block, AllocError>
         ensures { IfOk result (λ b. b ≡ disks.block self.now at) }
     {
-        match find_block(&self.written, at) {
+        match self.written.find(at) {
             Some(block) => block.copy(),
             None => Ok(Block {
                 at,
@@ -132,7 +141,7 @@ impl Disks {
         ensures size { SameSize self.old self.new }
         ensures err { OnErr result (self.new ≡ self.old) }
     {
-        put_block(&mut self.written, block)?;
+        self.written.put(block)?;
         effect_command(&mut self.commands, index);
         Ok(())
     }

@@ -1,5 +1,5 @@
-mod Sizes
-mod Drawn
-mod Choices
+pub mod Sizes
+pub mod Drawn
+pub mod Choices
 mod Runs
 mod Full

@@ -1,7 +1,5 @@
--- What a log keeps of its entries beside what they are.
-use Rattle.std.specs.Prelude.{◌≡◌, ℕ, ◌+◌, ◌≤◌, List, length}
-use Rattle.std.specs.List.{All}
-use Rattle.st_base.specs.Page.{filled}
+-- What holds of the entries of each log.
+use Rattle.std.specs.Prelude.{◌+◌, ◌≤◌, List, [], ◌∷◌, length}
 use Rattle.st_rules.specs.declared.log.Change.{Change}
 use Rattle.st_rules.specs.declared.log.Change.TheVariants.{Write, Patch, Cut}
 use Rattle.st_rules.specs.declared.log.LogEntry.{LogEntry}
@@ -20,7 +18,7 @@ IsWhole (heads.Write client life file page) = Unit {0}
 IsWhole (heads.Patch client life file page) = ⊥
 IsWhole (heads.Cut file from) = Unit {0}
 
--- what a log with this page of zeros keeps
-pub record IsKept (zeros : List ℕ) (log : List LogEntry) : Type 0 where
-  pub blank : zeros ≡ filled 0
-  pub ranges : All (λ (e : LogEntry). IsInPage e.change) log
+-- the ranges of all patches do
+abbrev pub AreInPages : List LogEntry → Type 0
+AreInPages [] = Unit {0}
+AreInPages (e ∷ es) = IsInPage e.change × AreInPages es

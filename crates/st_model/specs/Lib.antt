@@ -1,2 +1,5 @@
 pub mod Kept
 pub mod Last
+pub mod ByPage
+pub mod Walks
+pub mod Latest

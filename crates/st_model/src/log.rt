@@ -1,36 +1,48 @@
-ghost use Rattle.std.specs.Prelude.{◌≡◌, ◌+◌, ◌≤◌, [], IfOk, IfSome, OnOk, OnErr, Some, length};
+ghost use Rattle.std.specs.Prelude.{◌≡◌, ◌+◌, ◌≤◌, ◌++◌, ◌∷◌, [], true, IfOk, IfSome, OnOk, OnErr, Some, length};
 ghost use Rattle.std.specs.Option.{option_map};
 ghost use Rattle.st_base.specs.Page.{filled};
-ghost use Rattle.st_model.specs.Kept.{IsWhole};
+ghost use Rattle.st_model.specs.ByPage as by_page;
+ghost use Rattle.st_model.specs.Kept.{IsInPage, IsWhole};
 ghost use Rattle.st_model.specs.Last.{LastTells};
+ghost use Rattle.st_model.specs.Walks as walks;
+ghost use Rattle.st_rules.specs.Events as events;
 ghost use Rattle.st_rules.specs.FlatLog as flat_log;
 
-use crate::marks::{harden_all, lose};
-use crate::pages::{content_of, last_of};
+use crate::client_pages::{ClientPage, client_page};
+use crate::file_pages::{FilePage, Places, add, file_page, slice_at};
+use crate::marking::{Crashing, Hardening, Losing, Marking, Spare};
+use crate::marks::{mark_places, seen_of};
+use crate::pages::{clear, last_among, later, option_of, page_after};
+use indexmap::IndexMap;
 use st_base::{ClientId, FileId, Life, PageBytes, PageNo};
 use st_messages::PatchBytes;
-use st_rules::{Cause, Change, EntryHead, Fate, LogEntry, LogOwner};
+use st_rules::{Cause, Change, EntryHead, Fate, LogEntry, LogOwner, Observation};
 use std::alloc::{AllocError, Global};
 use std::marker::Model;
 
 /// All changes of pages that were accepted, in the order of acceptance, numbered from 1. Contracts see it as the list of
-/// its entries.
+/// its entries. Beside the entries it keeps the places of the pending ones, the number of each client's latest entry to each
+/// page, the places of each page's writes and patches, and the places of each file's cuts. No call passes over all entries.
 #[derive(Drop)]
 pub struct FlatLog {
     entries: Vec<LogEntry>,
+    pending: Vec<usize>,
+    latest: IndexMap<ClientPage, u64>,
+    pages: IndexMap<FilePage, Places>,
+    cuts: IndexMap<FilePage, Places>,
     zeros: PageBytes,
 }
 
 impl Model for FlatLog {
     ghost use Rattle.std.specs.Prelude.{List};
-    ghost use Rattle.st_model.specs.Kept.{IsKept};
+    ghost use Rattle.st_model.specs.Latest.{IsKept};
     ghost use Rattle.st_rules.specs.declared.log.LogEntry.{LogEntry};
 
     ghost Value = { List LogEntry };
 
     ghost view = { λ l. l.entries.items };
 
-    ghost invariant = { λ l. IsKept l.zeros l.entries.items };
+    ghost invariant = { λ l. IsKept l.zeros l.entries.items l.pending.items l.latest l.pages l.cuts };
 }
 
 fn page_of<'a>(entry: &'a LogEntry, zeros: &'a PageBytes) -> &'a PageBytes
@@ -78,8 +90,45 @@ impl FlatLog {
     {
         FlatLog {
             entries: Vec::new(alloc),
+            pending: Vec::new(alloc),
+            latest: IndexMap::new(alloc),
+            pages: IndexMap::new(alloc),
+            cuts: IndexMap::new(alloc),
             zeros: PageBytes::filled(0),
         }
+    }
+
+    /// Adds a pending entry, and returns its number. If it runs out of memory, the log is unchanged.
+    fn push(&mut self, of: LogOwner, change: Change) -> Result<u64, AllocError>
+        requires bytes { by_page.is_bytes change ≡ true }
+        requires range { IsInPage change }
+        ensures entry { OnOk result (self.new ≡ self.old ++ flat_log.pending of change ∷ []) }
+        ensures number { IfOk result (λ n. n ≡ length self.old + 1) }
+        ensures err { OnErr result (self.new ≡ self.old) }
+    {
+        self.latest.reserve(1)?;
+        self.pending.reserve(1)?;
+        self.entries.reserve(1)?;
+        let alloc = *self.entries.allocator();
+        add(
+            &mut self.pages,
+            file_page(of.file, of.page),
+            self.entries.len(),
+            alloc,
+        )?;
+        let entry = LogEntry {
+            of,
+            change,
+            fate: Fate::Pending,
+        };
+        self.entries.push(entry).unwrap();
+        let number = self.entries.len() as u64;
+        self.pending.push(self.entries.len() - 1).unwrap();
+        let _old = self
+            .latest
+            .insert(client_page(of.client, of.file, of.page), number)
+            .unwrap();
+        Ok(number)
     }
 
     /// Adds a pending write of a whole page, and returns its number. The log shares the page's bytes. If it runs out of
@@ -97,18 +146,14 @@ impl FlatLog {
         ensures number { IfOk result (λ n. n ≡ length self.old + 1) }
         ensures err { OnErr result (self.new ≡ self.old) }
     {
-        let bytes = bytes.copy()?;
-        self.entries.push(LogEntry {
-            of: LogOwner {
-                client,
-                life,
-                file,
-                page,
-            },
-            change: Change::Write(bytes),
-            fate: Fate::Pending,
-        })?;
-        Ok(self.entries.len() as u64)
+        let change = Change::Write(bytes.copy()?);
+        let of = LogOwner {
+            client,
+            life,
+            file,
+            page,
+        };
+        self.push(of, change)
     }
 
     /// Adds a pending patch, which replaces the bytes of the page from index `at`, and returns its number. A patch has at
@@ -131,17 +176,13 @@ impl FlatLog {
         ensures err { OnErr result (self.new ≡ self.old) }
     {
         let bytes = PatchBytes::from_vec(Vec::from_slice(*self.entries.allocator(), bytes)?);
-        self.entries.push(LogEntry {
-            of: LogOwner {
-                client,
-                life,
-                file,
-                page,
-            },
-            change: Change::Patch(at, bytes),
-            fate: Fate::Pending,
-        })?;
-        Ok(self.entries.len() as u64)
+        let of = LogOwner {
+            client,
+            life,
+            file,
+            page,
+        };
+        self.push(of, Change::Patch(at, bytes))
     }
 
     /// Adds a cut of a file's pages from page `from`, which is hard at once, and returns its number. If it runs out of
@@ -152,7 +193,16 @@ impl FlatLog {
         ensures number { IfOk result (λ n. n ≡ length self.old + 1) }
         ensures err { OnErr result (self.new ≡ self.old) }
     {
-        self.entries.push(LogEntry {
+        self.latest.reserve(1)?;
+        self.entries.reserve(1)?;
+        let alloc = *self.entries.allocator();
+        add(
+            &mut self.cuts,
+            file_page(file, PageNo(0)),
+            self.entries.len(),
+            alloc,
+        )?;
+        let entry = LogEntry {
             of: LogOwner {
                 client: ClientId(0),
                 life: Life(0),
@@ -161,36 +211,110 @@ impl FlatLog {
             },
             change: Change::Cut,
             fate: Fate::Hard,
-        })?;
-        Ok(self.entries.len() as u64)
+        };
+        self.entries.push(entry).unwrap();
+        let number = self.entries.len() as u64;
+        let _old = self
+            .latest
+            .insert(client_page(ClientId(0), file, from), number)
+            .unwrap();
+        Ok(number)
+    }
+
+    /// Marks the pending entries; no other entry is read. It does not allocate.
+    pub fn mark<M: Marking>(&mut self, marking: &M)
+        ensures { self.new ≡ walks.mark_from (M.becomes marking.now) 1 self.old }
+    {
+        let kept = mark_places(&mut self.entries, &mut self.pending, marking);
+        self.pending.truncate(kept);
+    }
+
+    /// Adds what is observed when the pending entries are marked so, by rising number. If it runs out of memory, `seen` may
+    /// hold a part of it.
+    pub fn observe<M: Marking>(
+        &self,
+        marking: &M,
+        seen: &mut Vec<Observation>,
+    ) -> Result<(), AllocError>
+        ensures { OnOk result (seen.new.items ≡ seen.old.items ++ walks.marks_seen (M.becomes marking.now) self.now) }
+    {
+        seen_of(&self.entries, &self.pending, marking, seen)
     }
 
     /// Makes the entry hard if it is pending, and so each earlier pending write and patch of the same client, life, file and
-    /// page. It does not allocate.
+    /// page. It reads the pending entries alone, and does not allocate.
     pub fn harden(&mut self, index: u64)
         requires some { 1 ≤ index }
         requires known { index ≤ length self.old }
         ensures { self.new ≡ flat_log.harden self.old index }
     {
         let of = self.entries[(index - 1) as usize].of;
-        harden_all(&mut self.entries, index, of);
+        self.mark(&Hardening { index, of });
     }
 
-    /// Makes the entry gone with this cause if it is pending. It does not allocate.
+    /// Adds what is observed when this entry hardens. If it runs out of memory, `seen` may hold a part of it.
+    pub fn observe_harden(&self, index: u64, seen: &mut Vec<Observation>) -> Result<(), AllocError>
+        requires some { 1 ≤ index }
+        requires known { index ≤ length self.now }
+        ensures { OnOk result (seen.new.items ≡ seen.old.items ++ events.fates_from 1 self.now (flat_log.harden self.now index)) }
+    {
+        let of = self.entries[(index - 1) as usize].of;
+        self.observe(&Hardening { index, of }, seen)
+    }
+
+    /// Makes the entry gone with this cause if it is pending. It reads the pending entries alone, and does not allocate.
+    #[tactic(auto, using(crate::proofs::Markings::gone_is))]
     pub fn gone(&mut self, index: u64, cause: Cause)
         requires some { 1 ≤ index }
         requires known { index ≤ length self.old }
         ensures { self.new ≡ flat_log.gone self.old index cause }
     {
-        lose(&mut self.entries[(index - 1) as usize], cause);
+        self.mark(&Losing { index, cause });
     }
 
-    /// Returns the number of the last entry that touches the page and is not gone, if there is one. It does not allocate.
+    /// Makes the pending entries of a client that crashed gone, except those that a spare names. It reads the pending entries
+    /// alone, and does not allocate.
+    #[tactic(auto, using(crate::proofs::Markings::drop_picked_is))]
+    pub fn crash(&mut self, client: ClientId, spared: &[Spare])
+        ensures { self.new ≡ walks.without_crashed client spared.now self.old }
+    {
+        self.mark(&Crashing { client, spared });
+    }
+
+    /// Adds what is observed when this client crashes. If it runs out of memory, `seen` may hold a part of it.
+    #[tactic(auto, using(crate::proofs::Markings::drop_picked_is))]
+    pub fn observe_crash(
+        &self,
+        client: ClientId,
+        spared: &[Spare],
+        seen: &mut Vec<Observation>,
+    ) -> Result<(), AllocError>
+        ensures { OnOk result (seen.new.items ≡ seen.old.items ++ events.fates_from 1 self.now (walks.without_crashed client spared.now self.now)) }
+    {
+        self.observe(&Crashing { client, spared }, seen)
+    }
+
+    /// Returns the number of the client's latest entry to a page, or 0. It is one look-up, and does not allocate.
+    pub fn latest(&self, client: ClientId, file: FileId, page: PageNo) -> u64
+        ensures { result ≡ events.latest self.now client file page }
+    {
+        match self.latest.get(&client_page(client, file, page)) {
+            Some(number) => *number,
+            None => 0,
+        }
+    }
+
+    /// Returns the number of the last entry that touches the page and is not gone, if there is one. It reads the page's writes
+    /// and patches and the file's cuts alone, the last ones first, and does not allocate.
     pub fn last(&self, file: FileId, page: PageNo) -> Option<u64>
         ensures last { result ≡ flat_log.last self.now file page }
         ensures content { LastTells self.now file page result }
     {
-        last_of(&self.entries, file, page)
+        let changes = slice_at(&self.pages, file_page(file, page));
+        let of_page = last_among(&self.entries, changes, file, page);
+        let cuts = slice_at(&self.cuts, file_page(file, PageNo(0)));
+        let of_cuts = last_among(&self.entries, cuts, file, page);
+        option_of(later(of_page, of_cuts))
     }
 
     /// Returns the bytes of a write, or zeros for a cut. The entry must not be a patch; `entry` tells which it is.
@@ -204,12 +328,16 @@ impl FlatLog {
     }
 
     /// Writes the bytes of a page into a slice of 4,096 bytes: zeros, changed by the entries that touch the page and are not
-    /// gone, in order. It does not allocate.
+    /// gone, in order. It reads the page's writes and patches and the file's cuts alone, and does not allocate.
     pub fn content(&self, file: FileId, page: PageNo, into: &mut [u8])
         requires { length into.old ≡ 4096 }
         ensures { into.new ≡ flat_log.content self.now file page }
     {
-        content_of(&self.entries, file, page, into);
+        let changes = slice_at(&self.pages, file_page(file, page));
+        let cuts = slice_at(&self.cuts, file_page(file, PageNo(0)));
+        let from = last_among(&self.entries, cuts, file, page);
+        clear(into);
+        page_after(&self.entries, changes, from, file, page, into);
     }
 
     /// Returns the fate of an entry.

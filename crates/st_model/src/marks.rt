@@ -1,61 +1,104 @@
-ghost use Rattle.std.specs.Prelude.{◌≡◌};
+ghost use Rattle.std.specs.Prelude.{◌≡◌, ◌+◌, ◌^◌, ◌<◌, ◌≤◌, ◌++◌, OnOk, ℕ, length, take, drop};
+ghost use Rattle.st_model.specs.Walks as walks;
+ghost use Rattle.st_rules.specs.Events as events;
 ghost use Rattle.st_rules.specs.FlatLog as flat_log;
+ghost use Rattle.st_rules.specs.declared.log.Fate.TheVariants as fates;
 
-use st_rules::{Cause, Fate, LogEntry, LogOwner};
+use crate::marking::Marking;
+use st_rules::{Fate, LogEntry, Observation};
+use std::alloc::{AllocError, Global};
 
-fn same_owner(a: LogOwner, b: LogOwner) -> bool
-    ensures { result ≡ flat_log.same_owner a b }
-{
-    (a.client.0 == b.client.0 && a.life.0 == b.life.0)
-        && ((a.file.server.0 == b.file.server.0 && a.file.ino == b.file.ino)
-            && a.page.0 == b.page.0)
-}
-
-fn harder(fate: Fate) -> Fate
-    ensures { result ≡ flat_log.harder fate }
+fn is_pending(fate: Fate) -> bool
+    ensures { result ≡ flat_log.is_pending fate }
 {
     match fate {
-        Fate::Pending => Fate::Hard,
-        other => other,
+        Fate::Pending => true,
+        Fate::Hard => false,
+        Fate::Gone(_) => false,
     }
 }
 
-fn lost(cause: Cause, fate: Fate) -> Fate
-    ensures { result ≡ flat_log.lost cause fate }
+/// Returns what becomes of the pending entry at a place.
+fn next_at<M: Marking>(entries: &[LogEntry], k: usize, marking: &M) -> Fate
+    requires { k < length entries.now }
+    ensures fate { result ≡ walks.next_at (M.becomes marking.now) k entries.now }
+    ensures number { k + 1 < 2 ^ 64 }
+{
+    marking.fate_of(k as u64 + 1, entries[k].of)
+}
+
+fn put_fate(entries: &mut [LogEntry], k: usize, fate: Fate)
+    requires { k < length entries.old }
+    ensures { entries.new ≡ walks.put_fate k fate entries.old }
+{
+    entries[k].fate = fate;
+}
+
+/// Writes a place behind the kept ones if the fate is pending, and returns the count of kept places.
+fn keep(places: &mut [usize], kept: usize, k: usize, fate: Fate) -> usize
+    requires { kept < length places.old }
+    ensures kept { take result places.new ≡ take kept places.old ++ walks.if_pending fate k }
+    ensures rest { (j : ℕ) → kept < j → drop j places.new ≡ drop j places.old }
+    ensures len { length places.new ≡ length places.old }
+    ensures most { result ≤ kept + 1 }
+{
+    if is_pending(fate) {
+        places[kept] = k;
+        return kept + 1;
+    }
+    kept
+}
+
+/// Marks the pending entries, whose places these are. The places that stay pending come first afterwards; it returns their
+/// count.
+pub(crate) fn mark_places<M: Marking>(
+    entries: &mut [LogEntry],
+    places: &mut [usize],
+    marking: &M,
+) -> usize
+    requires { places.old ≡ walks.pending_from 0 entries.old }
+    ensures entries { entries.new ≡ walks.mark_from (M.becomes marking.now) 1 entries.old }
+    ensures places { take result places.new ≡ walks.pending_from 0 entries.new }
+    ensures length { length entries.new ≡ length entries.old }
+    ensures room { length places.new ≡ length places.old }
+{
+    let mut kept = 0usize;
+    for i in 0..places.len() {
+        let k = places[i];
+        let fate = next_at(entries, k, marking);
+        put_fate(entries, k, fate);
+        kept = keep(places, kept, k, fate);
+    }
+    kept
+}
+
+fn push_seen(seen: &mut Vec<Observation>, number: u64, fate: Fate) -> Result<(), AllocError>
+    ensures { OnOk result (seen.new.items ≡ seen.old.items ++ events.fate_seen number fates.Pending fate) }
 {
     match fate {
-        Fate::Pending => Fate::Gone(cause),
-        Fate::Hard => Fate::Hard,
-        Fate::Gone(old) => Fate::Gone(old),
+        Fate::Pending => Ok(()),
+        Fate::Hard => Ok(seen.push(Observation::Hardened(number))?),
+        Fate::Gone(cause) => Ok(seen.push(Observation::Dropped {
+            index: number,
+            cause,
+        })?),
     }
 }
 
-/// Hardens an entry of this number if it is of the same owner as the entry `index` and not after it.
-#[tactic(auto, unfolding(st_rules::specs::FlatLog::harder_entry, st_rules::specs::FlatLog::hardened))]
-fn harden_one(entry: &mut LogEntry, number: u64, index: u64, of: LogOwner)
-    ensures { entry.new ≡ flat_log.hardened index of number entry.old }
+/// Adds what is observed when the pending entries, whose places these are, are marked.
+pub(crate) fn seen_of<M: Marking>(
+    entries: &[LogEntry],
+    places: &[usize],
+    marking: &M,
+    seen: &mut Vec<Observation>,
+) -> Result<(), AllocError>
+    requires { places.now ≡ walks.pending_from 0 entries.now }
+    ensures { OnOk result (seen.new.items ≡ seen.old.items ++ events.fates_from 1 entries.now (walks.mark_from (M.becomes marking.now) 1 entries.now)) }
 {
-    if number <= index && same_owner(entry.of, of) {
-        entry.fate = harder(entry.fate);
+    for i in 0..places.len() {
+        let k = places[i];
+        let fate = next_at(entries, k, marking);
+        push_seen(seen, k as u64 + 1, fate)?;
     }
-}
-
-/// Hardens every pending entry of this owner up to the number `index`.
-#[tactic(auto, using(crate::proofs::Fates::rest_after_set), unfolding(st_rules::specs::FlatLog::harden_from))]
-pub(crate) fn harden_all(entries: &mut Vec<LogEntry>, index: u64, of: LogOwner)
-    ensures { entries.new.items ≡ flat_log.harden_from 1 index of entries.old.items }
-{
-    let mut number = 0u64;
-    for entry in entries.iter_mut() {
-        number += 1;
-        harden_one(entry, number, index, of);
-    }
-}
-
-/// Makes one entry gone with this cause where it is pending.
-#[tactic(auto, unfolding(st_rules::specs::FlatLog::lost_entry))]
-pub(crate) fn lose(entry: &mut LogEntry, cause: Cause)
-    ensures { entry.new ≡ flat_log.lost_entry (flat_log.always cause) entry.old }
-{
-    entry.fate = lost(cause, entry.fate);
+    Ok(())
 }

@@ -1,7 +1,7 @@
-ghost use Rattle.std.specs.Prelude.{◌≡◌, ◌+◌, ◌≤◌, length};
-ghost use Rattle.std.specs.List.{All};
+ghost use Rattle.std.specs.Prelude.{◌≡◌, ◌+◌, ◌<◌, ◌≤◌, ◌&&◌, if◌then◌else◌, nat_le, ℕ, length, get_or, max};
 ghost use Rattle.st_base.specs.Page.{filled};
-ghost use Rattle.st_model.specs.Kept.{IsInPage};
+ghost use Rattle.st_model.specs.ByPage as by_page;
+ghost use Rattle.st_model.specs.Kept.{AreInPages, IsInPage};
 ghost use Rattle.st_rules.specs.FlatLog as flat_log;
 
 use st_base::{FileId, PageBytes, PageNo};
@@ -41,37 +41,41 @@ fn matters(entry: &LogEntry, file: FileId, page: PageNo) -> bool
     touches(entry, file, page) && counts(entry.fate)
 }
 
-#[tactic(auto, unfolding(st_rules::specs::FlatLog::last_at))]
-fn last_at(
-    entry: &LogEntry,
-    file: FileId,
-    page: PageNo,
-    number: u64,
-    before: Option<u64>,
-) -> Option<u64>
-    ensures { result ≡ flat_log.last_at file page number entry.now before }
+/// Returns the number of the last entry at these places that touches the page and is not gone, or 0. It stops at the first
+/// such place from the back.
+pub(crate) fn last_among(entries: &[LogEntry], places: &[usize], file: FileId, page: PageNo) -> u64
+    requires { (i : ℕ) → i < length places.now → get_or places.now i 0 < length entries.now }
+    ensures { result ≡ by_page.last_place (flat_log.matters file page) entries.now 0 places.now }
 {
-    if !matters(entry, file, page) {
-        return before;
+    let n = places.len();
+    for i in 0..n {
+        let k = places[n - 1 - i];
+        if matters(&entries[k], file, page) {
+            return k as u64 + 1;
+        }
     }
-    Some(number)
+    0
 }
 
-/// Returns the number of the last entry that touches the page and is not gone.
-#[tactic(auto, unfolding(st_rules::specs::FlatLog::last_from, st_rules::specs::FlatLog::last))]
-pub(crate) fn last_of(entries: &[LogEntry], file: FileId, page: PageNo) -> Option<u64>
-    ensures { result ≡ flat_log.last entries.now file page }
+/// Returns the greater number.
+pub(crate) fn later(a: u64, b: u64) -> u64
+    ensures { result ≡ max a b }
 {
-    let mut number = 0u64;
-    let mut found = None;
-    for entry in entries {
-        number += 1;
-        found = last_at(entry, file, page, number, found);
-    }
-    found
+    a.max(b)
 }
 
-fn clear(into: &mut [u8])
+/// Returns a number that is not 0, or `None` for 0.
+pub(crate) fn option_of(n: u64) -> Option<u64>
+    ensures { result ≡ by_page.option_of n }
+{
+    if n == 0 {
+        return None;
+    }
+    Some(n)
+}
+
+/// Writes zeros.
+pub(crate) fn clear(into: &mut [u8])
     requires { length into.old ≡ 4096 }
     ensures { into.new ≡ filled 0 }
 {
@@ -99,25 +103,74 @@ fn change_page(change: &Change, into: &mut [u8])
 }
 
 #[tactic(auto, unfolding(st_rules::specs::FlatLog::after))]
-fn put_entry(entry: &LogEntry, file: FileId, page: PageNo, into: &mut [u8])
+fn put_entry(entry: &LogEntry, k: u64, from: u64, file: FileId, page: PageNo, into: &mut [u8])
     requires whole { length into.old ≡ 4096 }
     requires range { IsInPage entry.now.change }
-    ensures { into.new ≡ flat_log.after file page entry.now into.old }
+    ensures { into.new ≡ (if nat_le from k then flat_log.after file page entry.now into.old else into.old) }
 {
-    if matters(entry, file, page) {
+    if from <= k && matters(entry, file, page) {
         change_page(&entry.change, into);
     }
 }
 
-/// Writes the bytes that these entries give to a page.
-#[tactic(auto, unfolding(st_rules::specs::FlatLog::content_from, st_rules::specs::FlatLog::content))]
-pub(crate) fn content_of(entries: &[LogEntry], file: FileId, page: PageNo, into: &mut [u8])
-    requires whole { length into.old ≡ 4096 }
-    requires ranges { All (λ e. IsInPage e.change) entries.now }
-    ensures { into.new ≡ flat_log.content entries.now file page }
+fn is_write(change: &Change) -> bool
+    ensures { result ≡ by_page.is_write change.now }
 {
-    clear(into);
-    for entry in entries {
-        put_entry(entry, file, page, into);
+    match change {
+        Change::Write(_) => true,
+        Change::Patch(_, _) => false,
+        Change::Cut => false,
+    }
+}
+
+/// Tells whether nothing of the page is left from before the entry at place `k`: a write that is not gone.
+fn covers(entry: &LogEntry, k: u64, from: u64, file: FileId, page: PageNo) -> bool
+    ensures { result ≡ nat_le from k && (flat_log.matters file page entry.now && by_page.is_write entry.now.change) }
+{
+    from <= k && (matters(entry, file, page) && is_write(&entry.change))
+}
+
+/// Returns the index, among the places, of the last write of the page that is not gone, or 0. The page does not depend on the
+/// entries at the places in front of it.
+fn last_write(
+    entries: &[LogEntry],
+    places: &[usize],
+    from: u64,
+    file: FileId,
+    page: PageNo,
+) -> usize
+    requires { (i : ℕ) → i < length places.now → get_or places.now i 0 < length entries.now }
+    ensures skips { by_page.Skips from file page entries.now places.now result }
+    ensures most { result ≤ length places.now }
+{
+    let n = places.len();
+    for i in 0..n {
+        let k = places[n - 1 - i];
+        if covers(&entries[k], k as u64, from, file, page) {
+            return n - 1 - i;
+        }
+    }
+    0
+}
+
+/// Changes a page by the entries at these places, except the places below `from`. It reads the entries from the last write
+/// that is not gone on.
+pub(crate) fn page_after(
+    entries: &[LogEntry],
+    places: &[usize],
+    from: u64,
+    file: FileId,
+    page: PageNo,
+    into: &mut [u8],
+)
+    requires places { (i : ℕ) → i < length places.now → get_or places.now i 0 < length entries.now }
+    requires ranges { AreInPages entries.now }
+    requires whole { length into.old ≡ 4096 }
+    ensures { into.new ≡ by_page.page_after from file page entries.now into.old places.now }
+{
+    let start = last_write(entries, places, from, file, page);
+    for i in start..places.len() {
+        let k = places[i];
+        put_entry(&entries[k], k as u64, from, file, page, into);
     }
 }

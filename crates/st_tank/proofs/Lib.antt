@@ -1,6 +1,2 @@
-mod FilledRuns
-pub mod Newlines
-pub mod FirstBytes
-pub mod WholeSchedules
-pub mod ReadAndWritten
-pub mod RefusedLine
+mod Prefixed
+mod Statuses

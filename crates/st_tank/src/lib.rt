@@ -1,10 +1,6 @@
-//! The tank: a schedule is read from a source, run through a world, and told of in a report. `docs/PROTOCOL.md`,
-//! "Schedules" and "Report lines".
+//! The top call of the program: the words, the replay, its status, and what the error sink is told. `docs/PROTOCOL.md`, "The program".
 #![tactic(auto)]
 
-mod lines;
 mod program;
-mod replay;
-mod report;
 
 pub use program::run;

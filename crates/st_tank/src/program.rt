@@ -2,18 +2,19 @@ ghost use Rattle.std.specs.Prelude.{◌≡◌, ◌≤◌, ◌⊎◌, false, IfSo
 ghost use Rattle.std.specs.Io.KnownBytes.{Appends, IsAtEnd};
 ghost use Rattle.st_link.specs.Causes.{Rose};
 ghost use Rattle.st_link.specs.Prefixes.{AppendsPrefix};
-ghost use Rattle.st_world.specs.Run.{ReadsReturnLastWrites};
-ghost use Rattle.st_tank.specs.Replay.{report_of, status_of};
+ghost use Rattle.st_replay.specs.Ends.{IsCutOff};
+ghost use Rattle.st_runs.specs.Replay.{replay_of, report_of};
+ghost use Rattle.st_runs.specs.Safe.{RunsSafely};
+ghost use Rattle.st_runs.specs.Schedule.{lines_of};
+ghost use Rattle.st_rules.specs.Safety.{IsAllPromised};
+ghost use Rattle.st_tank.specs.Status.{status_in, status_of};
 ghost use Rattle.st_tank.specs.Words as words_of;
 ghost use Rattle.st_tank.specs.Words.{complaint};
 
-use crate::replay::report;
-use st_link::{ReadFault, Sink, Source, put_all, read_up_to};
-use st_world::reads_return_last_writes;
+use st_link::{Sink, Source, put_all};
+use st_replay::{ReplayFault, Summary, World};
+use st_runs::{all_is_promised, schedules_run_safely};
 use std::alloc::Global;
-
-/// The most bytes of a schedule that are read: they determine its whole report, however long the schedule is.
-const ENOUGH: usize = 25_700_515;
 
 const REPLAY: &[u8] = b"replay";
 
@@ -29,37 +30,34 @@ fn are_right(words: &[String]) -> bool
     }
 }
 
-fn status(whole: bool) -> u8
-    ensures { result ≡ status_of whole }
+/// The status of a replay that ended so.
+fn status_after(ended: &Result<(Summary, World), ReplayFault>) -> u8
+    ensures { result ≡ status_in ended.now }
 {
-    if whole { 0 } else { 1 }
+    match ended {
+        Ok(_) => 0,
+        Err(ReplayFault::Line(..)) => 1,
+        Err(ReplayFault::Read) => 3,
+        Err(ReplayFault::Write) => 4,
+        Err(ReplayFault::Memory) => 5,
+    }
 }
 
-/// Reads the schedule and writes its report. Returns 0 or 1, 3 for a failed read, 4 for a failed write, and 5 where memory
-/// ran out.
+/// Replays a schedule. Returns 0 or 1, 3 for a failed read, 4 for a failed write, and 5 where memory ran out.
 fn replay<I: Source, O: Sink>(alloc: Global, input: &mut I, out: &mut O) -> u8
     ensures report { result ≤ 1 → IfSome (I.left input.old) (λ bytes.
-        (result ≡ status_of (report_of bytes).whole) × Appends (O.written out.old) (O.written out.new) (report_of bytes).text) }
-    ensures prefix { IfSome (I.left input.old) (λ bytes. AppendsPrefix (O.written out.old) (O.written out.new) (report_of bytes).text) }
+        (result ≡ status_of (replay_of bytes).last) × Appends (O.written out.old) (O.written out.new) (report_of bytes)) }
+    ensures prefix { IfSome (I.left input.old) (λ bytes. AppendsPrefix (O.written out.old) (O.written out.new) (report_of bytes)) }
     ensures through { result ≡ 0 → IsAtEnd (I.left input.new) }
     ensures still { result ≤ 1 → (I.faults input.new ≡ I.faults input.old) × (O.faults out.new ≡ O.faults out.old) }
     ensures read { result ≡ 3 → Rose (I.faults input.old) (I.faults input.new) }
+    ensures cut_off { result ≡ 3 → IsCutOff (I.left input.old) (I.left input.new) (O.written out.old) (O.written out.new) }
     ensures write { result ≡ 4 → Rose (O.faults out.old) (O.faults out.new) }
     ensures other { ¬ (result ≡ 2) }
     ensures known { result ≤ 5 }
 {
-    let bytes = match read_up_to(alloc, input, ENOUGH) {
-        Ok(bytes) => bytes,
-        Err(ReadFault::Fault) => return 3,
-        Err(ReadFault::Memory) => return 5,
-    };
-    let Ok((text, whole)) = report(alloc, &bytes) else {
-        return 5;
-    };
-    match put_all(out, text.as_bytes()) {
-        Ok(()) => status(whole),
-        Err(_) => 4,
-    }
+    let ended = st_replay::replay(alloc, input, out);
+    status_after(&ended)
 }
 
 /// Writes a text to the error sink, and returns whether all of it was written.
@@ -119,12 +117,16 @@ pub fn run<I: Source, O: Sink, E: Sink>(
 ) -> u8
     // At 0 and 1 the report of all bytes of the source was written, and nothing else; it is 0 exactly where the report is whole.
     ensures report { result ≤ 1 → IfSome (I.left input.old) (λ bytes.
-        (result ≡ status_of (report_of bytes).whole) × Appends (O.written out.old) (O.written out.new) (report_of bytes).text) }
+        (result ≡ status_of (replay_of bytes).last) × Appends (O.written out.old) (O.written out.new) (report_of bytes)) }
     ensures through { result ≡ 0 → IsAtEnd (I.left input.new) }
     ensures still { result ≤ 1 → (I.faults input.new ≡ I.faults input.old) × (O.faults out.new ≡ O.faults out.old) × (E.faults err.new ≡ E.faults err.old) }
 
     // At every status the output got a prefix of that report.
-    ensures prefix { IfSome (I.left input.old) (λ bytes. AppendsPrefix (O.written out.old) (O.written out.new) (report_of bytes).text) }
+    ensures prefix { IfSome (I.left input.old) (λ bytes. AppendsPrefix (O.written out.old) (O.written out.new) (report_of bytes)) }
+
+    // The run of which the report tells is safe: every step of it keeps every promise. Old messages change nothing, in any run.
+    ensures safe { IfSome (I.left input.old) (λ bytes. RunsSafely (lines_of bytes)) }
+    ensures promised { IsAllPromised }
 
     // Each other status has its cause, except 5: no clause says when memory runs out.
     ensures known { result ≤ 5 }
@@ -132,16 +134,16 @@ pub fn run<I: Source, O: Sink, E: Sink>(
     ensures usage { words_of.right words.now ≡ false → (result ≡ 2) ⊎ ((result ≡ 4) × Rose (E.faults err.old) (E.faults err.new)) }
     ensures unused { words_of.right words.now ≡ false → (input.new ≡ input.old) × (out.new ≡ out.old) }
     ensures read { result ≡ 3 → Rose (I.faults input.old) (I.faults input.new) }
+    // After a failed read the output has what was observed in the lines whose newlines were taken, and none of these is refused.
+    ensures cut_off { result ≡ 3 → IsCutOff (I.left input.old) (I.left input.new) (O.written out.old) (O.written out.new) }
     ensures write { result ≡ 4 → words_of.HasWriteCause (words_of.right words.now) (O.faults out.old) (O.faults out.new) (E.faults err.old) (E.faults err.new) }
 
     // The error sink gets the text of the status, all of it unless the sink failed.
     ensures told_prefix { AppendsPrefix (E.written err.old) (E.written err.new) (complaint (words_of.right words.now) result) }
     ensures told { Appends (E.written err.old) (E.written err.new) (complaint (words_of.right words.now) result) ⊎ Rose (E.faults err.old) (E.faults err.new) }
-
-    // In every run each read that is answered has the bytes of the last write to its page in the log at that answer.
-    ensures reads { ReadsReturnLastWrites }
 {
-    reads_return_last_writes();
+    schedules_run_safely();
+    all_is_promised();
     if !are_right(words) {
         return usage(err);
     }

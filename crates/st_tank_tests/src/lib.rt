@@ -2,6 +2,14 @@
 #![tactic(auto)]
 
 #[cfg(test)]
+mod drip;
+#[cfg(test)]
 mod link;
 #[cfg(test)]
-mod tank;
+mod refusals;
+#[cfg(test)]
+mod running;
+#[cfg(test)]
+mod texts;
+#[cfg(test)]
+mod theft;

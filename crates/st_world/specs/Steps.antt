@@ -1,17 +1,15 @@
--- What a step of the world returns, compared with the machine.
+-- What a step of the world returned, and the world that it left.
 use Rattle.std.specs.Prelude.{◌≡◌, List, Result, Ok, Err}
-use Rattle.st_world.specs.declared.machine_types.Observation.{Observation}
-use Rattle.st_world.specs.declared.fault.WorldRefusal.{WorldRefusal}
+use Rattle.st_rules.specs.declared.observation.Observation.{Observation}
+use Rattle.st_rules.specs.declared.observation.WorldRefusal.{WorldRefusal}
+use Rattle.st_rules.specs.World.{World}
+use Rattle.st_rules.specs.Events.{Scene, scene}
 use Rattle.st_world.specs.declared.fault.WorldFault.{WorldFault}
 use Rattle.st_world.specs.declared.fault.WorldFault.TheVariants.{Refused, Memory}
-use Rattle.st_world.specs.World.{World, Scene, scene}
 
--- a refusal is the machine's, and changes nothing; where memory ran out nothing is known
-abbrev pub FailsAs : World → World → WorldFault → Result Scene WorldRefusal → Type 0
-FailsAs old new (Refused f) machine = (machine ≡ Err f) × (new ≡ old)
-FailsAs old new Memory machine = Unit {0}
-
--- the observations and the new world are the machine's
-abbrev pub StepsAs : {X : Type 0} → (X → List Observation) → World → World → Result X WorldFault → Result Scene WorldRefusal → Type 0
-StepsAs view old new (Ok seen) machine = machine ≡ Ok (scene new (view seen))
-StepsAs view old new (Err e) machine = FailsAs old new e machine
+-- A step returned the observations of the definition and left its world, or its refusal and the world as it was; where
+-- memory ran out nothing is said.
+abbrev pub StepsAs : {V : Type 0} → (V → List Observation) → World → World → Result V WorldFault → Result Scene WorldRefusal → Type 0
+StepsAs seen old new (Ok v) step = step ≡ Ok (scene new (seen v))
+StepsAs seen old new (Err (Refused f)) step = (step ≡ Err f) × (new ≡ old)
+StepsAs seen old new (Err Memory) step = Unit {0}

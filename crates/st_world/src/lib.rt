@@ -1,18 +1,37 @@
-//! The world of the first path: one client and one server as private machines, the messages between them and the log.
-//! `docs/PROTOCOL.md`, "The first path".
+//! The world of all events: clocks, clients and servers, the network, the disks and the log. `docs/PROTOCOL.md`, "The world",
+//! has the rules.
 #![tactic(auto)]
 
-mod client;
+mod advancing;
+mod answers;
+mod asking;
+mod changes;
+mod checks;
+mod clocks;
+mod crashing;
+mod ending;
+mod events;
 mod fault;
-mod law;
-mod machine_types;
-mod server;
+mod flushes;
+mod fresh;
+mod growth;
+mod happening;
+mod index;
+mod issuing;
+mod judging;
+mod machine;
+mod missing;
+mod noting;
+mod parts;
+mod safe;
+mod site;
+mod stepping;
+mod summing;
+mod taking;
 mod world;
 
-pub use fault::{WorldFault, WorldRefusal};
-pub use law::reads_return_last_writes;
-pub use machine_types::{
-    ClientInput, DirtyPage, HeldLock, KnownPage, LockRow, MappedPage, Observation, Pending,
-    Request, Session,
-};
+pub use fault::WorldFault;
+pub use growth::{events_keep_the_shape, server_steps_grow_little};
+pub use machine::Machine;
+pub use site::Site;
 pub use world::World;

@@ -1,4 +1,4 @@
-use Rattle.st_tank.proofs.ReadAndWritten.{whole_prefix}
+use Rattle.st_tank.proofs.Prefixed.{whole_prefix}
 use Rattle.st_tank.proofs.program.tell.Goals as goal
 
 pub returns-in-Ok-clause-prefix : goal.returns-in-Ok-clause-prefix

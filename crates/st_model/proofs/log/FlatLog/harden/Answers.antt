@@ -1,10 +1,7 @@
-use Rattle.std.proofs.Common.{◌∙◌, length, ap, arith}
-use Rattle.st_model.proofs.Fates.{harden_keeps, harden_known}
+use Rattle.std.proofs.Common.{◌-◌, ◌∙◌, get_or, ap}
+use Rattle.st_model.proofs.Markings.{harden_marks}
 use Rattle.st_model.proofs.log.FlatLog.harden.Goals as goal
 
-pub invariant_of-self : goal.invariant_of-self
-invariant_of-self c = rw c.harden_all.ensures (harden_keeps _ _ _ _ _ c.self.invariant)
-
 pub returns : goal.returns
-returns c = rw (← c.self.view_is)
-    (c.harden_all.ensures ∙ harden_known _ _ _ _ c.requires.some (omega (arith, c.requires.known, ap length c.self.view_is)) c.index.ensures)
+returns c = c.mark.ensures ∙ harden_marks c.args.self.now c.args.index c.index.result.now c.index.result.now c.requires.some c.requires.known
+    (c.index.ensures ∙ ap (λ es. get_or es (c.args.index - 1) c.index.result.now) c.self.view_is)

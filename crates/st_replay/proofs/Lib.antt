@@ -1,0 +1,9 @@
+pub mod Room
+pub mod Steps
+pub mod First
+pub mod Begun
+pub mod Newlines
+pub mod Feeding
+pub mod LastLines
+pub mod Streams
+pub mod Reported

@@ -1,0 +1,4 @@
+pub mod Pieces
+pub mod Playing
+pub mod Ends
+pub mod Streaming

@@ -1,0 +1,33 @@
+ghost use Rattle.std.specs.Prelude.{◌≡◌, ◌+◌, ◌<◌, take, drop, length};
+ghost use Rattle.st_replay.specs.Playing.{IsFirst};
+
+/// The place of the first newline.
+pub(crate) fn newline(bytes: &[u8]) -> Option<usize>
+    ensures { IsFirst bytes.now result }
+{
+    let mut at = 0;
+    while at < bytes.len() {
+        if bytes[at] == b'\n' {
+            return Some(at);
+        }
+        at += 1;
+    }
+    None
+}
+
+/// The bytes before this place.
+pub(crate) fn before(bytes: &[u8], at: usize) -> &[u8]
+    requires { at < length bytes.now }
+    ensures { result.now ≡ take at bytes.now }
+{
+    &bytes[..at]
+}
+
+/// The bytes behind this place.
+pub(crate) fn after(bytes: &[u8], at: usize) -> &[u8]
+    requires { at < length bytes.now }
+    ensures exact { result.now ≡ drop (at + 1) bytes.now }
+    ensures fewer { length result.now < length bytes.now }
+{
+    &bytes[at + 1..]
+}

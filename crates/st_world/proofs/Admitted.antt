@@ -1,0 +1,118 @@
+-- What an event that is not refused meets.
+use Rattle.std.proofs.Common.{◌≡◌, ℕ, ◌≤◌, ◌^◌, Bool, true, false, not, ◌==◌, List, [], ◌∷◌, length, arith, refl, sym, ap, ◌∙◌, if◌then◌else◌}
+use Rattle.std.specs.Prelude.{Option, Some, None}
+use Rattle.std.specs.List.{list_all}
+use Rattle.std.specs.Option.{option_or}
+use Rattle.std.proofs.lemmas.Bool.{and_parts, eqb-true, leb-true, lt-ltb}
+use Rattle.st_base.specs.declared.ids.NodeId.{NodeId}
+use Rattle.st_base.specs.declared.ids.NodeId.TheVariants as nodes
+use Rattle.st_lives.specs.Clocked.{is_step}
+use Rattle.st_messages.specs.declared.event.Event.{Event}
+use Rattle.st_messages.specs.declared.event.Event.TheVariants as events
+use Rattle.st_rules.specs.declared.lease.Excess.{Excess}
+use Rattle.st_rules.specs.declared.observation.WorldRefusal.{WorldRefusal}
+use Rattle.st_rules.specs.declared.observation.WorldRefusal.TheVariants as refusals
+use Rattle.st_rules.specs.Admissible.{cannot_step, clocks_refused, drift_refused, excess_with, flush_missed, net_full, no_node, not_running, rate_refused, refusal, stands, still_running}
+use Rattle.st_rules.specs.Events.{counted}
+use Rattle.st_rules.specs.Safety.{is_event, is_increment}
+use Rattle.st_rules.specs.World.{World, all_clients, is_running}
+use Rattle.st_world.specs.Advances.{IsAccepted}
+use Rattle.st_world.specs.Readiness.{IsMet, IsReady, MayCount}
+use Rattle.st_world.specs.Timed.{IsLaid, IsTimed}
+
+neither : {A : Type 0} (o rest : Option A) → option_or o rest ≡ None → (o ≡ None) × (rest ≡ None)
+neither None rest h = (refl, h)
+neither (Some x) rest h = absurd (cc)
+
+falls : (test : Bool) (r : WorldRefusal) → stands test r ≡ None → test ≡ false
+unfolding stands
+falls true r h = absurd (cc)
+falls false r h = refl
+
+negated : (b : Bool) → not b ≡ false → b ≡ true
+negated true h = refl
+negated false h = absurd (cc)
+
+pub small_steps : (steps : List ℕ) → list_all is_increment steps ≡ true → list_all is_step steps ≡ true
+small_steps [] h = refl
+small_steps (d ∷ ds) h =
+    let p = and_parts (is_increment d) (list_all is_increment ds) h in
+    let low : d ≤ 4294967295 = leb-true d 4294967295 p.0 in
+    let here : is_step d ≡ true = lt-ltb d (2 ^ 32) (omega (arith, low)) in
+    rw here (small_steps ds p.1)
+
+-- the test of an advance may be made
+pub timed : (w : World) (steps : List ℕ) → IsLaid w → is_event (length w.clocks) (events.Advance steps) ≡ true → IsTimed w steps
+timed w steps l h =
+    let p = and_parts (length steps == length w.clocks) (list_all is_increment steps) h in
+    let len : length steps ≡ length w.clocks = eqb-true (length steps) (length w.clocks) p.0 in
+    record {
+      some = omega (arith, len, l.nodes, l.some);
+      most = omega (arith, len, l.nodes, l.few, l.clients);
+      nodes = len ∙ sym l.drift;
+      clocks = l.clocks;
+      small = small_steps steps p.1;
+      rate = l.rate;
+      grain = l.grain;
+    }
+
+-- the same, of any event
+pub timed_any : (w : World) (e : Event) → IsLaid w → is_event (length w.clocks) e ≡ true → (steps : List ℕ) → e ≡ events.Advance steps → IsTimed w steps
+timed_any w e l h steps q = timed w steps l (sym (ap (is_event (length w.clocks)) q) ∙ h)
+
+no_excess : (w : World) (o : Option Excess) → drift_refused w o ≡ None → o ≡ None
+no_excess w None h = refl
+no_excess w (Some x) h = absurd (cc)
+
+by_form : (b : Bool) (w : World) (steps : List ℕ) → (if b then rate_refused w steps else drift_refused w (excess_with w steps)) ≡ None → b ≡ false → excess_with w steps ≡ None
+by_form true w steps h e = absurd (cc)
+by_form false w steps h e = no_excess w (excess_with w steps) h
+
+accepted : (w : World) (steps : List ℕ) → IsTimed w steps → IsLaid w → clocks_refused w steps ≡ None → IsAccepted w steps
+unfolding clocks_refused
+accepted w steps t l h =
+    record {
+      each = t.nodes ∙ l.drift;
+      nodes = t.nodes;
+      clocks = t.clocks;
+      small = t.small;
+      rate = t.rate;
+      grain = t.grain;
+      drift = by_form (w.form == 1) w steps h;
+    }
+
+again : (w : World) (steps : List ℕ) → IsAccepted w steps → IsAccepted (counted w) steps
+again w steps a = record { each = a.each; nodes = a.nodes; clocks = a.clocks; small = a.small; rate = a.rate; grain = a.grain; drift = a.drift }
+
+same_running : (w : World) (n : NodeId) → is_running (counted w) n ≡ is_running w n
+same_running w (nodes.Client c) = refl
+same_running w (nodes.Server s) = refl
+
+-- what an event meets that is not refused, one event later in the count
+pub met : (w : World) (e : Event) → IsLaid w → is_event (length w.clocks) e ≡ true → refusal w e ≡ None → IsMet (counted w) e
+unfolding refusal
+met w (events.Tick n) l i h = tt
+met w (events.App c ask) l i h =
+    let n = nodes.Client c in
+    let may = neither (no_node w n) (cannot_step w n) h in
+    let runs = neither (not_running w n) (net_full w) may.1 in
+    (i, negated (is_running w n) (falls (not (is_running w n)) (refusals.NotRunning n) runs.0))
+met w (events.Deliver k) l i h = tt
+met w (events.Lose k) l i h = tt
+met w (events.Cut from to) l i h = tt
+met w (events.Heal from to) l i h = tt
+met w (events.Advance steps) l i h =
+    again w steps (accepted w steps (timed w steps l i) l (neither (clocks_refused w steps) (flush_missed w steps (all_clients w)) h).0)
+met w (events.Effect k) l i h = tt
+met w (events.Report k ok) l i h = tt
+met w (events.Crash n) l i h = tt
+met w (events.Start n) l i h =
+    same_running w n ∙ falls (is_running w n) (refusals.Running n) (neither (no_node w n) (still_running w n) h).1
+
+-- a world that is laid is ready, where its counts are
+pub ready : (w : World) → IsLaid w → MayCount w → IsReady w
+ready w l c = record { some = l.some; few = l.few; clients = l.clients; clocks = l.clocks; reads = c.0; stolen = c.1 }
+
+-- what is ready stays so, one event later in the count
+pub still_ready : (w : World) → IsReady w → IsReady (counted w)
+still_ready w r = record { some = r.some; few = r.few; clients = r.clients; clocks = r.clocks; reads = r.reads; stolen = r.stolen }

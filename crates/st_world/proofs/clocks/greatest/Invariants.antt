@@ -1,0 +1,7 @@
+use Rattle.std.proofs.Common.{◌≡◌, drop}
+use Rattle.std.specs.Prelude.{fold, max}
+use Rattle.st_rules.specs.Leases.{greatest_of}
+use Rattle.st_world.proofs.clocks.greatest.Given as goal
+
+abbrev pub invariant-loop-step : goal.invariant-loop-step
+invariant-loop-step l = fold max l.most (drop l.step-index l.step-items) ≡ greatest_of l.steps

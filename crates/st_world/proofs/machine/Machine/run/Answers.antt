@@ -1,0 +1,14 @@
+use Rattle.std.proofs.Common.{subst, sym}
+use Rattle.st_rules.specs.Events.{Scene}
+use Rattle.st_world.specs.Readiness.{IsMet, IsReady}
+use Rattle.st_world.proofs.Admitted.{met, still_ready}
+use Rattle.st_world.proofs.machine.Machine.run.Goals as goal
+
+pub happen-happened-requires-clause-ready : goal.happen-happened-requires-clause-ready
+happen-happened-requires-clause-ready c =
+    subst (λ (s : Scene). IsReady s.world) (sym c.count_event.ensures) (still_ready c.args.self.now.world c.requires.ready)
+
+pub happen-happened-requires-clause-met : goal.happen-happened-requires-clause-met
+happen-happened-requires-clause-met c =
+    subst (λ (s : Scene). IsMet s.world c.args.event) (sym c.count_event.ensures)
+    (met c.args.self.now.world c.args.event c.requires.laid c.requires.event c.requires.admitted)

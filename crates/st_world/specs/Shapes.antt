@@ -1,0 +1,30 @@
+-- What the calls of a world need, and what they tell.
+use Rattle.std.specs.Prelude.{ℕ, ◌+◌, List, length, Option, Some, None}
+use Rattle.st_base.specs.declared.disk.BlockAt.{BlockAt}
+use Rattle.st_base.specs.declared.disk.Command.{Command}
+use Rattle.st_base.specs.declared.ids.ClientId.{ClientId}
+use Rattle.st_messages.specs.declared.ask.Ask.{Ask}
+use Rattle.st_messages.specs.declared.output.Output.{Output}
+use Rattle.st_rules.specs.declared.client.ClientInput.TheVariants as inputs
+use Rattle.st_rules.specs.declared.observation.Observation.TheVariants as seen
+use Rattle.st_rules.specs.declared.world.IssuedCommand.{IssuedCommand}
+use Rattle.st_rules.specs.ClientState.{ClientState}
+use Rattle.st_rules.specs.Events.{Scene, asked_once_more, client_says_all, client_takes, issued, see, with_command, with_flushes}
+use Rattle.st_rules.specs.World.{World, ClientSite}
+
+-- the command that a client issues, where there is such a client
+abbrev pub issued_at : World → ClientId → ℕ → BlockAt → Command → Option ClientSite → Option IssuedCommand
+issued_at w c number at what None = None
+issued_at w c number at what (Some site) = Some (issued w c site number at what)
+
+-- a command is issued: it is the last one, and is told
+abbrev pub issues : Scene → ClientId → ℕ → IssuedCommand → Command → Scene
+issues sc c number x what = see (with_command x what sc.world) sc (seen.Submitted (length sc.world.commands + 1) c number what)
+
+-- what a client said, from one state to another, and its flush steps
+abbrev pub says_and_flushes : ClientId → ClientState → ClientState → List Output → Scene → Scene
+says_and_flushes c before after out sc = with_flushes c after (client_says_all c before out sc)
+
+-- a client takes an ask, which is counted
+abbrev pub takes_ask : World → ClientId → Ask → ClientSite → Scene
+takes_ask w c ask site = client_takes w c (inputs.App (site.asks + 1) ask) (asked_once_more site)

@@ -1,0 +1,107 @@
+// Advances that take clocks apart too far.
+ghost use Rattle.std.specs.Prelude.{◌≡◌, ◌≤◌, ◌<◌, ◌^◌, ◌&&◌, not, IfSome, length};
+ghost use Rattle.st_rules.specs.Admissible as admissible;
+ghost use Rattle.st_rules.specs.declared.observation.WorldRefusal.TheVariants as refusals;
+ghost use Rattle.st_rules.specs.Leases as leases;
+ghost use Rattle.st_rules.specs.World as world;
+ghost use Rattle.st_world.specs.Timed.{IsPair, IsTimed, excess_in};
+
+use crate::checks::stands;
+use crate::machine::Machine;
+use st_base::{ClientId, Config, NodeId, ServerId};
+use st_clock::{Drift, rate_ok};
+use st_rules::{Excess, WorldRefusal};
+
+fn greatest(steps: &[u64]) -> u64
+    requires { 0 < length steps.now }
+    ensures { result ≡ leases.greatest_of steps.now }
+{
+    let mut most = steps[0];
+    for step in &steps[1..] {
+        most = most.max(*step);
+    }
+    most
+}
+
+fn least(steps: &[u64]) -> u64
+    requires { 0 < length steps.now }
+    ensures { result ≡ leases.least_of steps.now }
+{
+    let mut fewest = steps[0];
+    for step in &steps[1..] {
+        fewest = fewest.min(*step);
+    }
+    fewest
+}
+
+fn excess_in(judged: Result<(), Excess>) -> Option<Excess>
+    ensures { result ≡ excess_in judged }
+{
+    match judged {
+        Ok(()) => None,
+        Err(excess) => Some(excess),
+    }
+}
+
+/// The first pair of clocks that an advance takes apart too far.
+#[tactic(auto, using(crate::proofs::Excesses::first_is))]
+fn excess_after(drift: &Drift, steps: &[u64], config: &Config) -> Option<Excess>
+    requires nodes { length steps.now ≡ length drift.now }
+    requires rate { config.now.den ≤ 1048576 }
+    requires grain { config.now.grain ≤ 2 ^ 40 }
+    ensures { result ≡ leases.first_excess (leases.drift_after drift.now steps.now config.now.num config.now.den) config.now.den config.now.grain }
+{
+    excess_in(drift.check(steps, config.num, config.den, config.grain))
+}
+
+impl Machine {
+    /// The node of a place among the clocks, from 0.
+    #[tactic(auto, unfolding(st_rules::specs::World::node_of_place))]
+    fn node_of_place(&self, place: usize) -> NodeId
+        requires { place < 20 }
+        ensures { result ≡ world.node_of_place self.now.world place }
+    {
+        if place < self.clients.len() {
+            NodeId::Client(ClientId((place + 1) as u16))
+        } else {
+            NodeId::Server(ServerId((place + 1 - self.clients.len()) as u16))
+        }
+    }
+
+    fn rate_refused(&self, steps: &[u64]) -> Option<WorldRefusal>
+        requires { 1 ≤ length steps.now }
+        ensures { result ≡ admissible.rate_refused self.now.world steps.now }
+    {
+        stands(
+            !rate_ok(steps, self.config.num, self.config.den),
+            WorldRefusal::ClockRate(greatest(steps), least(steps)),
+        )
+    }
+
+    fn drift_refused(&self, excess: Option<Excess>) -> Option<WorldRefusal>
+        requires { IfSome excess (IsPair 20) }
+        ensures { result ≡ admissible.drift_refused self.now.world excess }
+    {
+        match excess {
+            None => None,
+            Some(excess) => Some(WorldRefusal::ClockDrift(
+                self.node_of_place(excess.m),
+                self.node_of_place(excess.n),
+                excess.excess,
+            )),
+        }
+    }
+
+    /// Clocks that would run apart too far.
+    #[tactic(auto, unfolding(st_rules::specs::Admissible::clocks_refused))]
+    pub(crate) fn clocks_refused(&self, steps: &[u64]) -> Option<WorldRefusal>
+        requires { IsTimed self.now.world steps.now }
+        ensures { result ≡ admissible.clocks_refused self.now.world steps.now }
+    {
+        if self.form == 1 {
+            self.rate_refused(steps)
+        } else {
+            self.drift_refused(excess_after(&self.drift, steps, &self.config))
+        }
+    }
+}

@@ -1,0 +1,139 @@
+// The parts of the world, and the observations of the step so far.
+ghost use Rattle.std.specs.Prelude.{◌≡◌, ◌≤◌, ◌<◌, ◌+◌, OnOk, length};
+ghost use Rattle.std.specs.Option.{option_copied};
+ghost use Rattle.st_rules.specs.Events as events;
+ghost use Rattle.st_rules.specs.World as world;
+ghost use Rattle.st_world.specs.Keeping.{Stays};
+
+use crate::site::Site;
+use st_base::{BlockAt, ClientId, Config, Life, NodeId, ServerId, Stamp};
+use st_clock::Drift;
+use st_commands::Commands;
+use st_lives::Lives;
+use st_model::FlatLog;
+use st_network::Network;
+use st_rules::{FlushStep, Observation};
+use st_server::ServerNode;
+use std::alloc::{AllocError, Global};
+use std::marker::Model;
+
+/// The parts of a world, and what was observed in the step so far. Contracts see them as a scene.
+#[derive(Drop)]
+pub struct Machine {
+    pub(crate) alloc: Global,
+    pub(crate) config: Config,
+    pub(crate) form: u8,
+    pub(crate) lives: Lives,
+    pub(crate) drift: Drift,
+    pub(crate) clients: Vec<Site>,
+    pub(crate) servers: Vec<ServerNode>,
+    pub(crate) net: Network,
+    pub(crate) commands: Commands,
+    pub(crate) log: FlatLog,
+    pub(crate) flushed: Vec<FlushStep>,
+    pub(crate) events: u64,
+    pub(crate) reads: u64,
+    pub(crate) stolen: u64,
+    pub(crate) seen: Vec<Observation>,
+}
+
+impl Model for Machine {
+    ghost use Rattle.st_rules.specs.Events as shared;
+
+    ghost Value = { shared.Scene };
+
+    ghost view = { λ m. record {
+      world = record {
+        config = m.config;
+        form = m.form;
+        clocks = m.lives.clocks;
+        drift = m.drift;
+        clients = m.clients.items;
+        servers = m.servers.items;
+        net = m.net;
+        disks = m.commands.disks;
+        commands = m.commands.commands;
+        log = m.log;
+        ended = m.lives.ended;
+        flushed = m.flushed.items;
+        tally = record { events = m.events; reads = m.reads; stolen = m.stolen };
+      };
+      seen = m.seen.items;
+    } };
+}
+
+/// The client of a number, from 1.
+pub(crate) fn site_at(clients: &[Site], client: ClientId) -> Option<&Site>
+    ensures { option_copied result ≡ world.numbered clients.now client.0 }
+{
+    if client.0 == 0 {
+        return None;
+    }
+    clients.get((client.0 - 1) as usize)
+}
+
+/// The server of a number, from 1.
+pub(crate) fn node_at(servers: &[ServerNode], server: ServerId) -> Option<&ServerNode>
+    ensures { option_copied result ≡ world.numbered servers.now server.0 }
+{
+    if server.0 == 0 {
+        return None;
+    }
+    servers.get((server.0 - 1) as usize)
+}
+
+fn life_at(site: Option<&Site>, server: ServerId) -> Life
+    ensures { result ≡ events.life_of_site server (option_copied site.entry) }
+{
+    match site {
+        None => Life(0),
+        Some(site) => site.life(server),
+    }
+}
+
+impl Machine {
+    /// One more observation.
+    pub(crate) fn see(&mut self, observation: Observation) -> Result<(), AllocError>
+        ensures exact { OnOk result (self.new ≡ events.see self.old.world self.old observation) }
+        ensures kept { Stays self.old self.new }
+    {
+        self.seen.push(observation)?;
+        Ok(())
+    }
+
+    /// The server of a disk.
+    pub(crate) fn server_of_disk(&self, at: BlockAt) -> ServerId
+        requires some { 1 ≤ length self.now.world.servers }
+        requires few { length self.now.world.servers ≤ 4 }
+        ensures { result ≡ world.server_of_disk self.now.world at }
+    {
+        let place = at.disk.0.saturating_sub(1) as usize % self.servers.len();
+        ServerId(place as u16 + 1)
+    }
+
+    /// A client's present life at a server.
+    pub(crate) fn present_life(&self, client: ClientId, server: ServerId) -> Life
+        ensures { result ≡ events.present_life self.now.world client server }
+    {
+        life_at(site_at(&self.clients, client), server)
+    }
+
+    /// The number of a node among the clocks.
+    pub(crate) fn place_of(&self, node: NodeId) -> usize
+        requires { length self.now.world.clients ≤ 16 }
+        ensures { result ≡ world.place_of self.now.world node }
+    {
+        match node {
+            NodeId::Client(client) => client.0 as usize,
+            NodeId::Server(server) => self.clients.len() + server.0 as usize,
+        }
+    }
+
+    /// The clock of a node.
+    pub(crate) fn clock_of(&self, node: NodeId) -> Stamp
+        requires { length self.now.world.clients ≤ 16 }
+        ensures { result ≡ world.clock_of self.now.world node }
+    {
+        self.lives.clock(self.place_of(node))
+    }
+}
