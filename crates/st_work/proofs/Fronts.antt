@@ -1,5 +1,5 @@
 -- Pieces of a text, one after another.
-use Rattle.std.proofs.Common.{◌≡◌, ℕ, List, [], ◌++◌, Option, length, take, drop, refl, sym, ap, ◌∙◌, subst, append_assoc, append-nil, take-append-drop}
+use Rattle.std.proofs.Common.{◌≡◌, ℕ, List, [], ◌++◌, Option, Result, Ok, Err, OnOk, OnErr, length, take, drop, refl, sym, ap, ◌∙◌, subst, append_assoc, append-nil, take-append-drop}
 use Rattle.std.proofs.Math.Seq.{take-append_seam}
 use Rattle.std.proofs.KnownBytes.{Appends-nil, Appends-trans}
 use Rattle.std.specs.Io.KnownBytes.{Appends}
@@ -65,3 +65,29 @@ writes_end_cut a b c whole rest more x h =
     writes_cut a b c (whole ++ more) (rest ++ more) []
     (record { written = x.written; wrote = x.wrote; whole = ap (λ t. x.written ++ t) (append-nil (rest ++ more)) ∙ sym (append_assoc x.written rest more) ∙ ap (λ t. t ++ more) x.whole })
     h
+
+-- A line, and what is left behind it.
+behind_line : (text line more rest : List ℕ) → rest ≡ line ++ more → text ++ rest ≡ (text ++ line) ++ more
+behind_line text line more rest e = ap (λ t. text ++ t) e ∙ sym (append_assoc text line more)
+
+pub line_next : (a b c : Option (List ℕ)) (whole text line more rest left : List ℕ) → rest ≡ line ++ more → Writes a b whole (text ++ rest) → Writes b c (text ++ line) left → Writes a c whole (left ++ more)
+line_next a b c whole text line more rest left e x y = writes_next a b c whole (text ++ line) left more (subst (Writes a b whole) (behind_line text line more rest e) x) y
+
+pub line_cut : (a b c : Option (List ℕ)) (whole text line more rest : List ℕ) → rest ≡ line ++ more → Writes a b whole (text ++ rest) → AppendsPrefix b c (text ++ line) → AppendsPrefix a c whole
+line_cut a b c whole text line more rest e x h = writes_cut a b c whole (text ++ line) more (subst (Writes a b whole) (behind_line text line more rest e) x) h
+
+pub no_line : (a b : Option (List ℕ)) (whole text rest : List ℕ) → rest ≡ [] → Writes a b whole (text ++ rest) → Writes a b whole text
+no_line a b whole text rest e x = subst (Writes a b whole) (ap (λ t. text ++ t) e ∙ append-nil text) x
+
+-- Facts of a result.
+pub on_ok : {T E : Type 0} (r : Result T E) (P Q : Type 0) → (P → Q) → OnOk r P → OnOk r Q
+on_ok (Ok x) P Q f h = f h
+on_ok (Err e) P Q f h = tt
+
+pub on_both : {T E : Type 0} (r : Result T E) (P Q R : Type 0) → (P → Q → R) → OnOk r P → OnOk r Q → OnOk r R
+on_both (Ok x) P Q R f h k = f h k
+on_both (Err e) P Q R f h k = tt
+
+pub on_err : {T E : Type 0} (r : Result T E) (P : Type 0) → P → OnErr r P
+on_err (Ok x) P h = tt
+on_err (Err e) P h = h

@@ -1,16 +1,16 @@
 -- What is chosen is admissible and in its ranges; a turn, and the turns behind it.
-use Rattle.std.proofs.Common.{◌≡◌, ℕ, suc, ◌+◌, ◌-◌, ◌<◌, true, ◌++◌, List, ◌∷◌, Some, None, Ok, Err, refl, sym, ap, ◌∙◌, subst, arith}
-use Rattle.std.specs.Prelude.{length}
+use Rattle.std.proofs.Common.{◌≡◌, ℕ, suc, ◌+◌, ◌-◌, ◌<◌, ◌≤◌, true, ◌++◌, List, [], ◌∷◌, None, Err, refl, sym, ap, ◌∙◌, subst, arith}
+use Rattle.std.specs.Prelude.{codes, length}
 use Rattle.std.specs.List.{flat_map}
 use Rattle.st_messages.specs.declared.event.Event.{Event}
 use Rattle.st_rules.specs.declared.observation.WorldRefusal.{WorldRefusal}
 use Rattle.st_rules.specs.Admissible.{refusal}
-use Rattle.st_rules.specs.Events.{Scene, world_by, world_step}
+use Rattle.st_rules.specs.Events.{world_by, world_step}
 use Rattle.st_rules.specs.Generator as g
-use Rattle.st_rules.specs.Run.{Run, go_on, run}
+use Rattle.st_rules.specs.Run.{go_on, run}
 use Rattle.st_rules.specs.Safety.{is_event}
 use Rattle.st_rules.specs.World.{World, fresh_world}
-use Rattle.st_generate.specs.GeneratedText.{event_line}
+use Rattle.st_generate.specs.GeneratedText.{event_line, generate_text, head_line, schedule_text}
 use Rattle.st_generate.proofs.Choices.{chosen_good, chosen_stands}
 use Rattle.st_generate.proofs.Sizes.{step_sized}
 use Rattle.st_work.specs.Turns.{IsReady, IsTurn, Leads, lines}
@@ -66,11 +66,34 @@ run_next i n w x v y l t =
     ∙ ap (λ es. (run es w).world) (generated_next (n - (i + 1)) w x v y t)
     ∙ ap (λ r. (go_on (run (g.generated (n - (i + 1)) v y)) w r).world) t.leads.step
 
--- none is left
-pub lines_last : (w : World) (x : ℕ) → lines 0 w x ≡ Rattle.std.proofs.Common.[]
+-- the first line, whatever its event leads to
+pub lines_first : (i n : ℕ) (w : World) (x : ℕ) → i < n →
+    lines (n - i) w x ≡ event_line (g.chosen w x).0 ++ lines (n - (i + 1)) (g.world_left w (world_step w (g.chosen w x).0)) (g.chosen w x).1
 unfolding g.generated
-lines_last w x = refl
+lines_first i n w x l = ap (λ k. lines k w x) (left_by_one i n l)
 
-pub run_last : (w : World) (x : ℕ) → (run (g.generated 0 w x) w).world ≡ w
+-- none is left
+none_left : (i n : ℕ) → n ≤ i → n - i ≡ 0
+none_left i n l = omega (arith, l)
+
+pub lines_last : (i n : ℕ) (w : World) (x : ℕ) → n ≤ i → lines (n - i) w x ≡ []
+unfolding g.generated
+lines_last i n w x l = ap (λ k. lines k w x) (none_left i n l)
+
+pub run_last : (i n : ℕ) (w : World) (x : ℕ) → n ≤ i → (run (g.generated (n - i) w x) w).world ≡ w
 unfolding run g.generated
-run_last w x = refl
+run_last i n w x l = ap (λ k. (run (g.generated k w x) w).world) (none_left i n l)
+
+-- The whole text, behind the line of the head.
+pub text_is : (t : List ℕ) (n : ℕ) (w : World) (x : ℕ) → t ≡ head_line → (t ++ lines n w x) ++ codes "end\n" ≡ schedule_text (g.generated n w x)
+unfolding schedule_text
+text_is t n w x e = ap (λ h. (h ++ lines n w x) ++ codes "end\n") e
+
+pub generated_is : (n seed : ℕ) (w : World) (x : ℕ) → w ≡ g.generator_world → x ≡ seed → schedule_text (g.generated n w x) ≡ generate_text n seed
+unfolding generate_text g.generate
+generated_is n seed w x e f = ap (λ v. schedule_text (g.generated n v x)) e ∙ ap (λ y. schedule_text (g.generated n g.generator_world y)) f
+
+-- no event happened in the world of the head
+pub first_events : (w : World) → w ≡ g.generator_world → w.tally.events ≡ 0
+unfolding g.generator_world fresh_world
+first_events w e = ap (λ (v : World). v.tally.events) e

@@ -103,12 +103,7 @@ fn write_schedule<O: Sink>(
 /// Writes the schedule of `n` events that this seed gives. It is written in pieces of some kilobytes as it is made, and not kept.
 ///
 /// It returns `Write` where a write failed, and `Memory` where memory ran out.
-pub fn generate<O: Sink>(
-    alloc: Global,
-    seed: u64,
-    n: u32,
-    out: &mut O,
-) -> Result<(), WorkFault>
+pub fn generate<O: Sink>(alloc: Global, seed: u64, n: u32, out: &mut O) -> Result<(), WorkFault>
     requires { n ≤ 2 ^ 29 }
     ensures text { OnOk result (Appends (O.written out.old) (O.written out.new) (generate_text n seed)) }
     // After an error a front of the text was written, maybe nothing.

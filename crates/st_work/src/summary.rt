@@ -19,12 +19,7 @@ use st_world::World;
 use std::alloc::{AllocError, Global};
 
 /// Chooses and runs so many events.
-fn run_events(
-    alloc: Global,
-    world: &mut World,
-    draws: &mut Draws,
-    n: u32,
-) -> Result<(), AllocError>
+fn run_events(alloc: Global, world: &mut World, draws: &mut Draws, n: u32) -> Result<(), AllocError>
     requires ready { IsReady world.old }
     requires room { world.old.tally.events + n ≤ 2 ^ 29 }
     ensures { OnOk result (world.new ≡ (run (generator.generated n world.old draws.old) world.old).world) }

@@ -23,11 +23,7 @@ pub(crate) fn put_head(text: &mut Vec<u8>) -> Result<(), AllocError>
 }
 
 /// Appends the line of an event.
-pub(crate) fn put_event(
-    alloc: Global,
-    text: &mut Vec<u8>,
-    event: &Event,
-) -> Result<(), AllocError>
+pub(crate) fn put_event(alloc: Global, text: &mut Vec<u8>, event: &Event) -> Result<(), AllocError>
     ensures { OnOk result (text.new.items ≡ text.old.items ++ event_line event.now) }
 {
     let line = print(alloc, event)?;

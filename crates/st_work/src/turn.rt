@@ -66,11 +66,7 @@ pub(crate) fn run_event(world: &mut World, event: Event) -> Result<(), AllocErro
 }
 
 /// Chooses the next event and runs it.
-pub(crate) fn advance(
-    alloc: Global,
-    world: &mut World,
-    draws: &mut Draws,
-) -> Result<(), AllocError>
+pub(crate) fn advance(alloc: Global, world: &mut World, draws: &mut Draws) -> Result<(), AllocError>
     requires ready { IsReady world.old }
     requires room { world.old.tally.events < 2 ^ 29 }
     ensures turn { OnOk result (IsTurn world.old draws.old world.new draws.new) }
