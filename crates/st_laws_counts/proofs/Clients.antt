@@ -315,7 +315,7 @@ started n w c site there h =
     one a (x, i, e) = subst (Few_at v (site.starts + 1)) (sym e) (record { versions = omega arith; lives = let z = (low.associations x i).lives in omega (arith, z); requests = tt })
 
 grown_of : (w v : World) → Beside w v → Grown w v
-grown_of w v b = record { commands = b.commands; log = b.log; ended = b.ended; messages = b.messages }
+grown_of w v b = let c = b.commands in let m = b.messages in record { commands = omega (arith, c); log = b.log; ended = b.ended; messages = omega (arith, m) }
 
 pub cases : (n : ℕ) → Cases (Sites_low n) (Sites_low (n + 1))
 unfolding ev.server_took

@@ -33,15 +33,15 @@ use Rattle.st_rules.specs.World.{World, ClientSite, clock_of, issued_of, node_of
 use Rattle.st_lemmas.proofs.Marks.{length_drop, length_harden}
 use Rattle.st_lemmas.proofs.Numbers.{set_length}
 
--- No nodes and no counts change, and the rows of the world do not get fewer.
+-- No nodes and no counts change, the rows of the world do not get fewer, and there are as many commands and messages.
 pub record Beside (w v : World) : Type 0 where
   pub clients : v.clients ≡ w.clients
   pub servers : v.servers ≡ w.servers
   pub tally : v.tally ≡ w.tally
-  pub commands : length w.commands ≤ length v.commands
+  pub commands : length v.commands ≡ length w.commands
   pub log : length w.log ≤ length v.log
   pub ended : length w.ended ≤ length v.ended
-  pub messages : length w.net.messages ≤ length v.net.messages
+  pub messages : length v.net.messages ≡ length w.net.messages
 
 -- the step of a client's node, and of a server's
 abbrev pub Client_steps : World → ClientId → ClientSite → ClientInput → cl.NodeTurn
@@ -91,19 +91,19 @@ no_fewer m n e = omega (arith, e)
 
 -- worlds that differ in their clocks, the fates of entries, the disks, or what is lost or cut in the network
 beside_log : (w : World) (es : List LogEntry) → length es ≡ length w.log → Beside w (ev.with_log es w)
-beside_log w es e = record { clients = refl; servers = refl; tally = refl; commands = omega arith; log = no_fewer (length es) (length w.log) e; ended = omega arith; messages = omega arith }
+beside_log w es e = record { clients = refl; servers = refl; tally = refl; commands = refl; log = no_fewer (length es) (length w.log) e; ended = omega arith; messages = refl }
 
 beside_clocks : (steps : List ℕ) (w : World) → Beside w (ev.with_clocks steps w)
-beside_clocks steps w = record { clients = refl; servers = refl; tally = refl; commands = omega arith; log = omega arith; ended = omega arith; messages = omega arith }
+beside_clocks steps w = record { clients = refl; servers = refl; tally = refl; commands = refl; log = omega arith; ended = omega arith; messages = refl }
 
 beside_disks : (d : Disks) (w : World) → Beside w (ev.with_disks d w)
-beside_disks d w = record { clients = refl; servers = refl; tally = refl; commands = omega arith; log = omega arith; ended = omega arith; messages = omega arith }
+beside_disks d w = record { clients = refl; servers = refl; tally = refl; commands = refl; log = omega arith; ended = omega arith; messages = refl }
 
 beside_cut : (from to : NodeId) (w : World) → Beside w (ev.with_cut from to w)
-beside_cut from to w = record { clients = refl; servers = refl; tally = refl; commands = omega arith; log = omega arith; ended = omega arith; messages = omega arith }
+beside_cut from to w = record { clients = refl; servers = refl; tally = refl; commands = refl; log = omega arith; ended = omega arith; messages = refl }
 
 beside_heal : (from to : NodeId) (w : World) → Beside w (ev.without_cut from to w)
-beside_heal from to w = record { clients = refl; servers = refl; tally = refl; commands = omega arith; log = omega arith; ended = omega arith; messages = omega arith }
+beside_heal from to w = record { clients = refl; servers = refl; tally = refl; commands = refl; log = omega arith; ended = omega arith; messages = refl }
 
 beside_lost : (n : ℕ) (m : SentMessage) (w : World) → Beside w (ev.with_lost n m w)
 beside_lost n m w =
@@ -111,10 +111,10 @@ beside_lost n m w =
       clients = refl;
       servers = refl;
       tally = refl;
-      commands = omega arith;
+      commands = refl;
       log = omega arith;
       ended = omega arith;
-      messages = no_fewer (length (with_numbered n (record m { lost = true }) w.net.messages)) (length w.net.messages) (set_length w.net.messages (pred n) (record m { lost = true }));
+      messages = set_length w.net.messages (pred n) (record m { lost = true });
     }
 
 module _ (I O : World → Type 0) (k : Cases I O) where

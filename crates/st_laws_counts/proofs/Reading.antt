@@ -270,11 +270,11 @@ unfolding cp.keep_alive
 r_alive t s now = r_if 0 t _ _ t (r_ask t s now bodies.KeepAlive None) (r_none 0 t)
 
 -- the operations that are there when one of them asks are as many as before
-abbrev As_many : ℕ → Option cp.Asking → Type 0
+abbrev pub As_many : ℕ → Option cp.Asking → Type 0
 As_many n None = Unit {0}
 As_many n (Some a) = length a.operations ≡ n
 
-first_many : (t : Turn) (s : ClientSession) (now : Stamp) (os : List Operation) → As_many (length os) (cp.first_asking t s now os)
+pub first_many : (t : Turn) (s : ClientSession) (now : Stamp) (os : List Operation) → As_many (length os) (cp.first_asking t s now os)
 unfolding cp.first_asking cp.asks_or
 first_many t s now [] = tt
 first_many t s now (o ∷ os) = go (cp.first_asking t s now os) (first_many t s now os) (cp.asked_by t s now o)

@@ -95,7 +95,7 @@ same_many : {A B : Type 0} (f : A → B) (xs : List A) → length (map f xs) ≡
 same_many f [] = refl
 same_many f (x ∷ xs) = ap suc (same_many f xs)
 
-fewer : {A : Type 0} (p : A → Bool) (xs : List A) → length (filter p xs) ≤ length xs
+pub fewer : {A : Type 0} (p : A → Bool) (xs : List A) → length (filter p xs) ≤ length xs
 fewer p [] = omega arith
 fewer {A} p (x ∷ xs) = go (p x) (fewer p xs)
   where
@@ -107,7 +107,7 @@ length_both : {A : Type 0} (xs ys : List A) → length (xs ++ ys) ≡ length xs 
 length_both [] ys = omega arith
 length_both (x ∷ xs) ys = let z = length_both xs ys in omega (arith, z)
 
-flat_many : {A B : Type 0} (f : A → List B) (n : ℕ) → ((x : A) → length (f x) ≤ n) → (xs : List A) → length (flat_map f xs) ≤ n * length xs
+pub flat_many : {A B : Type 0} (f : A → List B) (n : ℕ) → ((x : A) → length (f x) ≤ n) → (xs : List A) → length (flat_map f xs) ≤ n * length xs
 flat_many f n h [] = omega arith
 flat_many f n h (x ∷ xs) =
     let a = length_both (f x) (flat_map f xs) in let b = h x in let c = flat_many f n h xs in

@@ -533,7 +533,7 @@ unfolding sv.by_suspicion
 g_suspicion t now h body None n = g_by_body t now h body n
 g_suspicion t now h body (Some start) n = g_refused t h start body
 
-g_input : (t : Turn) (now : Stamp) (i : ServerInput) → G t (sv.take_input t now i)
+pub g_input : (t : Turn) (now : Stamp) (i : ServerInput) → G t (sv.take_input t now i)
 unfolding sv.take_input sv.receive sv.receive_from
 g_input t now Tick = g_none t
 g_input t now (Control m) = go (sv.is_for t.state m.header) refl
@@ -548,12 +548,12 @@ g_input t now (Control m) = go (sv.is_for t.state m.header) refl
     go false e = g_none t
 
 -- Suspecting: the clients of rows.
-g_each : (now : Stamp) (cs : List ClientId) (t : Turn) → ((c : ClientId) → Has c cs → In_range c.0) → G t (sv.suspect_each now cs t)
+pub g_each : (now : Stamp) (cs : List ClientId) (t : Turn) → ((c : ClientId) → Has c cs → In_range c.0) → G t (sv.suspect_each now cs t)
 unfolding sv.suspect_each
 g_each now [] t n = g_none t
 g_each now (c ∷ cs) t n = g_then t (sv.suspect_unless t now c) (sv.suspect_each now cs (sv.suspect_unless t now c)) (g_unless t now c (n c (inl refl))) (g_each now cs (sv.suspect_unless t now c) (λ d i. n d (inr i)))
 
-unanswered_few : (l : Locks) (now : Stamp) (k : Config) → Few_locks l → (c : ClientId) → Has c (locks.unanswered l now k) → In_range c.0
+pub unanswered_few : (l : Locks) (now : Stamp) (k : Config) → Few_locks l → (c : ClientId) → Has c (locks.unanswered l now k) → In_range c.0
 unfolding locks.unanswered
 unanswered_few l now k h c i =
     let a = has_map client (rising (map locks.client_of_row (filter (locks.is_overdue k now) l.rows))) c i in
@@ -561,7 +561,7 @@ unanswered_few l now k h c i =
     subst (λ (d : ClientId). In_range d.0) (sym a.2) (subst In_range (sym b.2) (h.rows b.0 (has_filter (locks.is_overdue k now) l.rows b.0 b.1).0))
 
 -- Granting and demanding.
-waiter_is : (l : Locks) (o : Option Waiter) (w : Waiter) → locks.grantable l o ≡ Some w → o ≡ Some w
+pub waiter_is : (l : Locks) (o : Option Waiter) (w : Waiter) → locks.grantable l o ≡ Some w → o ≡ Some w
 waiter_is l None w e = e
 waiter_is l (Some v) w e = go (list_any (locks.stands_against v.client v.ino v.mode) l.rows) e
   where
@@ -590,7 +590,7 @@ unfolding sv.tell_granted
 g_told [] t = g_none t
 g_told (r ∷ rs) t = let u = sv.tell t r.0 r.1 (bodies.Granted r.2 r.3 r.4) in g_then t u (sv.tell_granted rs u) (g_tell t r.0 r.1 (bodies.Granted r.2 r.3 r.4)) (g_told rs u)
 
-g_granting : (t : Turn) (now : Stamp) → G t (sv.granting t now)
+pub g_granting : (t : Turn) (now : Stamp) → G t (sv.granting t now)
 unfolding sv.granting sv.grant_waiting sv.grant_by locks.next_grants
 g_granting t now = g_if t (sv.in_grace t now) t _ (g_none t) (g_then t u (sv.tell_granted (locks.next_grants t.state.locks).granted u) (g_locks t (locks.next_grants t.state.locks).locks (files_few (locks.waited_files t.state.locks) (locks.nothing_granted t.state.locks))) (g_told (locks.next_grants t.state.locks).granted u))
   where
@@ -614,12 +614,12 @@ demand_row_few k now tick to (Some r) p h = go (locks.demand_now k now tick to r
     go None = h
     go (Some d) = demand_few r d p.locks h
 
-demand_clients_few : (k : Config) (now : Stamp) (tick : Bool) (ino : ℕ) (to : Mode) (cs : List ClientId) (p : locks.Demanding) → Few_locks p.locks → Few_locks (locks.demand_clients k now tick ino to cs p).locks
+pub demand_clients_few : (k : Config) (now : Stamp) (tick : Bool) (ino : ℕ) (to : Mode) (cs : List ClientId) (p : locks.Demanding) → Few_locks p.locks → Few_locks (locks.demand_clients k now tick ino to cs p).locks
 unfolding locks.demand_clients
 demand_clients_few k now tick ino to [] p h = h
 demand_clients_few k now tick ino to (c ∷ cs) p h = demand_clients_few k now tick ino to cs (locks.demand_row k now tick to (locks.row_of p.locks c ino) p) (demand_row_few k now tick to (locks.row_of p.locks c ino) p h)
 
-demand_for_few : (k : Config) (now : Stamp) (tick : Bool) (ss : List ClientId) (o : Option Waiter) (p : locks.Demanding) → Few_locks p.locks → Few_locks (locks.demand_for k now tick ss o p).locks
+pub demand_for_few : (k : Config) (now : Stamp) (tick : Bool) (ss : List ClientId) (o : Option Waiter) (p : locks.Demanding) → Few_locks p.locks → Few_locks (locks.demand_for k now tick ss o p).locks
 unfolding locks.demand_for
 demand_for_few k now tick ss None p h = h
 demand_for_few k now tick ss (Some w) p h = demand_clients_few k now tick w.ino (locks.wish w.mode) (locks.to_demand p.locks ss w) p h
@@ -660,7 +660,7 @@ stolen_one t c (Some s) =
       thefts = let z = weigh_both of_theft t.out (outputs.Note (notes.Stolen c s.life) ∷ []) in omega (arith, z);
     }
 
-stolen_each : (cs : List ClientId) (t : Turn) → Stolen (length cs) t (sv.steal_each cs t)
+pub stolen_each : (cs : List ClientId) (t : Turn) → Stolen (length cs) t (sv.steal_each cs t)
 unfolding sv.steal_each sv.steal
 stolen_each [] t = record { locks = λ h. h; timers = refl; thefts = omega arith }
 stolen_each (c ∷ cs) t =

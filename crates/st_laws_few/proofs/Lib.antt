@@ -1,0 +1,7 @@
+mod Lengths
+mod Serving
+mod Passing
+mod Hearing
+mod Stepping
+mod Events
+mod Runs
