@@ -15,9 +15,16 @@ use Rattle.st_schedule.proofs.PrintedLines.{read_as}
 use Rattle.st_lemmas.proofs.Tables.{and_true, not_true}
 use Rattle.st_runs.specs.Schedule.{begin, lines_of, onto, schedule_of, with_told}
 use Rattle.st_rules.specs.Generator as g
+use Rattle.st_rules.specs.Report.{opening, report}
+use Rattle.st_rules.specs.Run.{run}
+use Rattle.st_rules.specs.World.{World, fresh_world}
+use Rattle.st_runs.specs.Replay.{Replay, behind, ended_by, replay_from, replay_lines, replay_of, with_head}
+use Rattle.st_runs.specs.Replay.{text as replay_text}
+use Rattle.st_runs.specs.Schedule.{Whole}
 use Rattle.st_generate.specs.GeneratedText as text
-use Rattle.st_generate.specs.Law.{Each_has_a_line, Has_length, Head_has_a_line}
-use Rattle.st_laws_generate.specs.ReadBack.{Head_is_read, Text_is_read, whole}
+use Rattle.st_generate.specs.Law.{Has_length, Head_has_a_line, Runs_to_the_end, run_of}
+use Rattle.st_laws_few.specs.Few.{Events_have_lines}
+use Rattle.st_laws_generate.specs.ReadBack.{Head_is_read, Text_is_read, Text_is_replayed, Text_is_reported, whole}
 use Rattle.st_laws_generate.proofs.OneLine.{event_unbroken, is_unbroken}
 
 -- A line and a newline in front of other text.
@@ -77,12 +84,44 @@ pub head_is_read : Head_has_a_line → Head_is_read
 head_is_read fits = line_is_read progress.Nothing (line_of (head_words g.settings text.counts 1)) (said.Head g.settings text.counts 1) ((fits, head_words_again), refl) head_short tt
 
 -- The whole text.
-pub text_is_read : Head_has_a_line → Each_has_a_line → Has_length → Text_is_read
+abbrev first_line : List ℕ
+first_line = line_of (head_words g.settings text.counts 1)
+
+abbrev later_lines : List Event → List (List ℕ)
+later_lines es = map (λ e. line_of (words e)) es ++ codes "end" ∷ []
+
+text_lines : Events_have_lines → (n seed : ℕ) → n ≤ MOST_EVENTS → lines_of (text.generate_text n seed) ≡ first_line ∷ later_lines (g.generate n seed)
 unfolding text.generate_text text.schedule_text
-text_is_read fits each long n seed small few =
-    ap (λ ls. schedule_of ls 1 progress.Nothing)
-    (ap lines_of (append_again text.head_line (flat_map text.event_line (g.generate n seed)) (codes "end\n"))
-    ∙ line_first (line_of (head_words g.settings text.counts 1)) _ head_unbroken
-    ∙ ap (λ ls. line_of (head_words g.settings text.counts 1) ∷ ls) (tail_lines (g.generate n seed) (each n seed few)))
-    ∙ ap (with_told 1 (schedule_of (map (λ e. line_of (words e)) (g.generate n seed) ++ codes "end" ∷ []) 2)) (head_is_read fits)
-    ∙ tail_read (g.generate n seed) 2 0 (each n seed few) (let z = long n seed in omega (arith, z, small))
+text_lines each n seed small =
+    ap lines_of (append_again text.head_line (flat_map text.event_line (g.generate n seed)) (codes "end\n"))
+    ∙ line_first first_line _ head_unbroken
+    ∙ ap (λ ls. first_line ∷ ls) (tail_lines (g.generate n seed) (each n seed small))
+
+events_read : Events_have_lines → Has_length → (n seed : ℕ) → n ≤ MOST_EVENTS → schedule_of (later_lines (g.generate n seed)) 2 (progress.Reading 1 text.counts 0) ≡ whole (g.generate n seed)
+events_read each long n seed small = tail_read (g.generate n seed) 2 0 (each n seed small) (let z = long n seed in omega (arith, z, small))
+
+pub text_is_read : Head_has_a_line → Events_have_lines → Has_length → Text_is_read
+text_is_read fits each long n seed small =
+    ap (λ ls. schedule_of ls 1 progress.Nothing) (text_lines each n seed small)
+    ∙ ap (with_told 1 (schedule_of (later_lines (g.generate n seed)) 2)) (head_is_read fits)
+    ∙ events_read each long n seed small
+
+-- Its replay.
+replayed : Head_has_a_line → Events_have_lines → Has_length → (n seed : ℕ) → n ≤ MOST_EVENTS →
+    replay_of (text.generate_text n seed) ≡ behind opening (replay_from 1 g.generator_world (whole (g.generate n seed)))
+unfolding replay_lines g.generator_world
+replayed fits each long n seed small =
+    ap replay_lines (text_lines each n seed small)
+    ∙ ap (with_head (later_lines (g.generate n seed))) (head_is_read fits)
+    ∙ ap (λ s. behind opening (replay_from 1 (fresh_world g.settings 3 2 2 64 1) s)) (events_read each long n seed small)
+
+pub text_is_replayed : Head_has_a_line → Events_have_lines → Has_length → Runs_to_the_end → Text_is_replayed
+unfolding replay_from
+text_is_replayed fits each long end n seed small =
+    ap (λ (r : Replay). r.last) (replayed fits each long n seed small)
+    ∙ ap (ended_by (1 + length (run_of n seed).seen) (run_of n seed).world Whole) (end n seed)
+
+pub text_is_reported : Head_has_a_line → Events_have_lines → Has_length →
+    ((es : List Event) (w : World) → replay_text (behind opening (replay_from 1 w (whole es))) ≡ report (run es w)) → Text_is_reported
+text_is_reported fits each long same n seed small =
+    ap replay_text (replayed fits each long n seed small) ∙ same (g.generate n seed) g.generator_world

@@ -7,7 +7,10 @@ use Rattle.st_schedule.specs.Grammar.{head_words}
 use Rattle.st_schedule.specs.Reader.{MOST_EVENTS, read_line}
 use Rattle.st_rules.specs.Generator.{settings, generate}
 use Rattle.st_generate.specs.GeneratedText.{counts, generate_text}
-use Rattle.st_generate.specs.Law.{HasFew}
+use Rattle.st_generate.specs.Law.{run_of}
+use Rattle.st_rules.specs.Report.{report}
+use Rattle.st_runs.specs.Replay as replay
+use Rattle.st_runs.specs.Replay.{replay_of, report_of}
 use Rattle.st_runs.specs.Schedule.{Schedule, Whole, lines_of, schedule_of}
 
 -- a whole schedule of these events
@@ -18,6 +21,14 @@ whole es = record { events = es; ending = Whole }
 abbrev pub Head_is_read : Type 0
 Head_is_read = read_line progress.Nothing (line_of (head_words settings counts 1)) ≡ Ok (said.Head settings counts 1, progress.Reading 1 counts 0)
 
--- All lines of the text are read, as the events and the end, where messages and commands have numbers of a line.
+-- All lines of the text are read, as the events and the end.
 abbrev pub Text_is_read : Type 0
-Text_is_read = (n seed : ℕ) → n ≤ MOST_EVENTS → HasFew n seed → schedule_of (lines_of (generate_text n seed)) 1 progress.Nothing ≡ whole (generate n seed)
+Text_is_read = (n seed : ℕ) → n ≤ MOST_EVENTS → schedule_of (lines_of (generate_text n seed)) 1 progress.Nothing ≡ whole (generate n seed)
+
+-- The replay of the text refuses no line: it goes through the end, to the world of the run.
+abbrev pub Text_is_replayed : Type 0
+Text_is_replayed = (n seed : ℕ) → n ≤ MOST_EVENTS → (replay_of (generate_text n seed)).last ≡ replay.Whole (run_of n seed).world
+
+-- The report of the text is the report of the run.
+abbrev pub Text_is_reported : Type 0
+Text_is_reported = (n seed : ℕ) → n ≤ MOST_EVENTS → report_of (generate_text n seed) ≡ report (run_of n seed)
