@@ -14,10 +14,10 @@ ghost use Rattle.st_tank.specs.Status.{status_in, status_of};
 ghost use Rattle.st_tank.specs.Words as words_of;
 ghost use Rattle.st_tank.specs.Words.{complaint};
 
-use st_runs::{all_is_promised, schedules_run_safely};
 use st_clock::Clock;
 use st_link::{Link, Sink, Source, put_all};
 use st_replay::{ReplayFault, Summary, World};
+use st_runs::{all_is_promised, schedules_run_safely};
 use st_service::{node_of, serve_node};
 use std::alloc::Global;
 

@@ -63,11 +63,7 @@ impl Left {
 }
 
 /// Runs the program with these words over this schedule and these frames.
-pub fn run_failing(
-    alloc: Global,
-    case: &Case<'_>,
-    failing: Failing,
-) -> Result<Left, AllocError> {
+pub fn run_failing(alloc: Global, case: &Case<'_>, failing: Failing) -> Result<Left, AllocError> {
     let words = words_of(alloc, case.words)?;
     let bytes = Vec::from_slice(alloc, case.schedule.as_bytes())?;
     let mut input = MemorySource::new(bytes, Vec::from_slice(alloc, &[failing.source])?);
@@ -130,7 +126,10 @@ fn each_link_call_fails(
         let failing = Failing { link: call, ..NONE };
         let left = run_failing(rt.alloc(), case, failing)?;
         assert_eq!(rt; left.status, 6, "call {call} of the link");
-        assert!(rt; left.is_front(case, "tank: link failed\n"), "call {call} of the link");
+        assert!(rt;
+            left.is_front(case, "tank: link failed\n"),
+            "call {call} of the link"
+        );
     }
     Ok(())
 }

@@ -41,12 +41,36 @@ fn ends_of_a_node(rt: HostRuntime) -> Result<(), Fail> {
     ends(&rt, TO_ANOTHER, b"", 0, "")?;
     ends(&rt, b"", b"", 0, "")?;
     ends(&rt, b"\x00\x00\x00\x00", b"", 1, "tank: frame at 0 Short\n")?;
-    ends(&rt, b"\x00\x01\x00\x01", b"", 1, "tank: frame at 0 FrameTooLong 65537\n")?;
-    ends(&rt, b"\x00\x00\x00\x01\x09", b"", 1, "tank: frame at 0 Version\n")?;
-    ends(&rt, b"\x00\x00\x00\x02\x01\xff", b"", 1, "tank: frame at 0 Kind\n")?;
+    ends(
+        &rt,
+        b"\x00\x01\x00\x01",
+        b"",
+        1,
+        "tank: frame at 0 FrameTooLong 65537\n",
+    )?;
+    ends(
+        &rt,
+        b"\x00\x00\x00\x01\x09",
+        b"",
+        1,
+        "tank: frame at 0 Version\n",
+    )?;
+    ends(
+        &rt,
+        b"\x00\x00\x00\x02\x01\xff",
+        b"",
+        1,
+        "tank: frame at 0 Kind\n",
+    )?;
     let mut bytes = Vec::from_slice(rt.alloc(), GREETING)?;
     bytes.extend_from_slice(b"\x00\x00\x00\x01\x02\x00")?;
-    ends(&rt, bytes.as_slice(), WELCOME, 1, "tank: frame at 42 Short\n")?;
+    ends(
+        &rt,
+        bytes.as_slice(),
+        WELCOME,
+        1,
+        "tank: frame at 42 Short\n",
+    )?;
     bytes[3] = 39;
     ends(&rt, bytes.as_slice(), b"", 1, "tank: frame at 0 Long\n")?;
     bytes[3] = 38;
