@@ -29,7 +29,7 @@ pub const NONE: Failing = Failing {
 #[derive(Clone, Copy)]
 pub struct Case<'a> {
     pub words: &'a [&'a str],
-    pub schedule: &'a str,
+    pub schedule: &'a [u8],
     pub frames: &'a [u8],
     pub status: u8,
     pub report: &'a str,
@@ -65,7 +65,7 @@ impl Left {
 /// Runs the program with these words over this schedule and these frames.
 pub fn run_failing(alloc: Global, case: &Case<'_>, failing: Failing) -> Result<Left, AllocError> {
     let words = words_of(alloc, case.words)?;
-    let bytes = Vec::from_slice(alloc, case.schedule.as_bytes())?;
+    let bytes = Vec::from_slice(alloc, case.schedule)?;
     let mut input = MemorySource::new(bytes, Vec::from_slice(alloc, &[failing.source])?);
     let mut out = MemorySink::new(alloc, Vec::from_slice(alloc, &[failing.sink])?);
     let mut err = MemorySink::new(alloc, Vec::from_slice(alloc, &[failing.err])?);
@@ -177,7 +177,7 @@ fn each_call_fails_in_turn(rt: HostRuntime) -> Result<(), Fail> {
         (
             Case {
                 words: &["replay"],
-                schedule: schedule.as_str(),
+                schedule: schedule.as_bytes(),
                 frames: GREETING,
                 status: 0,
                 report: report.as_str(),
@@ -193,7 +193,7 @@ fn each_call_fails_in_turn(rt: HostRuntime) -> Result<(), Fail> {
         (
             Case {
                 words: node,
-                schedule: HEAD,
+                schedule: HEAD.as_bytes(),
                 frames: GREETING,
                 status: 0,
                 report: "",
@@ -205,7 +205,7 @@ fn each_call_fails_in_turn(rt: HostRuntime) -> Result<(), Fail> {
         (
             Case {
                 words: node,
-                schedule: HEAD,
+                schedule: HEAD.as_bytes(),
                 frames: &GREETING[..41],
                 status: 1,
                 report: "",
@@ -221,7 +221,7 @@ fn each_call_fails_in_turn(rt: HostRuntime) -> Result<(), Fail> {
         (
             Case {
                 words: &["node"],
-                schedule: HEAD,
+                schedule: HEAD.as_bytes(),
                 frames: GREETING,
                 status: 2,
                 report: "",
@@ -237,6 +237,32 @@ fn each_call_fails_in_turn(rt: HostRuntime) -> Result<(), Fail> {
         each_link_call_fails(&rt, case, calls.link)?;
         each_complaint_fails(&rt, case, calls.err)?;
         no_more_calls(&rt, case, *calls)?;
+    }
+    Ok(())
+}
+
+/// A schedule that is cut is refused, unless the cut takes only the last newline.
+#[test]
+fn a_schedule_is_cut_at_each_place(rt: HostRuntime) -> Result<(), Fail> {
+    let schedule = joined(rt.alloc(), &[HEAD, WRITTEN, ONE_SIDED_CUT])?;
+    let report = joined(rt.alloc(), &[WRITTEN_REPORT, ONE_SIDED_CUT_REPORT])?;
+    for at in 0..schedule.len() {
+        let case = Case {
+            words: &["replay"],
+            schedule: &schedule.as_bytes()[..at],
+            frames: b"",
+            status: 1,
+            report: report.as_str(),
+            sent: b"",
+            complaint: "",
+        };
+        let left = run_failing(rt.alloc(), &case, NONE)?;
+        if at.saturating_add(1) == schedule.len() {
+            assert_eq!(rt; left.status, 0);
+            assert!(rt; left.is_whole(&case, ""));
+        } else {
+            assert_eq!(rt; left.status, 1, "cut at {at}");
+        }
     }
     Ok(())
 }

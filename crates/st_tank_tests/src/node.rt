@@ -22,7 +22,7 @@ fn ends(
 ) -> Result<(), Fail> {
     let case = Case {
         words: SERVER,
-        schedule: HEAD,
+        schedule: HEAD.as_bytes(),
         frames,
         status,
         report: "",
@@ -91,7 +91,7 @@ fn a_frame_is_cut_at_each_place(rt: HostRuntime) -> Result<(), Fail> {
 fn two_failures(rt: HostRuntime) -> Result<(), Fail> {
     let case = Case {
         words: SERVER,
-        schedule: HEAD,
+        schedule: HEAD.as_bytes(),
         frames: GREETING,
         status: 6,
         report: "",
@@ -141,7 +141,7 @@ fn are_words(
 ) -> Result<(), Fail> {
     let case = Case {
         words,
-        schedule: HEAD,
+        schedule: HEAD.as_bytes(),
         frames: b"",
         status,
         report: "",
