@@ -3,7 +3,7 @@ use Rattle.std.specs.Prelude.{◌≡◌, ◌≤◌, ◌<◌, ◌+◌, ◌*◌, �
 use Rattle.st_rules.specs.Server.{ServerNode}
 use Rattle.st_server.specs.Room.{taken_locks}
 use Rattle.st_node.specs.declared.node.Node.{Node}
-use Rattle.st_node.specs.declared.node.Node.TheVariants.{Server}
+use Rattle.st_node.specs.declared.node.Node.TheVariants.{Server, Client}
 
 -- a server runs, and this many steps more keep its counters in their ranges: each takes at most one grant or wait, one inode number
 -- and 64 births
@@ -13,6 +13,7 @@ pub record ServerHasRoom (steps : ℕ) (n : ServerNode) : Type 0 where
   pub inodes : n.state.stable.names.next + steps < 2 ^ 32
   pub births : n.state.stable.extents.births + 64 * steps ≤ 2 ^ 62
 
--- a node runs, and its counters have room for this many steps more
+-- a node's counters have room for this many steps more; a client tests its counters before each step
 abbrev pub HasRoomFor : ℕ → Node → Type 0
 HasRoomFor steps (Server n) = ServerHasRoom steps n
+HasRoomFor steps (Client n) = Unit {0}

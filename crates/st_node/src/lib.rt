@@ -1,6 +1,7 @@
 //! One node served over a link: frames in, frames out. `docs/PROTOCOL.md`, "A node over a stream", has the rules.
 #![tactic(auto)]
 
+mod client;
 mod fault;
 mod frames;
 mod law;

@@ -3,13 +3,16 @@ ghost use Rattle.st_messages.specs.Fits.{fits};
 ghost use Rattle.st_node.specs.Room.{HasRoomFor};
 ghost use Rattle.st_base.specs.Config as settings;
 ghost use Rattle.st_extents.specs.Layout.{IsWithinLimits};
+ghost use Rattle.st_rules.specs.Client as clients;
 ghost use Rattle.st_rules.specs.Server as machine;
 ghost use Rattle.st_node.specs.Runs as runs;
 ghost use Rattle.st_node.specs.Runs.{MOST};
 ghost use Rattle.st_node.specs.declared.node.Node.TheVariants as nodes;
 
+use crate::client::handle_client;
 use crate::server::handle_server;
-use st_base::{Config, ServerId, Stamp};
+use st_base::{ClientId, Config, ServerId, Stamp};
+use st_client::ClientNode;
 use st_messages::Message;
 use st_server::ServerNode;
 use std::alloc::{AllocError, Global};
@@ -18,6 +21,7 @@ use std::alloc::{AllocError, Global};
 #[derive(Drop)]
 pub enum Node {
     Server(ServerNode),
+    Client(ClientNode),
 }
 
 impl Node {
@@ -40,8 +44,26 @@ impl Node {
         Ok(Node::Server(server))
     }
 
-    /// Takes a message at this moment: one step where it is an input of the node, and nothing else. Appends the frames of what the
-    /// node sends. Where memory runs out, the node may be crashed.
+    /// A client that was never started before. `id` is from 1 to 16, and there are at most four servers.
+    pub fn client(
+        alloc: Global,
+        id: ClientId,
+        config: &Config,
+        servers: u16,
+    ) -> Result<Node, AllocError>
+        requires checked { IsOk (settings.check config.now) }
+        requires least { 1 ≤ id.0 }
+        requires most { id.0 ≤ 16 }
+        requires servers { servers ≤ 4 }
+        ensures fresh { IfOk result (λ n. n ≡ nodes.Client (clients.fresh_node id config.now servers)) }
+        ensures room { IfOk result (λ n. HasRoomFor MOST n) }
+    {
+        let client = ClientNode::fresh(alloc, id, config, servers)?;
+        Ok(Node::Client(client))
+    }
+
+    /// Takes a message at this moment: one step where it is an input of the node, and nothing else. Appends the frames of
+    /// what goes out. Where memory runs out, the node may be crashed; a client also says so where one of its counters is at its end.
     pub(crate) fn handle(
         &mut self,
         now: Stamp,
@@ -57,6 +79,10 @@ impl Node {
     {
         match self {
             Node::Server(server) => handle_server(server, now, message, out),
+            Node::Client(client) => {
+                handle_client(client, now, message, out)?;
+                Ok(())
+            }
         }
     }
 }
