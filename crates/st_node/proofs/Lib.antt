@@ -1,5 +1,6 @@
 pub mod Reading
 pub mod Runs
+mod Clients
 mod Growing
 mod Stables
 pub mod Room
