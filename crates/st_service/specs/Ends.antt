@@ -1,5 +1,5 @@
 -- How a node that was served ended: the status of the program, and the text on its error sink. docs/PROTOCOL.md, "The program".
-use Rattle.std.specs.Prelude.{◌≡◌, ◌≤◌, ◌⊎◌, ◌==◌, ¬◌, if◌then◌else◌, ℕ, List, [], ◌++◌, codes, length, Option, Some, Result, Ok, Err, IfSome}
+use Rattle.std.specs.Prelude.{◌≡◌, ◌≤◌, ◌⊎◌, ◌==◌, if◌then◌else◌, ℕ, List, [], ◌++◌, codes, length, Option, Some, Result, Ok, Err, IfSome}
 use Rattle.std.specs.Io.KnownBytes.{Appends}
 use Rattle.std.specs.List.{flat_map, AllByRecursion}
 use Rattle.st_base.specs.declared.ids.NodeId.{NodeId}

@@ -1,7 +1,7 @@
 use Rattle.std.proofs.Common.{subst}
 use Rattle.st_node.specs.Serving.{HasCauses}
 use Rattle.st_service.specs.Words.{started_run}
-use Rattle.st_service.proofs.Ends.{attached_writes, unattached_writes}
+use Rattle.st_service.proofs.Told.{attached_writes, unattached_writes}
 use Rattle.st_service.proofs.service.attach_and_serve.Goals as goal
 
 pub returns-in-Ok-clause-run : goal.returns-in-Ok-clause-run

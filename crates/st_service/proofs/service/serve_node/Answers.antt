@@ -1,5 +1,5 @@
 use Rattle.st_service.specs.Words.{started_run}
-use Rattle.st_service.proofs.Ends.{completes, few_statuses, link_cause, told_causes, told_run}
+use Rattle.st_service.proofs.Told.{completes, few_statuses, link_cause, told_causes, told_run}
 use Rattle.st_service.proofs.service.serve_node.Goals as goal
 
 pub returns-clause-served : goal.returns-clause-served

@@ -1,5 +1,5 @@
 use Rattle.st_service.specs.Words.{started_run}
-use Rattle.st_service.proofs.Ends.{nothing_made}
+use Rattle.st_service.proofs.Told.{nothing_made}
 use Rattle.st_service.proofs.service.start_and_serve.Goals as goal
 
 pub returns-in-Err-clause-run : goal.returns-in-Err-clause-run
