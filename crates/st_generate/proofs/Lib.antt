@@ -1,5 +1,5 @@
-mod Sizes
+pub mod Sizes
 pub mod Drawn
-mod Choices
+pub mod Choices
 mod Runs
 mod Full

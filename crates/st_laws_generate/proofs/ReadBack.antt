@@ -13,7 +13,7 @@ use Rattle.st_schedule.specs.Reading.{line_event, end_of, ends}
 use Rattle.st_schedule.proofs.LinesAsSpelled.{line_is_read}
 use Rattle.st_schedule.proofs.PrintedLines.{read_as}
 use Rattle.st_lemmas.proofs.Tables.{and_true, not_true}
-use Rattle.st_replay.specs.Schedule.{begin, lines_of, onto, schedule_of, with_told}
+use Rattle.st_runs.specs.Schedule.{begin, lines_of, onto, schedule_of, with_told}
 use Rattle.st_rules.specs.Generator as g
 use Rattle.st_generate.specs.GeneratedText as text
 use Rattle.st_generate.specs.Law.{Each_has_a_line, Has_length, Head_has_a_line}

@@ -8,7 +8,7 @@ use Rattle.st_schedule.specs.Reader.{MOST_EVENTS, read_line}
 use Rattle.st_rules.specs.Generator.{settings, generate}
 use Rattle.st_generate.specs.GeneratedText.{counts, generate_text}
 use Rattle.st_generate.specs.Law.{HasFew}
-use Rattle.st_replay.specs.Schedule.{Schedule, Whole, lines_of, schedule_of}
+use Rattle.st_runs.specs.Schedule.{Schedule, Whole, lines_of, schedule_of}
 
 -- a whole schedule of these events
 abbrev pub whole : List Rattle.st_messages.specs.declared.event.Event.Event → Schedule

@@ -20,7 +20,7 @@ length_kept p (x ∷ xs) =
     (λ q. subst (λ b. length (cond b (x ∷ filter p xs) (filter p xs)) ≤ length (x ∷ xs)) (sym q) (omega (arith, rest)))
     (cases_Bool (p x))
 
-length_without : {X : Type 0} (p q : X → Bool) (w : X) (xs : List X) → find p xs ≡ Some w → q w ≡ true → length (filter (λ x. not (q x)) xs) + 1 ≤ length xs
+pub length_without : {X : Type 0} (p q : X → Bool) (w : X) (xs : List X) → find p xs ≡ Some w → q w ≡ true → length (filter (λ x. not (q x)) xs) + 1 ≤ length xs
 length_without p q w [] e t = cc
 length_without p q w (x ∷ xs) e t =
     ⊎_elim
@@ -39,10 +39,10 @@ length_without p q w (x ∷ xs) e t =
     (cases_Bool (q x)))
     (cases_Bool (p x))
 
-same_wait : (w : Waiter) → is_wait_of w.client w.ino w ≡ true
+pub same_wait : (w : Waiter) → is_wait_of w.client w.ino w ≡ true
 same_wait w = rw (eq-eqb w.client.0 w.client.0 refl, eq-eqb w.ino w.ino refl) refl
 
-grantable_found : (l : Locks) (o : Option Waiter) (w : Waiter) → Some w ≡ grantable l o → o ≡ Some w
+pub grantable_found : (l : Locks) (o : Option Waiter) (w : Waiter) → Some w ≡ grantable l o → o ≡ Some w
 grantable_found l None w e = cc
 grantable_found l (Some v) w e =
     ⊎_elim

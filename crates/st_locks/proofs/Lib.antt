@@ -7,3 +7,7 @@ pub mod Ways
 pub mod Files
 pub mod Overdue
 pub mod Sound
+pub mod Settled
+pub mod Demanded
+pub mod Walks
+pub mod Moments

@@ -22,10 +22,10 @@ by_less : (a b : ℕ) (l : Bool) → nat_lt a b ≡ l → is_eq (cond l Less (co
 by_less a b true q = let l = ltb-true a b q in sym (ne_eqb b a (λ (z : b ≡ a). omega (arith, z, l)))
 by_less a b false q = by_equal a b (a == b) refl
 
-equal_numbers : (a b : ℕ) → is_eq (nat_cmp a b) ≡ (b == a)
+pub equal_numbers : (a b : ℕ) → is_eq (nat_cmp a b) ≡ (b == a)
 equal_numbers a b = by_less a b (nat_lt a b) refl
 
-then_equal : (o p : Ordering) → is_eq (ordering_then o p) ≡ is_eq o && is_eq p
+pub then_equal : (o p : Ordering) → is_eq (ordering_then o p) ≡ is_eq o && is_eq p
 then_equal Less p = refl
 then_equal Equal p = refl
 then_equal Greater p = refl

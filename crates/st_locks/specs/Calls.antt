@@ -20,7 +20,7 @@ use Rattle.st_locks.specs.declared.refusal.LockRefusal.TheVariants.{TooManyLocks
 use Rattle.st_rules.specs.Keys.{client, rising}
 use Rattle.st_rules.specs.ServerInvariants.{is_compatible}
 use Rattle.st_rules.specs.Locks.{Locks, Acquired, Granting, Demanding, client_of_row, first_after, is_earlier_grant, row_of, is_row_by, is_row_of, is_wait_by, is_wait_on}
-use Rattle.st_rules.specs.Locks.{grant_file, demand_row, demand_clients, demand_for}
+use Rattle.st_rules.specs.Locks.{grant_file, demand_row, demand_clients, demand_files, demand_for}
 use Rattle.st_locks.specs.declared.passes.Pass.{Pass}
 
 -- a mode of a lock: shared or exclusive
@@ -121,6 +121,14 @@ rows_demanded pass ino to cs d = demand_clients pass.config pass.now pass.tick i
 -- the rows in the way of a file's first waiter are demanded
 abbrev pub file_demanded : Pass → List ClientId → ℕ → Demanding → Demanding
 file_demanded pass suspects ino d = demand_for pass.config pass.now pass.tick suspects (find (is_wait_on ino) d.locks.waiters) d
+
+-- the rows in the way of a wait are demanded
+abbrev pub wait_demanded : Pass → List ClientId → Waiter → Demanding → Demanding
+wait_demanded pass suspects w d = demand_for pass.config pass.now pass.tick suspects (Some w) d
+
+-- the rows in the way of the first waiters of these files are demanded
+abbrev pub files_demanded : Pass → List ClientId → List ℕ → Demanding → Demanding
+files_demanded pass suspects files d = demand_files pass.config pass.now pass.tick suspects files d
 
 -- a row that is to be installed is of a lock
 abbrev pub is_lock_row : ℕ × GrantNo × Mode → Bool

@@ -8,7 +8,7 @@ ghost use Rattle.st_locks.specs.Since.{IsClient, KeepsSince, since_of_demand};
 ghost use Rattle.st_locks.specs.Calls.{Answers, Gives, Installs, demanding, granting, is_lock_row, is_old_row, same_file, told, with_one};
 
 use crate::refusal::LockRefusal;
-use crate::table::LockTable;
+use crate::table::PlainTable;
 use st_base::{ClientId, GrantNo, Life, Mode};
 use st_rules::LockRow;
 use std::alloc::AllocError;
@@ -22,7 +22,7 @@ fn first_of(clients: &[ClientId]) -> Option<ClientId>
     }
 }
 
-impl LockTable {
+impl PlainTable {
     /// The least other client whose row of the file conflicts with the mode.
     fn holder_against(
         &self,

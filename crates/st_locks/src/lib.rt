@@ -3,15 +3,19 @@
 #![tactic(auto)]
 
 mod install;
+mod lock_table;
+mod parts;
 mod passes;
 mod refusal;
 mod release;
 mod rows;
 mod since;
 mod table;
+mod touched;
+mod waking;
 
+pub use lock_table::LockTable;
 pub use passes::Sent;
 pub use refusal::LockRefusal;
 pub use since::Unanswered;
 pub use st_rules::{LockRow, RowDemand, Verdict, Waiter};
-pub use table::LockTable;

@@ -5,10 +5,12 @@ ghost use Rattle.std.specs.Option.{option_copied, option_map, option_to_list};
 ghost use Rattle.st_rules.specs.Keys as keys;
 ghost use Rattle.st_rules.specs.Locks as locks;
 ghost use Rattle.st_locks.specs.Since.{IsClient, KeepsSince, since_of_demand};
-ghost use Rattle.st_locks.specs.Calls.{demanding, file_demanded, file_granted, granting, is_lock, row_demanded, rows_demanded};
+ghost use Rattle.st_locks.specs.Calls.{demanding, file_demanded, file_granted, files_demanded, granting, is_lock, row_demanded, rows_demanded, wait_demanded};
+ghost use Rattle.st_locks.specs.Settled.{KeepsAll, Times, TimesRows, is_one_of, is_timed};
 
 use crate::since::passed;
-use crate::table::{LockTable, push_if};
+use crate::table::{PlainTable, push_if};
+use crate::waking::Waking;
 use st_base::{ClientId, Config, GrantNo, Life, Mode, Stamp};
 use st_rules::{LockRow, RowDemand, Waiter};
 use std::alloc::{AllocError, Global};
@@ -18,10 +20,10 @@ pub type Sent = (ClientId, Life, u32, GrantNo, Mode);
 
 /// One demanding pass: the settings, the moment, and whether it is on a tick.
 #[derive(Clone, Copy)]
-struct Pass {
-    config: Config,
-    now: Stamp,
-    tick: bool,
+pub(crate) struct Pass {
+    pub(crate) config: Config,
+    pub(crate) now: Stamp,
+    pub(crate) tick: bool,
 }
 
 #[tactic(auto, unfolding(st_rules::specs::Locks::demanded))]
@@ -122,7 +124,7 @@ fn drop_among(clients: &mut Vec<ClientId>, suspects: &[ClientId])
     clients.retain(|c| !is_among(suspects, *c));
 }
 
-impl LockTable {
+impl PlainTable {
     /// The first waiter of the file, where no other client's row conflicts.
     fn next_waiter(&self, ino: u32) -> Option<Waiter>
         ensures next { result ≡ locks.next_waiter self.now ino }
@@ -154,7 +156,7 @@ impl LockTable {
     }
 
     #[tactic(auto, unfolding(st_rules::specs::Locks::grant_file))]
-    fn grant_file(&mut self, granted: &mut Vec<Sent>, ino: u32) -> Result<(), AllocError>
+    pub(crate) fn grant_file(&mut self, granted: &mut Vec<Sent>, ino: u32) -> Result<(), AllocError>
         requires { self.old.grants + length self.old.waiters < 2 ^ 32 }
         ensures ok { OnOk result (granting self.new granted.new.items ≡ file_granted ino (granting self.old granted.old.items)) }
         ensures room { OnOk result (self.new.grants + length self.new.waiters < 2 ^ 32) }
@@ -169,21 +171,6 @@ impl LockTable {
             left -= 1;
         }
         Ok(())
-    }
-
-    /// All grants that may be made now.
-    #[tactic(auto, unfolding(st_rules::specs::Locks::next_grants, st_rules::specs::Locks::grant_files))]
-    pub fn next_grants(&mut self) -> Result<Vec<Sent>, AllocError>
-        requires { self.old.grants + length self.old.waiters < 2 ^ 32 }
-        ensures { IfOk result (λ v. locks.next_grants self.old ≡ granting self.new v.items) }
-    {
-        let alloc = self.alloc;
-        let files = self.waited_files()?;
-        let mut granted = Vec::new(alloc);
-        for ino in files.as_slice() {
-            self.grant_file(&mut granted, *ino)?;
-        }
-        Ok(granted)
     }
 
     #[tactic(auto, unfolding(st_rules::specs::Locks::demand_with, st_rules::specs::Locks::demanded))]
@@ -249,44 +236,88 @@ impl LockTable {
         Ok(clients)
     }
 
+    /// The file is looked at again once the demand on the client's row of it is old.
+    fn time_row(&self, waking: &mut Waking, client: ClientId, ino: u32) -> Result<(), AllocError>
+        ensures all { OnOk result (KeepsAll waking.old waking.new) }
+        ensures timed { OnOk result (IfSome (locks.row_of self.now client ino) (λ r. is_timed waking.new ino r.demand ≡ true)) }
+    {
+        match self.row_at(client, ino) {
+            None => Ok(()),
+            Some(row) => waking.keep_demand(ino, row.demand),
+        }
+    }
+
+    /// The file is looked at again once one of the demands on these clients' rows of it is old.
+    fn time_rows(
+        &self,
+        waking: &mut Waking,
+        clients: &[ClientId],
+        ino: u32,
+    ) -> Result<(), AllocError>
+        ensures all { OnOk result (KeepsAll waking.old waking.new) }
+        ensures timed { OnOk result (TimesRows self.now clients.now ino waking.new) }
+    {
+        for client in clients {
+            self.time_row(waking, *client, ino)?;
+        }
+        Ok(())
+    }
+
+    /// The rows in the way of a wait are demanded, and timed.
+    #[tactic(auto, unfolding(st_rules::specs::Locks::demand_for))]
+    fn demand_wait(
+        &mut self,
+        waking: &mut Waking,
+        due: &mut Vec<Sent>,
+        pass: Pass,
+        suspects: &[ClientId],
+        w: Waiter,
+    ) -> Result<(), AllocError>
+        ensures ok { OnOk result (demanding self.new due.new.items ≡ wait_demanded pass suspects.now w (demanding self.old due.old.items)) }
+        ensures all { OnOk result (KeepsAll waking.old waking.new) }
+        ensures timed { OnOk result (TimesRows self.new (locks.to_demand self.old suspects.now w) w.ino waking.new) }
+    {
+        let clients = self.to_demand(suspects, w)?;
+        self.demand_clients(due, pass, w.ino, wish(w.mode), clients.as_slice())?;
+        self.time_rows(waking, clients.as_slice(), w.ino)
+    }
+
+    /// The rows in the way of the file's first waiter are demanded, and timed.
     #[tactic(auto, unfolding(st_rules::specs::Locks::demand_for))]
     fn demand_for(
         &mut self,
+        waking: &mut Waking,
         due: &mut Vec<Sent>,
         pass: Pass,
         suspects: &[ClientId],
         ino: u32,
     ) -> Result<(), AllocError>
-        ensures { OnOk result (demanding self.new due.new.items ≡ file_demanded pass suspects.now ino (demanding self.old due.old.items)) }
+        ensures ok { OnOk result (demanding self.new due.new.items ≡ file_demanded pass suspects.now ino (demanding self.old due.old.items)) }
+        ensures timed { OnOk result (Times suspects.now (λ j. ino == j) self.old waking.old self.new waking.new) }
     {
         match self.waits.first_on(ino) {
             None => Ok(()),
-            Some(w) => {
-                let clients = self.to_demand(suspects, w)?;
-                self.demand_clients(due, pass, w.ino, wish(w.mode), clients.as_slice())
-            }
+            Some(w) => self.demand_wait(waking, due, pass, suspects, w),
         }
     }
 
-    /// All demands that are due now; `tick` tells whether the old ones are sent once more.
-    #[tactic(auto, unfolding(st_rules::specs::Locks::demands_due, st_rules::specs::Locks::demand_files))]
-    pub fn demands_due(
+    /// The demands of these files, one file after another.
+    #[tactic(auto, unfolding(st_rules::specs::Locks::demand_files))]
+    pub(crate) fn demand_files(
         &mut self,
-        now: Stamp,
-        tick: bool,
+        waking: &mut Waking,
+        due: &mut Vec<Sent>,
+        pass: Pass,
         suspects: &[ClientId],
-        config: Config,
-    ) -> Result<Vec<Sent>, AllocError>
-        ensures { IfOk result (λ v. locks.demands_due self.old now tick suspects.now config ≡ demanding self.new v.items) }
+        files: &[u32],
+    ) -> Result<(), AllocError>
+        ensures ok { OnOk result (demanding self.new due.new.items ≡ files_demanded pass suspects.now files.now (demanding self.old due.old.items)) }
+        ensures timed { OnOk result (Times suspects.now (is_one_of files.now) self.old waking.old self.new waking.new) }
     {
-        let pass = Pass { config, now, tick };
-        let alloc = self.alloc;
-        let files = self.waited_files()?;
-        let mut due = Vec::new(alloc);
-        for ino in files.as_slice() {
-            self.demand_for(&mut due, pass, suspects, *ino)?;
+        for ino in files {
+            self.demand_for(waking, due, pass, suspects, *ino)?;
         }
-        Ok(due)
+        Ok(())
     }
 
     /// Whether one request more and all waiters may be granted in this epoch.

@@ -7,7 +7,7 @@ ghost use Rattle.st_rules.specs.Locks as locks;
 ghost use Rattle.st_locks.specs.Since.{IsClient, KeepsSince, since_of_demand};
 ghost use Rattle.st_locks.specs.Calls.{Answers, Gives, Installs, demanding, granting, same_file, told, with_one};
 
-use crate::table::LockTable;
+use crate::table::PlainTable;
 use st_base::{ClientId, GrantNo, Life, Mode};
 use st_rules::{LockRow, RowDemand};
 
@@ -80,7 +80,7 @@ fn seen(row: LockRow) -> LockRow
     }
 }
 
-impl LockTable {
+impl PlainTable {
     /// All rows and waits of the client go.
     #[tactic(auto, unfolding(st_rules::specs::Locks::forget))]
     pub fn forget(&mut self, client: ClientId)

@@ -21,10 +21,10 @@ use std::alloc::{AllocError, Global};
 use std::collections::BTreeSet;
 use std::marker::Model;
 
-/// The locks of one server in one epoch. Contracts see them as the epoch, the number of grants, the list of rows and the
+/// The locks of one server in one epoch, without a note of which files were touched. Contracts see them as the epoch, the number of grants, the list of rows and the
 /// list of waiters.
 #[derive(Drop)]
-pub struct LockTable {
+pub struct PlainTable {
     pub(crate) alloc: Global,
     pub(crate) epoch: Epoch,
     pub(crate) grants: u64,
@@ -32,7 +32,7 @@ pub struct LockTable {
     pub(crate) waits: ClientTable<Waiter>,
 }
 
-impl Model for LockTable {
+impl Model for PlainTable {
     ghost use Rattle.std.specs.Prelude.{◌<◌, ◌^◌, ◌+◌};
     ghost use Rattle.st_rules.specs.Locks as locks;
 
@@ -139,13 +139,13 @@ fn push_row(
     }
 }
 
-impl LockTable {
+impl PlainTable {
     /// A table without locks, of this epoch, which is from 1 to 2^32 - 1.
-    pub fn new(alloc: Global, _server: ServerId, epoch: Epoch) -> LockTable
+    pub fn new(alloc: Global, _server: ServerId, epoch: Epoch) -> PlainTable
         requires { epoch.0 < 2 ^ 32 }
         ensures { result ≡ locks.no_locks epoch }
     {
-        LockTable {
+        PlainTable {
             alloc,
             epoch,
             grants: 0,

@@ -7,7 +7,7 @@ ghost use Rattle.st_rules.specs.Admissible.{is_link};
 ghost use Rattle.st_rules.specs.World as world;
 
 use crate::cuts;
-use crate::places::{Head, Place, head_of, lose, place_of};
+use crate::places::{Head, Place, head_of, lose, place_behind, place_of};
 use st_base::NodeId;
 use st_codec::{decode, encode};
 use st_messages::Message;
@@ -41,7 +41,8 @@ fn slice_at(bytes: &[u8], place: Place) -> &[u8]
     requires { place.start + place.len ≤ length bytes.now }
     ensures { result.now ≡ pieces.piece bytes.now place }
 {
-    &bytes[place.start..place.start + place.len]
+    let start = place.start as usize;
+    &bytes[start..start + place.len as usize]
 }
 
 fn read(alloc: Global, bytes: &[u8]) -> Result<Message, AllocError>
@@ -120,15 +121,10 @@ impl Network {
         ensures err { OnErr result (self.new ≡ self.old) }
     {
         let spelling = encode(*self.bytes.allocator(), message)?;
+        let header = &message.header;
+        let place = place_behind(self.bytes.len(), spelling.len(), header.from, header.to)?;
         self.places.reserve(1)?;
         self.bytes.reserve(spelling.len())?;
-        let place = Place {
-            start: self.bytes.len(),
-            len: spelling.len(),
-            from: message.header.from,
-            to: message.header.to,
-            lost: false,
-        };
         self.bytes.extend_from_slice(&spelling)?;
         self.places.push(place)?;
         Ok(())

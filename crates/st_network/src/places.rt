@@ -1,13 +1,15 @@
 // Where the messages lie in the buffer.
-ghost use Rattle.std.specs.Prelude.{◌≡◌, ◌<◌, ◌≤◌, ◌+◌, ◌-◌, length, option_map, set};
+ghost use Rattle.std.specs.Prelude.{◌≡◌, ◌<◌, ◌≤◌, ◌+◌, ◌-◌, IfOk, false, length, option_map, set};
 ghost use Rattle.st_rules.specs.World.{numbered};
 ghost use Rattle.st_network.specs.Pieces.{head_at, with_lost};
+
+use std::alloc::AllocError;
 
 /// Where the spelling of a message lies in the buffer, the message's nodes, and whether it is lost.
 #[derive(Clone, Copy, Debug, PartialEq, Eq)]
 pub struct Place {
-    pub start: usize,
-    pub len: usize,
+    pub start: u32,
+    pub len: u32,
     pub from: u16,
     pub to: u16,
     pub lost: bool,
@@ -19,6 +21,22 @@ pub struct Head {
     pub from: u16,
     pub to: u16,
     pub lost: bool,
+}
+
+/// The place of a spelling of this length behind so many bytes. It refuses where either is 2^32 or more.
+pub fn place_behind(bytes: usize, len: usize, from: u16, to: u16) -> Result<Place, AllocError>
+    ensures { IfOk result (λ p. p ≡ record { start = bytes; len = len; from = from; to = to; lost = false }) }
+{
+    if bytes > 4_294_967_295 || len > 4_294_967_295 {
+        return Err(AllocError);
+    }
+    Ok(Place {
+        start: bytes as u32,
+        len: len as u32,
+        from,
+        to,
+        lost: false,
+    })
 }
 
 /// The place of a message, by its number from 1.

@@ -35,12 +35,12 @@ impl Model for CleanPages {
 }
 
 impl CleanPages {
-    /// No pages, and memory for 256.
+    /// No pages. Memory for each comes with it.
     pub fn new(alloc: Global) -> Result<CleanPages, AllocError>
         ensures { IfOk result (λ c. c ≡ []) }
     {
         Ok(CleanPages {
-            pages: LruCache::new(alloc, NonZeroUsize::new(256).unwrap())?,
+            pages: LruCache::sparse(alloc, NonZeroUsize::new(256).unwrap())?,
         })
     }
 

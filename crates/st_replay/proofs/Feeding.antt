@@ -8,12 +8,12 @@ use Rattle.st_schedule.specs.declared.fault.ScheduleRefusal.TheVariants.{LineToo
 use Rattle.st_schedule.specs.declared.reader.Progress.{Progress}
 use Rattle.st_schedule.specs.declared.reader.Progress.TheVariants as progress
 use Rattle.st_schedule.specs.Reader.{read_line}
-use Rattle.st_replay.specs.declared.fault.LineRefusal.{LineRefusal}
-use Rattle.st_replay.specs.declared.fault.LineRefusal.TheVariants as why
+use Rattle.st_runs.specs.declared.fault.LineRefusal.{LineRefusal}
+use Rattle.st_runs.specs.declared.fault.LineRefusal.TheVariants as why
 use Rattle.st_replay.specs.declared.fault.Stop.{Stop}
 use Rattle.st_replay.specs.declared.fault.Stop.TheVariants as stops
-use Rattle.st_replay.specs.Schedule.{lines_of}
-use Rattle.st_replay.specs.Replay.{behind}
+use Rattle.st_runs.specs.Schedule.{lines_of}
+use Rattle.st_runs.specs.Replay.{behind}
 use Rattle.st_replay.specs.Playing.{AtStop, OnStop, EndsAt, Feeds, Goes, HasNone, Handled, IsHere, from_here, needs}
 use Rattle.st_replay.proofs.Room.{long_refused}
 use Rattle.st_replay.proofs.Steps.{line_stops}

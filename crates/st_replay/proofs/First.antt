@@ -5,28 +5,25 @@ use Rattle.st_base.specs.declared.config.Config.{Config}
 use Rattle.st_messages.specs.declared.event.Counts.{Counts}
 use Rattle.st_rules.specs.World.{World, fresh_world}
 use Rattle.st_rules.specs.Report.{opening}
-use Rattle.st_rules.specs.Safety.{IsHead}
 use Rattle.st_schedule.specs.declared.fault.ScheduleRefusal.{ScheduleRefusal}
 use Rattle.st_schedule.specs.declared.reader.Line.{Line}
 use Rattle.st_schedule.specs.declared.reader.Line.TheVariants as said
 use Rattle.st_schedule.specs.declared.reader.Progress.{Progress}
 use Rattle.st_schedule.specs.declared.reader.Progress.TheVariants as progress
 use Rattle.st_schedule.specs.Reader.{read_line}
-use Rattle.st_schedule.proofs.LinesAsSpelled.{line_is_read, line_is_spelled}
-use Rattle.st_replay.specs.declared.fault.LineRefusal.{LineRefusal}
-use Rattle.st_replay.specs.declared.fault.LineRefusal.TheVariants as why
+use Rattle.st_schedule.proofs.LinesAsSpelled.{line_is_spelled}
+use Rattle.st_runs.specs.declared.fault.LineRefusal.{LineRefusal}
+use Rattle.st_runs.specs.declared.fault.LineRefusal.TheVariants as why
 use Rattle.st_replay.specs.declared.fault.Stop.{Stop}
 use Rattle.st_replay.specs.declared.fault.Stop.TheVariants as stops
-use Rattle.st_replay.specs.Schedule.{schedule_of}
-use Rattle.st_replay.specs.Replay.{Stopped, behind, with_head, replay_from, replay_lines}
+use Rattle.st_runs.specs.Schedule.{schedule_of}
+use Rattle.st_runs.specs.Replay.{Stopped, behind, with_head, replay_from, replay_lines}
 use Rattle.st_replay.specs.Playing.{EndsAt, IsPlaying, IsUnread, AtStop, OnStop, from_line, needs}
-use Rattle.st_replay.proofs.Room.{read_short, takes}
-use Rattle.st_replay.proofs.Ranges.{head_within, fresh_clocks_length}
+use Rattle.st_runs.specs.Safe.{world_of}
+use Rattle.st_runs.proofs.Heads.{after_head, head_nodes}
+use Rattle.st_runs.proofs.Ranges.{fresh_clocks_length}
+use Rattle.st_replay.proofs.Room.{takes}
 use Rattle.st_replay.proofs.Steps.{behind_both, stopped_at}
-
--- the world of a head
-abbrev pub world_of : Config → Counts → ℕ → World
-world_of k n form = fresh_world k n.clients n.servers n.disks n.blocks form
 
 fresh_events : (k : Config) (n : Counts) (form : ℕ) → (world_of k n form).tally.events ≡ 0
 unfolding fresh_world
@@ -50,31 +47,16 @@ head_goes old new l k n form q w ls h is appended =
     ∙ behind_both old opening (from_line (world_of k n form) q 2 ls)
     ∙ ap (λ r. behind old (behind opening r)) (first_number k n form ls q) ∙ ap (behind old) (sym (lines_of_head l k n form q ls h))
 
--- what a reader of a head has read then
-after_head : (l : List ℕ) (k : Config) (n : Counts) (form : ℕ) (q : Progress) → read_line progress.Nothing l ≡ Ok (said.Head k n form, q) →
-    q ≡ progress.Reading form n 0
-after_head l k n form q h =
-    let s = line_is_spelled progress.Nothing l (said.Head k n form, q) tt h in
-    let read = sym h ∙ line_is_read progress.Nothing l (said.Head k n form) s (read_short progress.Nothing l (said.Head k n form, q) h).0 tt in
-    let same : (said.Head k n form, q) ≡ (said.Head k n form, progress.Reading form n 0) = cc in
-    ap (λ (y : Line × Progress). y.1) same
-
 head_playing : (l : List ℕ) (k : Config) (n : Counts) (form : ℕ) (q : Progress) (w : World) → read_line progress.Nothing l ≡ Ok (said.Head k n form, q) →
     w ≡ world_of k n form → IsPlaying w q 2
 head_playing l k n form q w h is =
-    let s = line_is_spelled progress.Nothing l (said.Head k n form, q) tt h in
-    let some : 1 ≤ n.clients = s.0.0.1.0.0 in
     subst (λ p. IsPlaying w p 2) (sym (after_head l k n form q h)) (
-      omega arith,
+      head_nodes l k n form q h,
       ap (λ (v : World). length v.clocks) is ∙ fresh_clocks_length k n.clients n.servers n.disks n.blocks form,
       ap (λ (v : World). v.tally.events) is ∙ fresh_events k n form,
       omega arith,
       refl,
     )
-
-pub head_fits : (l : List ℕ) (k : Config) (n : Counts) (form : ℕ) (q : Progress) → read_line progress.Nothing l ≡ Ok (said.Head k n form, q) →
-    IsHead k n.clients n.servers n.disks n.blocks form
-head_fits l k n form q h = let s = line_is_spelled progress.Nothing l (said.Head k n form, q) tt h in head_within k n form s.0.0 s.1
 
 -- The same of a call that made the world, or ran out of memory.
 

@@ -10,8 +10,8 @@ use Rattle.st_schedule.specs.declared.fault.ScheduleRefusal.TheVariants.{NoHead}
 use Rattle.st_schedule.specs.declared.reader.Progress.{Progress}
 use Rattle.st_schedule.specs.declared.reader.Progress.TheVariants as progress
 use Rattle.st_schedule.specs.Reader.{read_end}
-use Rattle.st_replay.specs.declared.fault.LineRefusal.TheVariants as why
-use Rattle.st_replay.specs.Replay.{Replay, Whole, Stopped, behind, last_line, text, replay_lines}
+use Rattle.st_runs.specs.declared.fault.LineRefusal.TheVariants as why
+use Rattle.st_runs.specs.Replay.{Replay, Whole, Stopped, behind, last_line, text, replay_lines}
 use Rattle.st_replay.specs.Playing.{EndsAt, Goes, IsHere, from_here}
 use Rattle.st_replay.specs.Streaming.{Concludes, EndsWhole, one}
 use Rattle.st_replay.proofs.Steps.{stopped_at, end_stops, end_goes}

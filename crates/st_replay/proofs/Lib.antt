@@ -1,5 +1,4 @@
 pub mod Room
-pub mod Ranges
 pub mod Steps
 pub mod First
 pub mod Begun
@@ -8,4 +7,3 @@ pub mod Feeding
 pub mod LastLines
 pub mod Streams
 pub mod Reported
-pub mod RunReports

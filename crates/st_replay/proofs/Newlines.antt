@@ -27,7 +27,7 @@ use Rattle.std.proofs.Common.{
 }
 use Rattle.std.specs.Prelude.{◌==◌, ◌&&◌, not, Some}
 use Rattle.std.proofs.lemmas.List.{append_assoc}
-use Rattle.st_replay.specs.Schedule.{onto, lines_of}
+use Rattle.st_runs.specs.Schedule.{onto, lines_of}
 use Rattle.st_replay.specs.Pieces.{onto_first, whole_lines}
 use Rattle.st_replay.specs.Playing.{HasNone, Handled, IsFirst}
 

@@ -9,13 +9,13 @@ use Rattle.st_link.specs.Prefixes.{AppendsPrefix}
 use Rattle.st_rules.specs.declared.observation.Summary.{Summary}
 use Rattle.st_rules.specs.World.{World}
 use Rattle.st_schedule.specs.declared.reader.Progress.{Progress}
-use Rattle.st_replay.specs.declared.fault.LineRefusal.{LineRefusal}
+use Rattle.st_runs.specs.declared.fault.LineRefusal.{LineRefusal}
 use Rattle.st_replay.specs.declared.fault.ReplayFault.{ReplayFault}
 use Rattle.st_replay.specs.declared.fault.ReplayFault.TheVariants as faults
 use Rattle.st_replay.specs.declared.fault.Stop.{Stop}
 use Rattle.st_replay.specs.declared.fault.Stop.TheVariants as stops
-use Rattle.st_replay.specs.Schedule.{lines_of}
-use Rattle.st_replay.specs.Replay.{Replay, Last, Whole, Stopped, behind, last_line, text, replay_lines, replay_of, report_of}
+use Rattle.st_runs.specs.Schedule.{lines_of}
+use Rattle.st_runs.specs.Replay.{Replay, Last, Whole, Stopped, behind, last_line, text, replay_lines, replay_of, report_of}
 use Rattle.st_replay.specs.Ends.{Completes, HasCauses, OnRead, Reports}
 use Rattle.st_replay.specs.Playing.{AtStop, EndsAt, from_here}
 use Rattle.st_replay.specs.Streaming.{Halts, RefusalCauses, Refuses, RefusesLine, Streams, one}

@@ -1,4 +1,4 @@
--- A line that is read is short, and what may follow it is bounded.
+-- What may follow a line that is read is bounded.
 use Rattle.std.proofs.Common.{◌≡◌, ℕ, ◌+◌, ◌^◌, ◌<◌, ◌≤◌, inl, inr, Bool, true, cond, List, [], ◌∷◌, ◌++◌, length, map, refl, ap, subst, arith}
 use Rattle.std.specs.Prelude.{nat_lt, Option, Some, None, Result, Ok, Err, codes}
 use Rattle.std.specs.Fmt.{decimal}
@@ -40,6 +40,7 @@ use Rattle.st_schedule.proofs.Words.{room-split}
 use Rattle.st_schedule.proofs.ValuesWereWritten.{chosen}
 use Rattle.st_schedule.proofs.EventsWereWritten.{end_is_spelled}
 use Rattle.st_schedule.proofs.LinesAsSpelled.{line_is_spelled}
+use Rattle.st_runs.proofs.Short.{read_short}
 use Rattle.st_replay.specs.Playing.{needs}
 
 cond_true : {X : Type 0} (b : Bool) (x y : X) → b ≡ true → cond b x y ≡ x
@@ -49,14 +50,6 @@ pub needs_some : (p : Progress) → 257 ≤ needs p
 needs_some progress.Nothing = omega arith
 needs_some (progress.Reading form counts done) = omega arith
 needs_some progress.Ended = omega arith
-
--- a line that is read is short
-pub read_short : (p : Progress) (l : List ℕ) (y : Line × Progress) → read_line p l ≡ Ok y → (length l ≤ 256) × (short_line p l ≡ Ok y)
-read_short p l y h =
-    elim (chosen (is_long l) _ _ _ h) as (λ q. (length l ≤ 256) × (short_line p l ≡ Ok y)) [
-      | inl q ↦ absurd (let e = q.1 in cc)
-      | inr q ↦ (let e = q.0 in grind (arith, nat_tests), q.1)
-    ]
 
 pub long_refused : (p : Progress) (l : List ℕ) → 256 < length l → read_line p l ≡ Err LineTooLong
 long_refused p l h = cond_true (is_long l) (Err LineTooLong) (short_line p l) (lt-ltb 256 (length l) h)

@@ -25,14 +25,14 @@ use Rattle.st_schedule.proofs.LinesAsSpelled.{line_is_read, line_is_spelled}
 use Rattle.st_replay.specs.declared.fault.Stop.{Stop}
 use Rattle.st_replay.specs.declared.fault.Stop.TheVariants as stops
 use Rattle.st_schedule.proofs.ValuesWereWritten.{chosen}
-use Rattle.st_replay.specs.declared.fault.LineRefusal.TheVariants as why
-use Rattle.st_replay.specs.declared.fault.LineRefusal.{LineRefusal}
-use Rattle.st_replay.specs.Schedule.{Schedule, Ending, begin, stop, end_at, schedule_of, with_told}
-use Rattle.st_replay.specs.Schedule as schedule
-use Rattle.st_replay.specs.Replay.{Replay, Whole, Stopped, behind, ended_by, run_from, replay_from}
+use Rattle.st_runs.specs.declared.fault.LineRefusal.TheVariants as why
+use Rattle.st_runs.specs.declared.fault.LineRefusal.{LineRefusal}
+use Rattle.st_runs.specs.Schedule.{Schedule, Ending, begin, stop, end_at, schedule_of, with_told}
+use Rattle.st_runs.specs.Schedule as schedule
+use Rattle.st_runs.specs.Replay.{Replay, Whole, Stopped, behind, ended_by, run_from, replay_from}
 use Rattle.st_replay.specs.Playing.{AtStop, EndsAt, IsPlaying, IsUnread, from_line, from_world}
-use Rattle.st_replay.proofs.Room.{read_short}
-use Rattle.st_replay.proofs.Ranges.{event_within}
+use Rattle.st_runs.proofs.Short.{read_short}
+use Rattle.st_runs.proofs.Ranges.{event_within}
 
 -- An event.
 

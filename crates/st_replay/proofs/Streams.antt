@@ -10,12 +10,13 @@ use Rattle.st_rules.specs.World.{World}
 use Rattle.st_schedule.specs.declared.fault.ScheduleRefusal.TheVariants.{NoHead, NoEnd}
 use Rattle.st_schedule.specs.declared.reader.Progress.{Progress}
 use Rattle.st_schedule.specs.declared.reader.Progress.TheVariants as progress
-use Rattle.st_replay.specs.declared.fault.LineRefusal.{LineRefusal}
-use Rattle.st_replay.specs.declared.fault.LineRefusal.TheVariants as why
+use Rattle.st_runs.specs.declared.fault.LineRefusal.{LineRefusal}
+use Rattle.st_runs.specs.declared.fault.LineRefusal.TheVariants as why
 use Rattle.st_replay.specs.declared.fault.Stop.{Stop}
 use Rattle.st_replay.specs.declared.fault.Stop.TheVariants as stops
-use Rattle.st_replay.specs.Schedule.{lines_of}
-use Rattle.st_replay.specs.Replay.{Replay, Whole, behind, last_line, text, replay_lines, replay_of, report_of}
+use Rattle.st_runs.specs.Schedule.{lines_of}
+use Rattle.st_runs.specs.Replay.{Replay, Whole, behind, last_line, text, replay_lines, replay_of, report_of}
+use Rattle.st_runs.proofs.Law.{law}
 use Rattle.st_replay.specs.Pieces.{Passes, whole_lines}
 use Rattle.st_replay.specs.Ends.{IsCutOff}
 use Rattle.st_replay.specs.Playing.{AtStop, EndsAt, Feeds, Handled, HasNone, IsHere, from_here}
@@ -154,6 +155,7 @@ cut_off left now later before written pending v q next holds s empty kept =
       wrote = subst (Appends before written) (sym front) s.wrote;
       passes = subst (λ ls. Passes (length ls) (replay_lines (whole_lines s.taken)).last) (sym are) (subst (Passes (length s.handled)) (ap (λ
           (x : Replay). x.last) all) z.passes);
+      safe = law (whole_lines s.taken);
     }
 
 -- A piece more.

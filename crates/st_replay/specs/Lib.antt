@@ -1,5 +1,3 @@
-pub mod Schedule
-pub mod Replay
 pub mod Pieces
 pub mod Playing
 pub mod Ends

@@ -1,6 +1,6 @@
 -- The first bytes of a schedule: the lines whose newlines are among them.
 use Rattle.std.specs.Prelude.{ℕ, ◌<◌, ◌==◌, if◌then◌else◌, List, [], ◌∷◌}
-use Rattle.st_replay.specs.Replay.{Last, Whole, Stopped}
+use Rattle.st_runs.specs.Replay.{Last, Whole, Stopped}
 
 -- a byte before the first of these lines, if there is one
 abbrev pub onto_first : ℕ → List (List ℕ) → List (List ℕ)

@@ -5,13 +5,13 @@ use Rattle.st_rules.specs.World.{World}
 use Rattle.st_schedule.specs.declared.reader.Progress.{Progress}
 use Rattle.st_schedule.specs.declared.reader.Progress.TheVariants as progress
 use Rattle.st_schedule.specs.Reader.{Told, nodes_of}
-use Rattle.st_replay.specs.declared.fault.LineRefusal.{LineRefusal}
-use Rattle.st_replay.specs.declared.fault.LineRefusal.TheVariants as why
+use Rattle.st_runs.specs.declared.fault.LineRefusal.{LineRefusal}
+use Rattle.st_runs.specs.declared.fault.LineRefusal.TheVariants as why
 use Rattle.st_replay.specs.declared.fault.Stop.{Stop}
 use Rattle.st_replay.specs.declared.fault.Stop.TheVariants as stops
-use Rattle.st_replay.specs.Schedule.{Schedule, lines_of, schedule_of}
+use Rattle.st_runs.specs.Schedule.{Schedule, lines_of, schedule_of}
 use Rattle.st_replay.specs.Pieces.{whole_lines}
-use Rattle.st_replay.specs.Replay.{Replay, Stopped, behind, replay_from, replay_lines}
+use Rattle.st_runs.specs.Replay.{Replay, Stopped, behind, replay_from, replay_lines}
 
 -- the replay of the rest of a schedule in a world
 abbrev pub from_world : World → Schedule → Replay

@@ -9,12 +9,12 @@ use Rattle.st_rules.specs.World.{World}
 use Rattle.st_schedule.specs.declared.reader.Progress.{Progress}
 use Rattle.st_replay.specs.declared.fault.Halt.{Halt}
 use Rattle.st_replay.specs.declared.fault.Halt.TheVariants as halts
-use Rattle.st_replay.specs.declared.fault.LineRefusal.{LineRefusal}
+use Rattle.st_runs.specs.declared.fault.LineRefusal.{LineRefusal}
 use Rattle.st_replay.specs.declared.fault.ReplayFault.{ReplayFault}
 use Rattle.st_replay.specs.declared.fault.ReplayFault.TheVariants as faults
 use Rattle.st_replay.specs.declared.fault.Stop.{Stop}
 use Rattle.st_replay.specs.declared.fault.Stop.TheVariants as stops
-use Rattle.st_replay.specs.Replay.{Replay, Whole, Stopped, behind, last_line, text, replay_lines, replay_of, report_of}
+use Rattle.st_runs.specs.Replay.{Replay, Whole, Stopped, behind, last_line, text, replay_lines, replay_of, report_of}
 use Rattle.st_replay.specs.Ends.{IsCutOff}
 use Rattle.st_replay.specs.Playing.{AtStop, EndsAt, HasNone, Handled, IsHere, from_here, from_line}
 

@@ -1,16 +1,17 @@
 ghost use Rattle.std.specs.Prelude.{◌≡◌, ◌++◌, [], ◌∷◌, IfOk, OnOk, Ok};
 ghost use Rattle.st_rules.specs.Events as rules;
 ghost use Rattle.st_schedule.specs.Reader.{read_end};
-ghost use Rattle.st_replay.specs.Replay.{Stopped, behind, config_refusal, last_line, line_refusal, schedule_refusal};
+ghost use Rattle.st_runs.specs.Replay.{Stopped, behind, config_refusal, last_line, line_refusal, schedule_refusal};
 ghost use Rattle.st_replay.specs.Playing.{EndsAt, Goes, IsHere, OnStop, from_here};
 ghost use Rattle.st_replay.specs.Streaming.{Concludes, EndsWhole, one};
 ghost use Rattle.st_rules.specs.Report.{refused, ended};
 
-use crate::fault::{LineRefusal, Stop};
+use crate::fault::Stop;
 use crate::player::Player;
 use st_base::ConfigRefusal;
 use st_report::{put_ended, put_field, put_refusal, put_refused, put_text};
 use st_rules::Summary;
+use st_runs::LineRefusal;
 use st_schedule::ScheduleRefusal;
 use st_world::World;
 use std::alloc::AllocError;
@@ -51,7 +52,7 @@ fn put_unread(text: &mut Vec<u8>, refusal: &ScheduleRefusal) -> Result<(), Alloc
 }
 
 /// Appends why a line is refused.
-#[tactic(auto, unfolding(crate::specs::Replay::line_refusal))]
+#[tactic(auto, unfolding(st_runs::specs::Replay::line_refusal))]
 fn put_why(text: &mut Vec<u8>, refusal: &LineRefusal) -> Result<(), AllocError>
     ensures { OnOk result (text.new.items ≡ text.old.items ++ line_refusal refusal.now) }
 {
@@ -62,7 +63,7 @@ fn put_why(text: &mut Vec<u8>, refusal: &LineRefusal) -> Result<(), AllocError>
 }
 
 /// Appends the last line of a report that stops at the line of this number.
-#[tactic(auto, unfolding(crate::specs::Replay::last_line, st_rules::specs::Report::refused))]
+#[tactic(auto, unfolding(st_runs::specs::Replay::last_line, st_rules::specs::Report::refused))]
 pub(crate) fn put_stopped(
     text: &mut Vec<u8>,
     line: u64,
@@ -91,7 +92,7 @@ fn play_rest(player: &mut Player, held: &[u8]) -> Result<(), Stop>
 }
 
 /// Appends the last line of a report that goes through the end.
-#[tactic(auto, unfolding(crate::specs::Replay::last_line))]
+#[tactic(auto, unfolding(st_runs::specs::Replay::last_line))]
 fn put_whole(text: &mut Vec<u8>, world: &World) -> Result<Summary, Stop>
     ensures summary { IfOk result (λ s. s ≡ rules.summary world.now) }
     ensures text { OnOk result (text.new.items ≡ text.old.items ++ ended (rules.summary world.now)) }

@@ -1,20 +1,9 @@
 ghost use Rattle.std.specs.Prelude.{◌≡◌};
 ghost use Rattle.st_replay.specs.declared.fault.Stop.TheVariants.{Memory};
 
-use st_rules::WorldRefusal;
-use st_schedule::ScheduleRefusal;
+use st_runs::LineRefusal;
 use std::alloc::{AllocError, AllocFailed};
 use thiserror::Error;
-
-/// Why a line is refused: it cannot be read, or its event may not happen.
-#[derive(Debug, Drop, Error)]
-pub enum LineRefusal {
-    /// It is never `ScheduleRefusal::Memory`.
-    #[error("{0}")]
-    Schedule(ScheduleRefusal),
-    #[error("{0}")]
-    World(WorldRefusal),
-}
 
 /// Why a replay did not go through the end of its schedule.
 #[derive(Debug, Drop, Error)]

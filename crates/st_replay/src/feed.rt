@@ -1,13 +1,14 @@
 ghost use Rattle.std.specs.Prelude.{◌≡◌, ◌+◌, ◌≤◌, ◌<◌, ◌∷◌, ◌++◌, [], ℕ, List, OnOk, length};
 ghost use Rattle.st_schedule.specs.declared.fault.ScheduleRefusal.TheVariants.{LineTooLong};
-ghost use Rattle.st_replay.specs.declared.fault.LineRefusal.TheVariants as why;
-ghost use Rattle.st_replay.specs.Schedule.{lines_of};
-ghost use Rattle.st_replay.specs.Replay.{behind};
+ghost use Rattle.st_runs.specs.declared.fault.LineRefusal.TheVariants as why;
+ghost use Rattle.st_runs.specs.Schedule.{lines_of};
+ghost use Rattle.st_runs.specs.Replay.{behind};
 ghost use Rattle.st_replay.specs.Playing.{EndsAt, Feeds, Goes, HasNone, IsHere, OnStop, from_here, needs};
 
-use crate::fault::{LineRefusal, Stop};
+use crate::fault::Stop;
 use crate::lines::{after, before, newline};
 use crate::player::Player;
+use st_runs::LineRefusal;
 use st_schedule::ScheduleRefusal;
 
 /// The most bytes of a line.

@@ -1,6 +1,6 @@
 ghost use Rattle.std.specs.Prelude.{◌≡◌, IfOk};
 ghost use Rattle.st_rules.specs.Events as rules;
-ghost use Rattle.st_replay.specs.Replay.{Replay, Whole, behind, text as text_of};
+ghost use Rattle.st_runs.specs.Replay.{Replay, Whole, behind, text as text_of};
 ghost use Rattle.st_replay.specs.Ends.{HasCauses, Reports};
 ghost use Rattle.st_replay.specs.Playing.{IsHere, from_here};
 ghost use Rattle.st_replay.specs.Streaming.{one};

@@ -6,15 +6,14 @@ mod ending;
 mod fault;
 mod feed;
 mod finish;
-mod law;
 mod lines;
 mod play;
 mod player;
 mod sinks;
 mod source;
 
-pub use fault::{LineRefusal, ReplayFault};
-pub use law::reports_are_those_of_runs;
+pub use fault::ReplayFault;
 pub use source::replay;
 pub use st_rules::Summary;
+pub use st_runs::LineRefusal;
 pub use st_world::World;

@@ -4,14 +4,15 @@ ghost use Rattle.st_rules.specs.Safety.{IsHead, is_event};
 ghost use Rattle.st_rules.specs.World.{fresh_world};
 ghost use Rattle.st_schedule.specs.Reader.{HasNodes, SpellsLine, read_line};
 ghost use Rattle.st_schedule.specs.declared.reader.Progress.TheVariants.{Nothing};
-ghost use Rattle.st_replay.specs.Schedule.{Schedule, begin, schedule_of};
-ghost use Rattle.st_replay.specs.Replay.{behind, replay_lines};
+ghost use Rattle.st_runs.specs.Schedule.{Schedule, begin, schedule_of};
+ghost use Rattle.st_runs.specs.Replay.{behind, replay_lines};
 ghost use Rattle.st_replay.specs.Playing.{EndsAt, IsPlaying, IsUnread, OnStop, from_line, from_world, needs};
 
-use crate::fault::{LineRefusal, Stop};
+use crate::fault::Stop;
 use st_base::Config;
 use st_messages::{Counts, Event};
 use st_report::{put_lines, put_opening};
+use st_runs::LineRefusal;
 use st_schedule::{Line, ScheduleReader, ScheduleRefusal};
 use st_world::{World, WorldFault};
 use std::alloc::Global;

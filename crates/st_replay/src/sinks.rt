@@ -5,8 +5,9 @@ ghost use Rattle.st_link.specs.Prefixes.{AppendsPrefix};
 ghost use Rattle.st_replay.specs.Streaming.{Refuses, RefusalCauses, RefusesLine};
 
 use crate::ending::put_stopped;
-use crate::fault::{LineRefusal, ReplayFault, Stop};
+use crate::fault::{ReplayFault, Stop};
 use st_link::{Failed, Sink, put_all};
+use st_runs::LineRefusal;
 
 /// Writes the text, and empties it.
 pub(crate) fn flush<O: Sink>(out: &mut O, text: &mut Vec<u8>) -> Result<(), Failed>

@@ -2,7 +2,9 @@ ghost use Rattle.std.specs.Prelude.{◌≡◌, [], None, IfOk, IfSome};
 ghost use Rattle.std.specs.Io.KnownBytes.{IsAtEnd};
 ghost use Rattle.st_rules.specs.Events as rules;
 ghost use Rattle.st_replay.specs.Ends.{Completes, HasCauses, IsCutOff, OnRead, Reports};
-ghost use Rattle.st_replay.specs.Replay.{replay_of};
+ghost use Rattle.st_runs.specs.Replay.{replay_of};
+ghost use Rattle.st_runs.specs.Safe.{RunsSafely};
+ghost use Rattle.st_runs.specs.Schedule.{lines_of};
 ghost use Rattle.st_schedule.specs.declared.reader.Progress.TheVariants.{Nothing};
 ghost use Rattle.st_replay.specs.Streaming.{HaltCauses, Plays};
 
@@ -13,6 +15,7 @@ use crate::player::Player;
 use crate::sinks::{flush, refuse};
 use st_link::{Sink, Source};
 use st_rules::Summary;
+use st_runs::schedules_run_safely;
 use st_world::World;
 use std::alloc::Global;
 
@@ -101,7 +104,10 @@ pub fn replay<I: Source, O: Sink>(
     ensures causes { HasCauses result (I.faults input.old) (I.faults input.new) (O.faults out.old) (O.faults out.new) }
     // A schedule that goes through its end is refused at no line.
     ensures complete { IfSome (I.left input.old) (λ bytes. Completes result (replay_of bytes).last) }
+    // The run of which the report tells is safe: every step of it keeps every promise.
+    ensures safe { IfSome (I.left input.old) (λ bytes. RunsSafely (lines_of bytes)) }
 {
+    schedules_run_safely();
     let mut player = Player::new(alloc);
     let mut held = Vec::new(alloc);
     replay_with(&mut player, &mut held, input, out)

@@ -6,7 +6,7 @@ use Rattle.st_rules.specs.declared.observation.Summary.{Summary}
 use Rattle.st_rules.specs.World.{World}
 use Rattle.st_replay.specs.declared.fault.ReplayFault.{ReplayFault}
 use Rattle.st_replay.specs.declared.fault.ReplayFault.TheVariants as faults
-use Rattle.st_replay.specs.Replay.{Replay, text, replay_of, report_of}
+use Rattle.st_runs.specs.Replay.{Replay, text, replay_of, report_of}
 use Rattle.st_replay.specs.Ends.{Reports}
 use Rattle.std.specs.Io.KnownBytes.{Appends}
 use Rattle.st_link.specs.Prefixes.{AppendsPrefix}

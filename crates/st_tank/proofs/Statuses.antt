@@ -6,7 +6,7 @@ use Rattle.st_link.specs.Causes.{Rose}
 use Rattle.st_replay.specs.declared.fault.ReplayFault.{ReplayFault}
 use Rattle.st_replay.specs.declared.fault.ReplayFault.TheVariants as faults
 use Rattle.st_replay.specs.Ends.{HasCauses, OnRead, Reports}
-use Rattle.st_replay.specs.Replay.{Replay, replay_of, report_of, text}
+use Rattle.st_runs.specs.Replay.{Replay, replay_of, report_of, text}
 use Rattle.st_rules.specs.declared.observation.Summary.{Summary}
 use Rattle.st_rules.specs.World.{World}
 use Rattle.st_tank.specs.Status.{status_in, status_of}

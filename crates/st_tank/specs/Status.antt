@@ -2,7 +2,7 @@
 use Rattle.std.specs.Prelude.{ℕ, Result, Ok, Err}
 use Rattle.st_replay.specs.declared.fault.ReplayFault.{ReplayFault}
 use Rattle.st_replay.specs.declared.fault.ReplayFault.TheVariants as faults
-use Rattle.st_replay.specs.Replay.{Last, Whole, Stopped}
+use Rattle.st_runs.specs.Replay.{Last, Whole, Stopped}
 use Rattle.st_rules.specs.declared.observation.Summary.{Summary}
 use Rattle.st_rules.specs.World.{World}
 

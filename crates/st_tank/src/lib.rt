@@ -1,4 +1,4 @@
-//! The tank over the world of all events: to take the place of `st_tank` once that world stands.
+//! The top call of the program: the words, the replay, its status, and what the error sink is told. `docs/PROTOCOL.md`, "The program".
 #![tactic(auto)]
 
 mod program;

@@ -3,13 +3,17 @@ ghost use Rattle.std.specs.Io.KnownBytes.{Appends, IsAtEnd};
 ghost use Rattle.st_link.specs.Causes.{Rose};
 ghost use Rattle.st_link.specs.Prefixes.{AppendsPrefix};
 ghost use Rattle.st_replay.specs.Ends.{IsCutOff};
-ghost use Rattle.st_replay.specs.Replay.{replay_of, report_of};
+ghost use Rattle.st_runs.specs.Replay.{replay_of, report_of};
+ghost use Rattle.st_runs.specs.Safe.{RunsSafely};
+ghost use Rattle.st_runs.specs.Schedule.{lines_of};
+ghost use Rattle.st_rules.specs.Safety.{IsAllPromised};
 ghost use Rattle.st_tank.specs.Status.{status_in, status_of};
 ghost use Rattle.st_tank.specs.Words as words_of;
 ghost use Rattle.st_tank.specs.Words.{complaint};
 
 use st_link::{Sink, Source, put_all};
 use st_replay::{ReplayFault, Summary, World};
+use st_runs::{all_is_promised, schedules_run_safely};
 use std::alloc::Global;
 
 const REPLAY: &[u8] = b"replay";
@@ -120,6 +124,10 @@ pub fn run<I: Source, O: Sink, E: Sink>(
     // At every status the output got a prefix of that report.
     ensures prefix { IfSome (I.left input.old) (λ bytes. AppendsPrefix (O.written out.old) (O.written out.new) (report_of bytes)) }
 
+    // The run of which the report tells is safe: every step of it keeps every promise. Old messages change nothing, in any run.
+    ensures safe { IfSome (I.left input.old) (λ bytes. RunsSafely (lines_of bytes)) }
+    ensures promised { IsAllPromised }
+
     // Each other status has its cause, except 5: no clause says when memory runs out.
     ensures known { result ≤ 5 }
     ensures words { result ≡ 2 → words_of.right words.now ≡ false }
@@ -134,6 +142,8 @@ pub fn run<I: Source, O: Sink, E: Sink>(
     ensures told_prefix { AppendsPrefix (E.written err.old) (E.written err.new) (complaint (words_of.right words.now) result) }
     ensures told { Appends (E.written err.old) (E.written err.new) (complaint (words_of.right words.now) result) ⊎ Rose (E.faults err.old) (E.faults err.new) }
 {
+    schedules_run_safely();
+    all_is_promised();
     if !are_right(words) {
         return usage(err);
     }

@@ -35,7 +35,8 @@ unfolding run run_on
 on_stands e r None sc q h = goes_stands r (world_step r.world e) sc h
 on_stands e r (Some f) sc q h = absurd (cc)
 
-all_more : (p : Event → Bool) (es : List Event) (e : Event) → list_all p es ≡ true → p e ≡ true → list_all p (es ++ e ∷ []) ≡ true
+-- all events, and one more
+pub all_more : (p : Event → Bool) (es : List Event) (e : Event) → list_all p es ≡ true → p e ≡ true → list_all p (es ++ e ∷ []) ≡ true
 all_more p [] e h k = rw k refl
 all_more p (x ∷ xs) e h k = let q = and_parts (p x) (list_all p xs) h in rw q.0 (all_more p xs e q.1 k)
 

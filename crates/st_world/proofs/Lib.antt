@@ -14,6 +14,7 @@ pub mod Overs
 pub mod Puts
 pub mod Reached
 pub mod Refused
+pub mod SafeRuns
 pub mod Shaped
 pub mod Shapes
 pub mod Stables

@@ -10,6 +10,7 @@ pub mod Keeping
 pub mod Overs
 pub mod Reached
 pub mod Readiness
+pub mod Safe
 pub mod Shapes
 pub mod Shaping
 pub mod Sorts

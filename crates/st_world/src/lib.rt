@@ -22,6 +22,8 @@ mod judging;
 mod machine;
 mod missing;
 mod noting;
+mod parts;
+mod safe;
 mod site;
 mod stepping;
 mod summing;

@@ -1,144 +1,72 @@
 // The world.
-ghost use Rattle.std.specs.Prelude.{◌≡◌, ◌<◌, ◌≤◌, ◌+◌, ◌^◌, [], true, IsOk, IfOk, OnOk, length, option_map};
+ghost use Rattle.std.specs.Prelude.{◌≡◌, ◌<◌, ◌+◌, ◌^◌, true, IfOk, OnOk, length, option_map};
 ghost use Rattle.std.specs.Option.{option_copied};
-ghost use Rattle.st_base.specs.Config as settings;
 ghost use Rattle.st_rules.specs.Admissible.{refusal};
 ghost use Rattle.st_rules.specs.Events as events;
 ghost use Rattle.st_rules.specs.Safety.{IsHead, is_event};
 ghost use Rattle.st_rules.specs.World as rules;
 ghost use Rattle.st_rules.specs.World.{fresh_world};
 ghost use Rattle.st_network.specs.Pieces as pieces;
-ghost use Rattle.st_world.specs.Heads.{HasCounts, least};
+ghost use Rattle.st_world.specs.Safe.{GoesOnSafely, IsLedSafely};
 ghost use Rattle.st_world.specs.Steps.{StepsAs};
 
 use crate::fault::WorldFault;
-use crate::fresh::{push_client_clocks, push_nodes, push_server_clocks, push_sites};
-use crate::machine::{Machine, node_at, site_at};
+use crate::parts::Parts;
 use crate::site::Site;
 use st_base::{ClientId, Config, NodeId, ServerId, Stamp};
-use st_clock::Drift;
-use st_commands::Commands;
-use st_lives::Lives;
 use st_messages::{Counts, Event};
 use st_model::FlatLog;
-use st_network::Network;
-use st_rules::{Observation, Summary, WorldRefusal, runs_go_on_in_parts};
+use st_rules::{Observation, Summary, WorldRefusal};
 use st_server::ServerNode;
 use std::alloc::{AllocError, Global};
 use std::marker::Model;
-use std::mem;
 
-/// A world. Contracts see it as the definitions' record: a run from the world of a head leads to it. It keeps a world with one node
-/// of each kind beside it, which takes its place when memory runs out; it takes no event then.
+/// A world. Contracts see it as the definitions' record: a run from the world of a head leads to it. Its parts stay where they are as
+/// it goes from hand to hand.
 #[derive(Drop)]
 pub struct World {
-    machine: Machine,
-    spare: Machine,
-    broken: bool,
+    of: Box<Parts>,
 }
 
 impl Model for World {
-    ghost use Rattle.std.specs.Prelude.{◌≡◌, false};
     ghost use Rattle.st_rules.specs.World as shared;
-    ghost use Rattle.st_world.specs.Reached.{IsQuiet};
 
     ghost Value = { shared.World };
 
-    ghost view = { λ w. w.machine.world };
-
-    ghost invariant = { λ w. IsQuiet w.machine × (w.broken ≡ false → IsQuiet w.spare) };
-}
-
-fn fresh_lives(alloc: Global, counts: &Counts) -> Result<Lives, AllocError>
-    ensures { IfOk result (λ l. l ≡ record { clocks = rules.fresh_clocks counts.now.clients counts.now.servers; ended = [] }) }
-{
-    let mut clocks = Vec::new(alloc);
-    push_client_clocks(&mut clocks, counts.clients)?;
-    push_server_clocks(&mut clocks, counts.servers)?;
-    Ok(Lives::new(alloc, clocks))
-}
-
-/// The parts of a world at the start.
-#[tactic(auto, unfolding(st_rules::specs::World::fresh_world))]
-fn fresh(alloc: Global, config: Config, counts: &Counts, form: u8) -> Result<Machine, AllocError>
-    requires checked { IsOk (settings.check config) }
-    requires counts { HasCounts counts.now }
-    ensures { IfOk result (λ m. m ≡ events.quiet (fresh_world config counts.now.clients counts.now.servers counts.now.disks counts.now.blocks form)) }
-{
-    let mut clients = Vec::new(alloc);
-    push_sites(alloc, &mut clients, &config, counts)?;
-    let mut servers = Vec::new(alloc);
-    push_nodes(alloc, &mut servers, &config, counts)?;
-    let lives = fresh_lives(alloc, counts)?;
-    let drift = Drift::new(alloc, counts.clients as usize + counts.servers as usize)?;
-    Ok(Machine {
-        alloc,
-        config,
-        form,
-        lives,
-        drift,
-        clients,
-        servers,
-        net: Network::new(alloc),
-        commands: Commands::new(alloc, counts.disks, counts.blocks),
-        log: FlatLog::new(alloc),
-        flushed: Vec::new(alloc),
-        events: 0,
-        reads: 0,
-        stolen: 0,
-        seen: Vec::new(alloc),
-    })
-}
-
-/// One client, one server, one disk.
-fn least_counts(blocks: u32) -> Counts
-    ensures { result ≡ least blocks }
-{
-    Counts {
-        clients: 1,
-        servers: 1,
-        disks: 1,
-        blocks,
-    }
+    ghost view = { λ w. w.of.value };
 }
 
 impl World {
     /// The world of a head.
     pub fn new(alloc: Global, config: Config, counts: Counts, form: u8) -> Result<World, AllocError>
         requires head { IsHead config counts.clients counts.servers counts.disks counts.blocks form }
-        ensures { IfOk result (λ w. w ≡ fresh_world config counts.clients counts.servers counts.disks counts.blocks form) }
+        ensures fresh { IfOk result (λ w. w ≡ fresh_world config counts.clients counts.servers counts.disks counts.blocks form) }
+        ensures led { IfOk result IsLedSafely }
     {
-        let machine = fresh(alloc, config, &counts, form)?;
-        let spare = fresh(alloc, config, &least_counts(counts.blocks), form)?;
+        let parts = Parts::new(alloc, config, counts, form)?;
+        parts.runs_here_are_safe();
         Ok(World {
-            machine,
-            spare,
-            broken: false,
+            of: Box::new(alloc, parts)?,
         })
     }
 
     /// Runs one event, and returns what is observed of it, in order. A refusal changes nothing. Where memory runs out nothing is
-    /// known of the world, and every later step returns `Memory`: discard it.
+    /// known of the world, and every later step returns `Memory`: discard it. Whatever it returns, a run leads to the world that it
+    /// leaves, and every run that leads there is safe; so is every run that led to the world before, with this event after it.
     pub fn step(&mut self, event: Event) -> Result<Vec<Observation>, WorldFault>
         requires event { is_event (length self.old.clocks) event ≡ true }
         requires room { self.old.tally.events < 2 ^ 29 }
         ensures machine { StepsAs (λ seen. seen.items) self.old self.new result (events.world_step self.old event) }
         ensures events { OnOk result (self.new.tally.events ≡ self.old.tally.events + 1) }
         ensures clocks { OnOk result (length self.new.clocks ≡ length self.old.clocks) }
+        ensures led { IsLedSafely self.new }
+        ensures safe { GoesOnSafely self.old event }
     {
-        if self.broken {
-            return Err(WorldFault::Memory);
-        }
-        runs_go_on_in_parts();
-        match self.machine.step(event) {
-            Ok(seen) => Ok(seen),
-            Err(WorldFault::Refused(refusal)) => Err(WorldFault::Refused(refusal)),
-            Err(WorldFault::Memory) => {
-                mem::swap(&mut self.machine, &mut self.spare);
-                self.broken = true;
-                Err(WorldFault::Memory)
-            }
-        }
+        let parts: &mut Parts = &mut self.of;
+        parts.runs_on_are_safe(&event);
+        let stepped = parts.step(event);
+        parts.runs_here_are_safe();
+        stepped
     }
 
     /// Returns the first refusal of an event that stands. It changes nothing and takes no memory.
@@ -147,62 +75,62 @@ impl World {
         requires room { self.now.tally.events < 2 ^ 29 }
         ensures { result ≡ refusal self.now event.now }
     {
-        self.machine.refusal(event)
+        self.of.refusal(event)
     }
 
     /// A node's clock.
     pub fn clock(&self, node: NodeId) -> Stamp
         ensures { result ≡ rules.clock_of self.now node }
     {
-        self.machine.clock_of(node)
+        self.of.clock(node)
     }
 
     /// Returns how many messages were sent.
     pub fn message_count(&self) -> u64
         ensures { result ≡ length self.now.net.messages }
     {
-        self.machine.net.count()
+        self.of.message_count()
     }
 
     /// Returns how many commands were submitted.
     pub fn command_count(&self) -> u64
         ensures { result ≡ length self.now.commands }
     {
-        self.machine.commands.count()
+        self.of.command_count()
     }
 
     /// The spelling of the message of a number, from 1.
     pub fn sent(&self, k: u64) -> Option<&[u8]>
         ensures { option_map (λ b. b.now) result ≡ option_map pieces.spelling_sent (rules.message_of self.now k) }
     {
-        self.machine.net.spelled(k)
+        self.of.sent(k)
     }
 
     /// Returns the counts of the run so far.
     pub fn summary(&self) -> Summary
         ensures { result ≡ events.summary self.now }
     {
-        self.machine.summary()
+        self.of.summary()
     }
 
     /// Returns the client of a number, from 1.
     pub fn client(&self, client: ClientId) -> Option<&Site>
         ensures { option_copied result ≡ rules.site_of self.now client }
     {
-        site_at(&self.machine.clients, client)
+        self.of.client(client)
     }
 
     /// Returns the server of a number, from 1.
     pub fn server(&self, server: ServerId) -> Option<&ServerNode>
         ensures { option_copied result ≡ rules.node_of self.now server }
     {
-        node_at(&self.machine.servers, server)
+        self.of.server(server)
     }
 
     /// Returns the log.
     pub fn log(&self) -> &FlatLog
         ensures { result.now ≡ self.now.log }
     {
-        &self.machine.log
+        self.of.log()
     }
 }

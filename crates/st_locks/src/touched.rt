@@ -1,0 +1,113 @@
+// The files that were touched since a pass last walked them.
+ghost use Rattle.std.specs.Prelude.{◌≡◌, ◌==◌, ◌<◌, ◌-◌, ℕ, IfOk, false};
+ghost use Rattle.std.specs.List.{list_any};
+ghost use Rattle.st_rules.specs.Keys as keys;
+ghost use Rattle.st_locks.specs.Settled.{IsClear, IsFull, Marks, is_marked};
+
+use st_tables::put_key;
+use std::alloc::{AllocError, Global};
+use std::marker::Model;
+
+/// The files that were touched: those of a list, or all. Contracts see the list and whether it is all.
+#[derive(Drop)]
+pub(crate) struct Touched {
+    all: bool,
+    files: Vec<u32>,
+}
+
+impl Model for Touched {
+    ghost use Rattle.st_locks.specs.Settled.{Marked};
+
+    ghost Value = { Marked };
+
+    ghost view = { λ t. record { all = t.all; files = t.files.items } };
+}
+
+fn has(files: &[u32], ino: u32) -> bool
+    ensures { result ≡ list_any (λ k. k == ino) files.now }
+{
+    files.iter().any(|k| *k == ino)
+}
+
+impl Touched {
+    pub fn new(alloc: Global) -> Touched
+        ensures { IsClear result }
+    {
+        Touched {
+            all: false,
+            files: Vec::new(alloc),
+        }
+    }
+
+    /// Whether the file was touched.
+    pub fn has(&self, ino: u32) -> bool
+        ensures { result ≡ is_marked self.now ino }
+    {
+        self.all || has(self.files.as_slice(), ino)
+    }
+
+    /// Whether all files were touched.
+    pub fn is_all(&self) -> bool
+        ensures { result ≡ self.now.all }
+    {
+        self.all
+    }
+
+    /// The files of the list, in rising order.
+    pub fn rising(&self, alloc: Global) -> Result<Vec<u32>, AllocError>
+        ensures { IfOk result (λ v. v.items ≡ keys.rising self.now.files) }
+    {
+        let mut found = Vec::new(alloc);
+        let mut left = self.files.len();
+        while left > 0 {
+            left -= 1;
+            put_key(&mut found, self.files[left])?;
+        }
+        Ok(found)
+    }
+
+    /// Room for so many files more. Where there is none for a file that is touched, all files count as touched.
+    pub fn reserve(&mut self, files: usize) -> Result<(), AllocError>
+        ensures { self.new ≡ self.old }
+    {
+        self.files.reserve(files)?;
+        Ok(())
+    }
+
+    /// Puts a file last in the list. It takes no memory: where the list is full, all files are touched.
+    pub fn keep(&mut self, ino: u32)
+        ensures { Marks ino self.old self.new }
+    {
+        if self.files.len() < self.files.capacity() {
+            if self.files.push(ino).is_err() {
+                self.all = true;
+            }
+        } else {
+            self.all = true;
+        }
+    }
+
+    /// The file was touched.
+    pub fn touch(&mut self, ino: u32)
+        ensures { Marks ino self.old self.new }
+    {
+        if !self.has(ino) {
+            self.keep(ino);
+        }
+    }
+
+    /// All files were touched.
+    pub fn touch_all(&mut self)
+        ensures { IsFull self.new }
+    {
+        self.all = true;
+    }
+
+    /// A pass walked all files that were touched.
+    pub fn clear(&mut self)
+        ensures { IsClear self.new }
+    {
+        self.all = false;
+        self.files.clear();
+    }
+}

@@ -1,0 +1,7 @@
+pub mod Short
+pub mod Ranges
+pub mod Heads
+pub mod Events
+pub mod RunReports
+pub mod Law
+pub mod Known

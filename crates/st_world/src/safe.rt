@@ -1,0 +1,26 @@
+// The runs that lead to a world are safe, by the law of every run.
+ghost use Rattle.std.specs.Prelude.{◌≡◌, true, length};
+ghost use Rattle.st_rules.specs.Safety.{is_event};
+ghost use Rattle.st_world.specs.Safe.{GoesOnSafely, IsLedSafely};
+
+use crate::parts::Parts;
+use st_laws_safe::every_run_is_safe;
+use st_messages::Event;
+
+impl Parts {
+    /// A run leads to this world, and every run that leads to it is safe.
+    pub(crate) fn runs_here_are_safe(&self)
+        ensures { IsLedSafely self.now }
+    {
+        let _ = &self.broken;
+        every_run_is_safe();
+    }
+
+    /// Every run that leads to this world is safe when this event follows.
+    pub(crate) fn runs_on_are_safe(&self, event: &Event)
+        requires { is_event (length self.now.clocks) event.now ≡ true }
+        ensures { GoesOnSafely self.now event.now }
+    {
+        every_run_is_safe();
+    }
+}
