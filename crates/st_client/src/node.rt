@@ -72,6 +72,13 @@ impl ClientNode {
         })
     }
 
+    /// The client's number.
+    pub fn id(&self) -> ClientId
+        ensures { result ≡ self.now.state.id }
+    {
+        self.id
+    }
+
     /// Whether the node runs.
     pub fn running(&self) -> bool
         ensures { result ≡ self.now.running }
