@@ -1,4 +1,4 @@
-//! How far counters may be after so many events, in every world that a run reaches.
+//! Upper bounds on the counters of a world, by the number of events that it went through. They hold in every world that a run reaches.
 #![tactic(auto)]
 
 ghost use Rattle.st_laws_counts.specs.Counts.{
