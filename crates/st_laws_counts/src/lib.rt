@@ -1,4 +1,4 @@
-//! How far counters may be after so many events, in every world that a run reaches.
+//! Bounds on every counter of every world that a run reaches, by the number of its events.
 #![tactic(auto)]
 
 ghost use Rattle.st_laws_counts.specs.Counts.{

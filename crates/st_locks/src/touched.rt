@@ -66,7 +66,7 @@ impl Touched {
         Ok(found)
     }
 
-    /// Room for so many files more. Where there is none for a file that is touched, all files count as touched.
+    /// Reserves room for `files` more files. When a touched file finds no room, all files count as touched.
     pub fn reserve(&mut self, files: usize) -> Result<(), AllocError>
         ensures { self.new ≡ self.old }
     {

@@ -77,7 +77,7 @@ fn local(id: ClientId, body: Body) -> Message
     }
 }
 
-/// Appends the frame of a message to a client's own surroundings. One that has no spelling is taken for want of memory.
+/// Appends the frame of a message to a client's own surroundings. A message without a spelling returns the error for memory.
 fn put_local(out: &mut Vec<u8>, id: ClientId, body: Body) -> Result<(), AllocError>
     ensures { OnOk result (out.new.items ≡ out.old.items ++ message_frame (runs.local id body)) }
 {

@@ -2,7 +2,7 @@
 ghost use Rattle.std.specs.Prelude.{◌≡◌};
 ghost use Rattle.st_world.specs.Indexes.{index_at};
 
-/// The place of a number from 1 among so many, from 0.
+/// The place, from 0, of node number `n` in a list of `len` nodes. `None` where no node has this number.
 pub(crate) fn index_of(n: u16, len: usize) -> Option<usize>
     ensures { result ≡ index_at n len }
 {
