@@ -76,7 +76,7 @@ nothing_made None before readings run = tt
 nothing_made (Some bytes) before None run = tt
 nothing_made (Some bytes) before (Some rs) run = none_written before (run rs bytes).out
 
--- want of memory for the text
+-- memory ran out for the text
 less_written : (ended : Result Unit NodeFault) (before now : Option (List ℕ)) (r : Run) → Writes ended before now r → Writes (Err faults.Memory) before now r
 less_written (Ok u) before now r h = all_front before now r.out h.1
 less_written (Err faults.Read) before now r h = h

@@ -57,7 +57,7 @@ end_status (Err faults.Write) = 6
 end_status (Err faults.Memory) = 5
 end_status (Err stop) = 1
 
--- what may be told of an end: itself, or want of memory where there is none for the text of status 1
+-- what may be told of an end: itself, or that memory ran out for the text of status 1
 abbrev pub MayTell : Result Unit NodeFault → Result Unit NodeFault → Type 0
 MayTell ended told = (told ≡ ended) ⊎ ((end_status ended ≡ 1) × (told ≡ Err faults.Memory))
 
