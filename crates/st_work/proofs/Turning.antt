@@ -46,7 +46,7 @@ pub ready_first : (w : World) → w ≡ g.generator_world → IsReady w
 unfolding g.generator_world fresh_world Rattle.st_rules.specs.Extents.numbers
 ready_first w e = subst IsReady (sym e) (record { clocks = refl; clients = refl; servers = refl })
 
--- One turn of so many that are left.
+-- One turn of the n - i that are left.
 left_by_one : (i n : ℕ) → i < n → n - i ≡ suc (n - (i + 1))
 left_by_one i n l = omega (arith, l)
 

@@ -24,6 +24,6 @@ pub record IsTurn (w : World) (x : ℕ) (v : World) (y : ℕ) : Type 0 where
   pub state : y ≡ (chosen w x).1
   pub leads : Leads w (chosen w x).0 v
 
--- the lines of so many events from a world and a state on
+-- the lines of the next n events, from a world and a state on
 abbrev pub lines : ℕ → World → ℕ → List ℕ
 lines n w x = flat_map event_line (generated n w x)

@@ -34,7 +34,7 @@ fn put_next(
     run_event(world, event)
 }
 
-/// The same, and writes the text where it is long.
+/// Chooses the next event, appends its line and runs it, and writes the text where it is long.
 fn write_next<O: Sink>(
     alloc: Global,
     world: &mut World,
@@ -57,7 +57,7 @@ fn write_next<O: Sink>(
     Ok(())
 }
 
-/// Chooses, prints and runs so many events.
+/// Chooses, prints and runs `n` events.
 fn write_events<O: Sink>(
     alloc: Global,
     world: &mut World,
@@ -78,7 +78,7 @@ fn write_events<O: Sink>(
     Ok(())
 }
 
-/// Writes the schedule of the events from a world on.
+/// Writes the head, the lines of the next `n` events, and the end.
 fn write_schedule<O: Sink>(
     alloc: Global,
     world: &mut World,

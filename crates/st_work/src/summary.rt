@@ -18,7 +18,7 @@ use st_rules::Summary;
 use st_world::World;
 use std::alloc::{AllocError, Global};
 
-/// Chooses and runs so many events.
+/// Chooses and runs `n` events.
 fn run_events(alloc: Global, world: &mut World, draws: &mut Draws, n: u32) -> Result<(), AllocError>
     requires ready { IsReady world.old }
     requires room { world.old.tally.events + n ≤ 2 ^ 29 }

@@ -12,7 +12,7 @@ use st_report::put_text;
 use st_schedule::print;
 use std::alloc::{AllocError, Global};
 
-/// A text of this many bytes is written.
+/// The text is written as soon as it has at least `LONG` bytes.
 const LONG: usize = 4096;
 
 /// Appends the line of the head.
@@ -54,7 +54,7 @@ pub(crate) fn flush<O: Sink>(out: &mut O, text: &mut Vec<u8>) -> Result<(), Fail
     }
 }
 
-/// Writes the text, and empties it, where it is long.
+/// Writes the text, and empties it, where it has at least `LONG` bytes.
 pub(crate) fn flush_long<O: Sink>(out: &mut O, text: &mut Vec<u8>) -> Result<(), Failed>
     ensures ok { OnOk result (Writes (O.written out.old) (O.written out.new) text.old.items text.new.items) }
     ensures failed { OnErr result (AppendsPrefix (O.written out.old) (O.written out.new) text.old.items) }
