@@ -10,6 +10,7 @@ import sys
 
 sys.path.insert(0, sys.argv[1])
 sys.dont_write_bytecode = True
+from row_words import runs  # noqa: E402
 from tank_oracle import node, wire  # noqa: E402
 from tank_oracle.asks import Create, CutAsk, NameAsk, PatchAsk, ReadAsk, RemoveEntry, SyncAsk, WriteAsk  # noqa: E402
 from tank_oracle.base import Block, File, Tag  # noqa: E402
@@ -19,18 +20,6 @@ from tank_oracle.wire import (  # noqa: E402
 
 SERVER = 32769
 GRANTS = 1 << 32
-
-
-def runs(data):
-    """Bytes as `HH` or `HH*COUNT`."""
-    words, i = [], 0
-    while i < len(data):
-        j = i
-        while j < len(data) and data[j] == data[i]:
-            j += 1
-        words.append(f"{data[i]:02x}" + (f"*{j - i}" if j > i + 1 else ""))
-        i = j
-    return " ".join(words) or "-"
 
 
 def told(fault):
@@ -164,7 +153,7 @@ def random_stream(seed):
 
 def row(kind, name, readings, data):
     out, why = served(kind, data, readings)
-    return f"{name} | {kind} | {' '.join(map(str, readings))} | {runs(data)} | {runs(out)} | {why}"
+    return f"{name} | {kind} | {' '.join(map(str, readings))} | {runs(data) or '-'} | {runs(out) or '-'} | {why}"
 
 
 def main():

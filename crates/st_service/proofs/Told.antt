@@ -18,7 +18,7 @@ use Rattle.st_node.specs.declared.fault.NodeFault.TheVariants as faults
 use Rattle.st_node.specs.Runs.{Run, node_run}
 use Rattle.st_node.specs.Serving.{HasCauses, Serves}
 use Rattle.st_node.specs.Whole.{RunsThrough, handle_all}
-use Rattle.st_service.specs.Ends.{AttachesBy, Completes, IsAttached, IsTold, MayTell, Writes, end_status}
+use Rattle.st_service.specs.Ends.{AttachesBy, Completes, IsAttached, IsTold, MayTell, Writes, end_status, end_text}
 use Rattle.st_service.specs.Words.{started, started_run}
 
 -- all is a front
@@ -233,3 +233,52 @@ names_told ended told status before now a b names_before names_now name h may t 
   most = most_by ended names_before names_now name h;
   once = λ k. once_by ended names_before names_now name h (low_told ended told may (low_end told status before now a b t k));
 }
+
+-- nothing is told of an end at a frame's boundary
+pub nothing_told : (before : Option (List ℕ)) (a : ℕ) → IsTold (Ok tt) 0 before before a a
+unfolding end_text
+nothing_told before a = inl (refl, Appends-nil before, refl)
+
+-- at status 0 and 1 no count rose
+pub still_told : (told : Result Unit NodeFault) (status : ℕ) (before now : Option (List ℕ)) (a b x y : ℕ) → IsTold told status before now a b → HasCauses told x y →
+    status ≤ 1 → (y ≡ x) × (b ≡ a)
+still_told (Ok u) status before now a b x y (inl t) c k = (c, t.2)
+still_told (Ok u) status before now a b x y (inr t) c k = absurd (omega (arith, t.3))
+still_told (Err faults.Read) status before now a b x y t c k =
+    absurd (omega (arith, k, sure_status (Err faults.Read) status before now a b (λ e. omega (arith, e)) t))
+still_told (Err faults.Write) status before now a b x y t c k =
+    absurd (omega (arith, k, sure_status (Err faults.Write) status before now a b (λ e. omega (arith, e)) t))
+still_told (Err faults.Memory) status before now a b x y t c k =
+    absurd (omega (arith, k, sure_status (Err faults.Memory) status before now a b (λ e. omega (arith, e)) t))
+still_told (Err (faults.Frame at f)) status before now a b x y (inl t) c k = (c, t.2)
+still_told (Err (faults.Frame at f)) status before now a b x y (inr t) c k = absurd (omega (arith, k, t.0))
+still_told (Err (faults.Cut at)) status before now a b x y (inl t) c k = (c, t.2)
+still_told (Err (faults.Cut at)) status before now a b x y (inr t) c k = absurd (omega (arith, k, t.0))
+still_told (Err faults.TooManyFrames) status before now a b x y (inl t) c k = (c, t.2)
+still_told (Err faults.TooManyFrames) status before now a b x y (inr t) c k = absurd (omega (arith, k, t.0))
+
+-- at status 4 the count of the error sink rose
+pub write_told : (told : Result Unit NodeFault) (status : ℕ) (before now : Option (List ℕ)) (a b : ℕ) → IsTold told status before now a b → status ≡ 4 → Rose a b
+write_told (Ok u) status before now a b t k = absurd (omega (arith, k, sure_status (Ok u) status before now a b (λ e. omega (arith, e)) t))
+write_told (Err faults.Read) status before now a b t k = absurd (omega (arith, k, sure_status (Err faults.Read) status before now a b (λ e. omega (arith, e)) t))
+write_told (Err faults.Write) status before now a b t k = absurd (omega (arith, k, sure_status (Err faults.Write) status before now a b (λ e. omega (arith, e)) t))
+write_told (Err faults.Memory) status before now a b t k = absurd (omega (arith, k, sure_status (Err faults.Memory) status before now a b (λ e. omega (arith, e)) t))
+write_told (Err (faults.Frame at f)) status before now a b (inl t) k = absurd (omega (arith, k, t.0))
+write_told (Err (faults.Frame at f)) status before now a b (inr t) k = t.2
+write_told (Err (faults.Cut at)) status before now a b (inl t) k = absurd (omega (arith, k, t.0))
+write_told (Err (faults.Cut at)) status before now a b (inr t) k = t.2
+write_told (Err faults.TooManyFrames) status before now a b (inl t) k = absurd (omega (arith, k, t.0))
+write_told (Err faults.TooManyFrames) status before now a b (inr t) k = t.2
+
+-- neither 2 nor 3 comes
+pub other_told : (told : Result Unit NodeFault) (status : ℕ) (before now : Option (List ℕ)) (a b : ℕ) → IsTold told status before now a b → (status ≤ 1) ⊎ (4 ≤ status)
+other_told (Ok u) status before now a b t = inl (omega (arith, sure_status (Ok u) status before now a b (λ e. omega (arith, e)) t))
+other_told (Err faults.Read) status before now a b t = inr (omega (arith, sure_status (Err faults.Read) status before now a b (λ e. omega (arith, e)) t))
+other_told (Err faults.Write) status before now a b t = inr (omega (arith, sure_status (Err faults.Write) status before now a b (λ e. omega (arith, e)) t))
+other_told (Err faults.Memory) status before now a b t = inr (omega (arith, sure_status (Err faults.Memory) status before now a b (λ e. omega (arith, e)) t))
+other_told (Err (faults.Frame at f)) status before now a b (inl t) = inl (omega (arith, t.0))
+other_told (Err (faults.Frame at f)) status before now a b (inr t) = inr (omega (arith, t.0))
+other_told (Err (faults.Cut at)) status before now a b (inl t) = inl (omega (arith, t.0))
+other_told (Err (faults.Cut at)) status before now a b (inr t) = inr (omega (arith, t.0))
+other_told (Err faults.TooManyFrames) status before now a b (inl t) = inl (omega (arith, t.0))
+other_told (Err faults.TooManyFrames) status before now a b (inr t) = inr (omega (arith, t.0))

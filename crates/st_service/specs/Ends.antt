@@ -72,11 +72,11 @@ Writes ended before now r = (r.stop ≡ ended) × Appends before now r.out
 abbrev pub unwritten : ℕ → ℕ
 unwritten status = if status == 1 then 4 else status
 
--- the status is the end's and all of its text was written, or the error sink failed
+-- the status is the end's and all of its text was written, or the error sink failed while some text was written
 abbrev pub IsTold : Result Unit NodeFault → ℕ → Option (List ℕ) → Option (List ℕ) → ℕ → ℕ → Type 0
 IsTold ended status before now faults_before faults_now =
     ((status ≡ end_status ended) × Appends before now (end_text ended) × (faults_now ≡ faults_before))
-    ⊎ ((status ≡ unwritten (end_status ended)) × AppendsPrefix before now (end_text ended) × Rose faults_before faults_now)
+    ⊎ ((status ≡ unwritten (end_status ended)) × AppendsPrefix before now (end_text ended) × Rose faults_before faults_now × (1 ≤ end_status ended))
 
 -- the link was attached once, at this name; at most once where the link failed or memory ran out
 abbrev pub AttachesBy : Result Unit NodeFault → Option (List (List ℕ)) → Option (List (List ℕ)) → List ℕ → Type 0

@@ -1,5 +1,5 @@
 // The status and the text of each end.
-ghost use Rattle.std.specs.Prelude.{◌≡◌, ◌++◌, Err, OnOk};
+ghost use Rattle.std.specs.Prelude.{◌≡◌, ◌≤◌, ◌++◌, Err, OnOk};
 ghost use Rattle.st_node.specs.declared.fault.NodeFault.TheVariants.{Memory};
 ghost use Rattle.st_service.specs.Ends as ends;
 ghost use Rattle.st_service.specs.Ends.{IsTold, MayTell};
@@ -76,7 +76,8 @@ fn unwritten(status: u8) -> u8
 
 /// Writes the text of an end, and returns the status.
 fn tell_text<E: Sink>(err: &mut E, text: &[u8], ended: Result<(), NodeFault>) -> u8
-    requires { text.now ≡ ends.end_text ended }
+    requires text { text.now ≡ ends.end_text ended }
+    requires some { 1 ≤ ends.end_status ended }
     ensures { IsTold ended result (E.written err.old) (E.written err.new) (E.faults err.old) (E.faults err.new) }
 {
     match put_all(err, text) {
@@ -118,7 +119,7 @@ fn tell_stop<E: Sink>(
 }
 
 /// Writes the text of an end. Returns what was told, and the status: where memory runs out for a text of status 1, that is told.
-#[tactic(auto, unfolding(crate::specs::Ends::end_text))]
+#[tactic(auto, unfolding(crate::specs::Ends::end_text), using(crate::proofs::Told::nothing_told))]
 pub(crate) fn tell<E: Sink>(
     alloc: Global,
     err: &mut E,
@@ -129,10 +130,7 @@ pub(crate) fn tell<E: Sink>(
 {
     let mut text = Vec::new(alloc);
     match ended {
-        Ok(()) => {
-            let status = tell_text(err, b"", Ok(()));
-            (Ok(()), status)
-        }
+        Ok(()) => (Ok(()), 0),
         Err(NodeFault::Frame(at, refusal)) => {
             let made = put_frame_end(&mut text, at, refusal);
             tell_stop(err, made, text.as_slice(), NodeFault::Frame(at, refusal))

@@ -1,5 +1,5 @@
 // A node that is served over a link.
-ghost use Rattle.std.specs.Prelude.{◌≡◌, ◌≤◌, IfSome, IfOk};
+ghost use Rattle.std.specs.Prelude.{◌≡◌, ◌≤◌, ◌⊎◌, IfSome, IfOk};
 ghost use Rattle.st_link.specs.Causes.{Rose};
 ghost use Rattle.st_node.specs.Room.{HasRoomFor};
 ghost use Rattle.st_node.specs.Runs.{MOST};
@@ -103,7 +103,11 @@ pub fn serve_node<E: Sink, L: Link, C: Clock>(
         (L.Source.faults link.old) (L.Source.faults link.new) }
     // The link is attached once, at the name.
     ensures names { IsAttached result (L.attached link.old) (L.attached link.new) name.now }
+    // At 0 and 1 no count of faults rose.
+    ensures still { result ≤ 1 → (L.Source.faults link.new ≡ L.Source.faults link.old) × (E.faults err.new ≡ E.faults err.old) }
+    ensures write { result ≡ 4 → Rose (E.faults err.old) (E.faults err.new) }
     ensures link { result ≡ 6 → Rose (L.Source.faults link.old) (L.Source.faults link.new) }
+    ensures others { (result ≤ 1) ⊎ (4 ≤ result) }
     ensures known { result ≤ 6 }
 {
     whole_frames_run_through();

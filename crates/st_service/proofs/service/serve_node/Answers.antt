@@ -1,5 +1,5 @@
 use Rattle.st_service.specs.Words.{started_run}
-use Rattle.st_service.proofs.Told.{completes, few_statuses, link_cause, names_told, told_causes, told_run}
+use Rattle.st_service.proofs.Told.{completes, few_statuses, link_cause, names_told, other_told, still_told, told_causes, told_run, write_told}
 use Rattle.st_service.proofs.service.serve_node.Goals as goal
 
 pub returns-clause-served : goal.returns-clause-served
@@ -36,3 +36,19 @@ returns-clause-names g c =
     names_told c.start_and_serve-ended.result c.tell-said.result.0 c.tell-said.result.1 (g.E.Sink.written c.args.err.now) (g.E.Sink.written c.tell-said.new.err) (g.E.Sink.faults c.args.err.now)
     (g.E.Sink.faults c.tell-said.new.err) (g.L.Link.attached c.args.link.now) (g.L.Link.attached c.start_and_serve-ended.new.link) c.args.name.now c.start_and_serve-ended.ensures.names
     c.tell-said.ensures.may c.tell-said.ensures.told
+
+pub returns-clause-still : goal.returns-clause-still
+returns-clause-still g c =
+    still_told c.tell-said.result.0 c.tell-said.result.1 (g.E.Sink.written c.args.err.now) (g.E.Sink.written c.tell-said.new.err) (g.E.Sink.faults c.args.err.now) (g.E.Sink.faults c.tell-said.new.err)
+    (g.L.Source.faults c.args.link.now) (g.L.Source.faults c.start_and_serve-ended.new.link) c.tell-said.ensures.told
+    (told_causes c.start_and_serve-ended.result c.tell-said.result.0 (g.L.Source.faults c.args.link.now) (g.L.Source.faults c.start_and_serve-ended.new.link) c.tell-said.ensures.may c.start_and_serve-ended.ensures.causes)
+
+pub returns-clause-write : goal.returns-clause-write
+returns-clause-write g c =
+    write_told c.tell-said.result.0 c.tell-said.result.1 (g.E.Sink.written c.args.err.now) (g.E.Sink.written c.tell-said.new.err) (g.E.Sink.faults c.args.err.now) (g.E.Sink.faults c.tell-said.new.err)
+    c.tell-said.ensures.told
+
+pub returns-clause-others : goal.returns-clause-others
+returns-clause-others g c =
+    other_told c.tell-said.result.0 c.tell-said.result.1 (g.E.Sink.written c.args.err.now) (g.E.Sink.written c.tell-said.new.err) (g.E.Sink.faults c.args.err.now) (g.E.Sink.faults c.tell-said.new.err)
+    c.tell-said.ensures.told
