@@ -1,2 +1,3 @@
 mod Prefixed
 mod Statuses
+pub mod Made

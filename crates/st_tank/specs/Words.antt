@@ -1,16 +1,63 @@
 -- The words of a call, the texts that a call writes to its error sink, and the causes of a failed write. docs/PROTOCOL.md, "The program".
-use Rattle.std.specs.Prelude.{ℕ, ◌≡◌, ◌⊎◌, ◌==◌, Bool, false, if◌then◌else◌, List, [], ◌∷◌, map, codes, String, string_bytes}
+use Rattle.std.specs.Prelude.{ℕ, ◌≡◌, ◌≤◌, ◌⊎◌, ◌==◌, Bool, false, if◌then◌else◌, List, [], ◌∷◌, map, codes, String, string_bytes, Option, Some, None, is_some}
 use Rattle.std.specs.Str.{bytes_eq}
+use Rattle.st_generate.specs.GeneratedText.{generate_text, work_text}
 use Rattle.st_link.specs.Causes.{Rose}
+use Rattle.st_schedule.specs.Words.{plain}
+use Rattle.st_tank.specs.declared.words.Job.{Job}
+use Rattle.st_tank.specs.declared.words.Job.TheVariants as jobs
 
--- the one right list of words
-abbrev pub are_right : List (List ℕ) → Bool
-are_right (word ∷ []) = bytes_eq word (codes "replay")
-are_right words = false
+-- a fact of the length of a schedule: it has at most 100,000 events
+abbrev pub HasFew : Job → Type 0
+HasFew jobs.Replay = Unit {0}
+HasFew (jobs.Generate n seed) = n ≤ 100000
+HasFew (jobs.Work n seed) = n ≤ 100000
+
+-- a length and a seed: digits without a leading zero
+abbrev pub length_of : List ℕ → Option ℕ
+length_of word = plain 0 100000 word
+
+abbrev pub seed_of : List ℕ → Option ℕ
+seed_of word = plain 0 18446744073709551615 word
+
+-- what a word asks for with this length and this seed
+abbrev pub worked : List ℕ → ℕ → ℕ → Option Job
+worked word n seed = if bytes_eq word (codes "work") then Some (jobs.Work n seed) else None
+
+abbrev pub named : List ℕ → ℕ → ℕ → Option Job
+named word n seed = if bytes_eq word (codes "generate") then Some (jobs.Generate n seed) else worked word n seed
+
+abbrev pub numbered : List ℕ → Option ℕ → Option ℕ → Option Job
+numbered word (Some n) (Some seed) = named word n seed
+numbered word n seed = None
+
+-- what a word asks for alone
+abbrev pub replayed : List ℕ → Option Job
+replayed word = if bytes_eq word (codes "replay") then Some jobs.Replay else None
+
+-- what the words ask for, if they are right
+abbrev pub job_in : List (List ℕ) → Option Job
+job_in (word ∷ []) = replayed word
+job_in (word ∷ (n ∷ (seed ∷ []))) = numbered word (length_of n) (seed_of seed)
+job_in words = None
+
+abbrev pub job_of : {A : Type 0} → List (String A) → Option Job
+job_of words = job_in (map string_bytes words)
 
 -- the words of a call are right
 abbrev pub right : {A : Type 0} → List (String A) → Bool
-right words = are_right (map string_bytes words)
+right words = is_some (job_of words)
+
+-- a fact of a replay
+abbrev pub OnReplay : Option Job → Type 0 → Type 0
+OnReplay (Some jobs.Replay) fact = fact
+OnReplay job fact = Unit {0}
+
+-- a fact of the text that is made of a length and a seed
+abbrev pub OnMade : Option Job → (List ℕ → Type 0) → Type 0
+OnMade (Some (jobs.Generate n seed)) fact = fact (generate_text n seed)
+OnMade (Some (jobs.Work n seed)) fact = fact (work_text n seed)
+OnMade job fact = Unit {0}
 
 -- The text of a status: the usage at wrong words; else a text for a failed read, for a failed write and for running out of
 -- memory, and no text for 0 and 1.

@@ -1,5 +1,6 @@
-ghost use Rattle.std.specs.Prelude.{◌≡◌, ◌≤◌, ◌⊎◌, false, IfSome, IsTrue};
+ghost use Rattle.std.specs.Prelude.{◌≡◌, ◌≤◌, ◌⊎◌, false, Some, IfSome, IsTrue};
 ghost use Rattle.std.specs.Io.KnownBytes.{Appends, IsAtEnd};
+ghost use Rattle.st_generate.specs.GeneratedText.{generate_text, work_text};
 ghost use Rattle.st_link.specs.Causes.{Rose};
 ghost use Rattle.st_link.specs.Prefixes.{AppendsPrefix};
 ghost use Rattle.st_replay.specs.Ends.{IsCutOff};
@@ -7,28 +8,19 @@ ghost use Rattle.st_runs.specs.Replay.{replay_of, report_of};
 ghost use Rattle.st_runs.specs.Safe.{RunsSafely};
 ghost use Rattle.st_runs.specs.Schedule.{lines_of};
 ghost use Rattle.st_rules.specs.Safety.{IsAllPromised};
-ghost use Rattle.st_tank.specs.Status.{status_in, status_of};
+ghost use Rattle.st_tank.specs.Status.{IsMade, status_in, status_made, status_of};
 ghost use Rattle.st_tank.specs.Words as words_of;
-ghost use Rattle.st_tank.specs.Words.{complaint};
+ghost use Rattle.st_tank.specs.Words.{HasFew, OnMade, OnReplay, complaint};
 
+use crate::words::{Job, job_of};
 use st_link::{Sink, Source, put_all};
 use st_replay::{ReplayFault, Summary, World};
 use st_runs::{all_is_promised, schedules_run_safely};
+use st_work::WorkFault;
 use std::alloc::Global;
-
-const REPLAY: &[u8] = b"replay";
 
 const USAGE: &[u8] =
     b"usage: tank replay | generate N SEED | work N SEED | node server|client ID NAME\n";
-
-fn are_right(words: &[String]) -> bool
-    ensures { result ≡ words_of.right words.now }
-{
-    match words {
-        [word] => word.as_bytes() == REPLAY,
-        _ => false,
-    }
-}
 
 /// The status of a replay that ended so.
 fn status_after(ended: &Result<(Summary, World), ReplayFault>) -> u8
@@ -58,6 +50,59 @@ fn replay<I: Source, O: Sink>(alloc: Global, input: &mut I, out: &mut O) -> u8
 {
     let ended = st_replay::replay(alloc, input, out);
     status_after(&ended)
+}
+
+/// The status of a text that was made.
+fn status_of_made<T: Drop>(made: Result<T, WorkFault>) -> u8
+    ensures { result ≡ status_made made }
+{
+    match made {
+        Ok(_) => 0,
+        Err(WorkFault::Write) => 4,
+        Err(WorkFault::Memory) => 5,
+    }
+}
+
+/// Writes the text of a schedule of a length and a seed. Returns 0, 4 for a failed write, and 5 where memory ran out.
+fn generate<O: Sink>(alloc: Global, n: u32, seed: u64, out: &mut O) -> u8
+    requires { n ≤ 100000 }
+    ensures { IsMade result (O.written out.old) (O.written out.new) (O.faults out.old) (O.faults out.new) (generate_text n seed) }
+{
+    let made = st_work::generate(alloc, seed, n, out);
+    status_of_made(made)
+}
+
+/// Writes what the run of that schedule counts. Returns the same.
+fn work<O: Sink>(alloc: Global, n: u32, seed: u64, out: &mut O) -> u8
+    requires { n ≤ 100000 }
+    ensures { IsMade result (O.written out.old) (O.written out.new) (O.faults out.old) (O.faults out.new) (work_text n seed) }
+{
+    let made = st_work::put_work(alloc, seed, n, out);
+    status_of_made(made)
+}
+
+/// Does what was asked for.
+fn run_job<I: Source, O: Sink>(alloc: Global, job: Job, input: &mut I, out: &mut O) -> u8
+    requires few { HasFew job }
+    ensures report { OnReplay (Some job) (result ≤ 1 → IfSome (I.left input.old) (λ bytes.
+        (result ≡ status_of (replay_of bytes).last) × Appends (O.written out.old) (O.written out.new) (report_of bytes))) }
+    ensures prefix { OnReplay (Some job) (IfSome (I.left input.old) (λ bytes. AppendsPrefix (O.written out.old) (O.written out.new) (report_of bytes))) }
+    ensures through { OnReplay (Some job) (result ≡ 0 → IsAtEnd (I.left input.new)) }
+    ensures made { OnMade (Some job) (λ text. (result ≤ 3 → (result ≡ 0) × Appends (O.written out.old) (O.written out.new) text)) }
+    ensures front { OnMade (Some job) (λ text. AppendsPrefix (O.written out.old) (O.written out.new) text) }
+    ensures alone { OnMade (Some job) (λ text. input.new ≡ input.old) }
+    ensures still { result ≤ 1 → (I.faults input.new ≡ I.faults input.old) × (O.faults out.new ≡ O.faults out.old) }
+    ensures read { result ≡ 3 → Rose (I.faults input.old) (I.faults input.new) }
+    ensures cut_off { result ≡ 3 → IsCutOff (I.left input.old) (I.left input.new) (O.written out.old) (O.written out.new) }
+    ensures write { result ≡ 4 → Rose (O.faults out.old) (O.faults out.new) }
+    ensures other { ¬ (result ≡ 2) }
+    ensures known { result ≤ 5 }
+{
+    match job {
+        Job::Replay => replay(alloc, input, out),
+        Job::Generate(n, seed) => generate(alloc, n, seed, out),
+        Job::Work(n, seed) => work(alloc, n, seed, out),
+    }
 }
 
 /// Writes a text to the error sink, and returns whether all of it was written.
@@ -104,10 +149,41 @@ fn tell_fault<E: Sink>(err: &mut E, status: u8)
     }
 }
 
-/// The program. With the one word `replay` it reads a schedule from `input` and writes the schedule's report to `out`. It
-/// returns 0 where the schedule was read and run through its end, 1 where a line was refused, 2 for wrong words, 3 for a
-/// failed read, 4 for a failed write, and 5 where memory ran out. `docs/PROTOCOL.md`, "The program", has the texts that are
-/// written to `err`.
+/// Does what was asked for, and tells the error sink of a fault.
+fn run_told<I: Source, O: Sink, E: Sink>(
+    alloc: Global,
+    job: Job,
+    input: &mut I,
+    out: &mut O,
+    err: &mut E,
+) -> u8
+    requires few { HasFew job }
+    ensures report { OnReplay (Some job) (result ≤ 1 → IfSome (I.left input.old) (λ bytes.
+        (result ≡ status_of (replay_of bytes).last) × Appends (O.written out.old) (O.written out.new) (report_of bytes))) }
+    ensures prefix { OnReplay (Some job) (IfSome (I.left input.old) (λ bytes. AppendsPrefix (O.written out.old) (O.written out.new) (report_of bytes))) }
+    ensures through { OnReplay (Some job) (result ≡ 0 → IsAtEnd (I.left input.new)) }
+    ensures made { OnMade (Some job) (λ text. (result ≤ 3 → (result ≡ 0) × Appends (O.written out.old) (O.written out.new) text)) }
+    ensures front { OnMade (Some job) (λ text. AppendsPrefix (O.written out.old) (O.written out.new) text) }
+    ensures alone { OnMade (Some job) (λ text. input.new ≡ input.old) }
+    ensures still { result ≤ 1 → (I.faults input.new ≡ I.faults input.old) × (O.faults out.new ≡ O.faults out.old) × (E.faults err.new ≡ E.faults err.old) }
+    ensures read { result ≡ 3 → Rose (I.faults input.old) (I.faults input.new) }
+    ensures cut_off { result ≡ 3 → IsCutOff (I.left input.old) (I.left input.new) (O.written out.old) (O.written out.new) }
+    ensures write { result ≡ 4 → Rose (O.faults out.old) (O.faults out.new) }
+    ensures other { ¬ (result ≡ 2) }
+    ensures known { result ≤ 5 }
+    ensures told_prefix { AppendsPrefix (E.written err.old) (E.written err.new) (words_of.fault_text result) }
+    ensures told { Appends (E.written err.old) (E.written err.new) (words_of.fault_text result) ⊎ Rose (E.faults err.old) (E.faults err.new) }
+{
+    let status = run_job(alloc, job, input, out);
+    tell_fault(err, status);
+    status
+}
+
+/// The program. With the one word `replay` it reads a schedule from `input` and writes the schedule's report to `out`; with
+/// `generate N SEED` it writes the schedule of that length and seed, and with `work N SEED` the last line of its report. It
+/// returns 0 where the schedule was read and run through its end, or the text was written; 1 where a line was refused, 2 for wrong
+/// words, 3 for a failed read, 4 for a failed write, and 5 where memory ran out. `docs/PROTOCOL.md`, "The program", has the texts
+/// that are written to `err`.
 pub fn run<I: Source, O: Sink, E: Sink>(
     alloc: Global,
     words: &[String],
@@ -116,13 +192,20 @@ pub fn run<I: Source, O: Sink, E: Sink>(
     err: &mut E,
 ) -> u8
     // At 0 and 1 the report of all bytes of the source was written, and nothing else; it is 0 exactly where the report is whole.
-    ensures report { result ≤ 1 → IfSome (I.left input.old) (λ bytes.
-        (result ≡ status_of (replay_of bytes).last) × Appends (O.written out.old) (O.written out.new) (report_of bytes)) }
-    ensures through { result ≡ 0 → IsAtEnd (I.left input.new) }
+    ensures report { OnReplay (words_of.job_of words.now) (result ≤ 1 → IfSome (I.left input.old) (λ bytes.
+        (result ≡ status_of (replay_of bytes).last) × Appends (O.written out.old) (O.written out.new) (report_of bytes))) }
+    ensures through { OnReplay (words_of.job_of words.now) (result ≡ 0 → IsAtEnd (I.left input.new)) }
     ensures still { result ≤ 1 → (I.faults input.new ≡ I.faults input.old) × (O.faults out.new ≡ O.faults out.old) × (E.faults err.new ≡ E.faults err.old) }
 
     // At every status the output got a prefix of that report.
-    ensures prefix { IfSome (I.left input.old) (λ bytes. AppendsPrefix (O.written out.old) (O.written out.new) (report_of bytes)) }
+    ensures prefix { OnReplay (words_of.job_of words.now) (IfSome (I.left input.old) (λ bytes.
+        AppendsPrefix (O.written out.old) (O.written out.new) (report_of bytes))) }
+
+    // Of `generate` and `work`: at 0 the whole text was written, 1 to 3 never come, and at every status a front of the text was written; no
+    // input is taken.
+    ensures made { OnMade (words_of.job_of words.now) (λ text. (result ≤ 3 → (result ≡ 0) × Appends (O.written out.old) (O.written out.new) text)) }
+    ensures front { OnMade (words_of.job_of words.now) (λ text. AppendsPrefix (O.written out.old) (O.written out.new) text) }
+    ensures alone { OnMade (words_of.job_of words.now) (λ text. input.new ≡ input.old) }
 
     // The run of which the report tells is safe: every step of it keeps every promise. Old messages change nothing, in any run.
     ensures safe { IfSome (I.left input.old) (λ bytes. RunsSafely (lines_of bytes)) }
@@ -144,10 +227,8 @@ pub fn run<I: Source, O: Sink, E: Sink>(
 {
     schedules_run_safely();
     all_is_promised();
-    if !are_right(words) {
-        return usage(err);
+    match job_of(words) {
+        Some(job) => run_told(alloc, job, input, out, err),
+        None => usage(err),
     }
-    let status = replay(alloc, input, out);
-    tell_fault(err, status);
-    status
 }

@@ -13,3 +13,5 @@ mod running;
 mod texts;
 #[cfg(test)]
 mod theft;
+#[cfg(test)]
+mod words;

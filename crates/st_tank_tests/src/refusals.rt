@@ -11,7 +11,7 @@ const BEGUN: &str = "tank 1 1000 500 700 850 100 50 101 100 2 1 1 8\nend\n";
 
 const NOTHING: &str = "end events 0 sent 0 commands 0 writes 0 reads 0 hard 0 gone 0 stolen 0\n";
 
-const USAGE: &str =
+pub const USAGE: &str =
     "usage: tank replay | generate N SEED | work N SEED | node server|client ID NAME\n";
 
 /// Runs the program over a schedule, whole and one byte a call, and asserts its report.

@@ -1,0 +1,14 @@
+//! Generated schedules at work: the text of a schedule of a length and a seed, and the counts of its run, for which no text is made.
+//! `docs/PROTOCOL.md`, "Generated schedules".
+#![tactic(auto)]
+
+mod fault;
+mod schedule;
+mod summary;
+mod text;
+mod turn;
+
+pub use fault::WorkFault;
+pub use schedule::generate;
+pub use st_rules::Summary;
+pub use summary::{put_work, work};
