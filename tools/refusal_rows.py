@@ -1,7 +1,7 @@
 #!/usr/bin/env python3
 """Prints crates/st_world_tests/src/rows.rt: events of a world, and which of them are refused.
 
-Run from the repository's top as `tools/refusal_rows.py ORACLE`, ORACLE being the folder that holds the package tank_oracle.
+Run from the repository's top as `tools/refusal_rows.py ORACLE`, ORACLE being the folder that holds the package tank_oracle; `rt fmt` lays the file out.
 Each refusal of the table of admissible events stands beside an event that differs from it in one thing and is accepted. A line
 here that begins with `!` is to be refused; which refusal it is and with which values is the oracle's. Only where an event has no
 line in a schedule its refusal stands here, behind `=`. A full network is tried by tools/full_network.
@@ -17,7 +17,7 @@ SETTINGS = "1000 500 700 850 100 50 101 100"
 RATED = f"tank 1 {SETTINGS} 2 2 2 8"
 DRIFTING = f"tank 2 {SETTINGS} 5 2 2 2 8"
 
-NODE_NAMES = {"c1": "C1", "c2": "C2", "c3": "NO_CLIENT", "s1": "S1", "s2": "S2", "s3": "NO_SERVER"}
+NODE_NAMES = {"c1": "CLIENT_1", "c2": "CLIENT_2", "c3": "NO_CLIENT", "s1": "SERVER_1", "s2": "SERVER_2", "s3": "NO_SERVER"}
 
 NODES = """
 ! tick c3
@@ -107,6 +107,19 @@ lose 3
 heal c1 s1
 deliver 2
 """
+
+FRONT = """\
+//! Written by tools/refusal_rows.py: events of a world, each with its refusal, or with nothing where it is accepted.
+use crate::tests::Call;
+use crate::tests::Call::{
+    Advance, Crash, Cut, Deliver, Done, Effect, Failed, Heal, Lose, Read, Start, Sync, Tick, Write,
+};
+use st_base::{ClientId, NodeId, ServerId, Stamp};
+use st_rules::WorldRefusal;
+use st_rules::WorldRefusal::{
+    ClockDrift, ClockRate, DiskState, FlushMissed, LateDisk, LinkCut, LostMessage, NoCommand,
+    NoMessage, NoNode, NotRunning, Running,
+};"""
 
 # the second client opens its file at the first server and writes a page of it
 OPENED = """
@@ -327,15 +340,10 @@ def printed(name, what, head, script):
 
 
 def main():
-    print("//! Written by tools/refusal_rows.py: events of a world, each with its refusal, or with nothing where it is accepted.")
-    print("use crate::tests::Call;")
-    print("use crate::tests::Call::{Advance, Crash, Cut, Deliver, Done, Effect, Failed, Heal, Lose, Read, Start, Sync, Tick, Write};")
-    print("use st_base::{ClientId, NodeId, ServerId, Stamp};")
-    print("use st_rules::WorldRefusal;")
-    print("use st_rules::WorldRefusal::{ClockDrift, ClockRate, DiskState, FlushMissed, LateDisk, LinkCut, LostMessage, NoCommand, NoMessage, NoNode, NotRunning, Running};\n")
+    print(FRONT)
     for node, name in NODE_NAMES.items():
         kind = "Client" if node[0] == "c" else "Server"
-        print(f"const {name}: NodeId = NodeId::{kind}({kind}Id({node[1]}));")
+        print(f"\nconst {name}: NodeId = NodeId::{kind}({kind}Id({node[1]}));")
     printed("NODES", "Nodes that are not there, that run, and that do not.", RATED, NODES)
     printed("MESSAGES", "Messages that were not sent, that are lost, and whose direction is cut.", RATED, MESSAGES)
     printed("COMMANDS", "Commands that were not submitted, that had their effect, and that were reported.", RATED, COMMANDS)

@@ -1,49 +1,59 @@
 //! Written by tools/refusal_rows.py: events of a world, each with its refusal, or with nothing where it is accepted.
 use crate::tests::Call;
-use crate::tests::Call::{Advance, Crash, Cut, Deliver, Done, Effect, Failed, Heal, Lose, Read, Start, Sync, Tick, Write};
+use crate::tests::Call::{
+    Advance, Crash, Cut, Deliver, Done, Effect, Failed, Heal, Lose, Read, Start, Sync, Tick, Write,
+};
 use st_base::{ClientId, NodeId, ServerId, Stamp};
 use st_rules::WorldRefusal;
-use st_rules::WorldRefusal::{ClockDrift, ClockRate, DiskState, FlushMissed, LateDisk, LinkCut, LostMessage, NoCommand, NoMessage, NoNode, NotRunning, Running};
+use st_rules::WorldRefusal::{
+    ClockDrift, ClockRate, DiskState, FlushMissed, LateDisk, LinkCut, LostMessage, NoCommand,
+    NoMessage, NoNode, NotRunning, Running,
+};
 
-const C1: NodeId = NodeId::Client(ClientId(1));
-const C2: NodeId = NodeId::Client(ClientId(2));
+const CLIENT_1: NodeId = NodeId::Client(ClientId(1));
+
+const CLIENT_2: NodeId = NodeId::Client(ClientId(2));
+
 const NO_CLIENT: NodeId = NodeId::Client(ClientId(3));
-const S1: NodeId = NodeId::Server(ServerId(1));
-const S2: NodeId = NodeId::Server(ServerId(2));
+
+const SERVER_1: NodeId = NodeId::Server(ServerId(1));
+
+const SERVER_2: NodeId = NodeId::Server(ServerId(2));
+
 const NO_SERVER: NodeId = NodeId::Server(ServerId(3));
 
 /// Nodes that are not there, that run, and that do not.
 pub const NODES: &[(Call, Option<WorldRefusal>)] = &[
     (Tick(NO_CLIENT), Some(NoNode(NO_CLIENT))),
     (Tick(NO_SERVER), Some(NoNode(NO_SERVER))),
-    (Tick(C2), None),
-    (Tick(S2), None),
+    (Tick(CLIENT_2), None),
+    (Tick(SERVER_2), None),
     (Sync(3, 1), Some(NoNode(NO_CLIENT))),
     (Sync(2, 1), None),
     (Crash(NO_CLIENT), Some(NoNode(NO_CLIENT))),
     (Crash(NO_SERVER), Some(NoNode(NO_SERVER))),
     (Start(NO_CLIENT), Some(NoNode(NO_CLIENT))),
     (Start(NO_SERVER), Some(NoNode(NO_SERVER))),
-    (Start(C1), Some(Running(C1))),
-    (Crash(C1), None),
-    (Crash(C1), Some(NotRunning(C1))),
-    (Tick(C1), Some(NotRunning(C1))),
-    (Sync(1, 1), Some(NotRunning(C1))),
-    (Tick(C2), None),
+    (Start(CLIENT_1), Some(Running(CLIENT_1))),
+    (Crash(CLIENT_1), None),
+    (Crash(CLIENT_1), Some(NotRunning(CLIENT_1))),
+    (Tick(CLIENT_1), Some(NotRunning(CLIENT_1))),
+    (Sync(1, 1), Some(NotRunning(CLIENT_1))),
+    (Tick(CLIENT_2), None),
     (Sync(2, 1), None),
-    (Start(C1), None),
-    (Start(C1), Some(Running(C1))),
-    (Tick(C1), None),
+    (Start(CLIENT_1), None),
+    (Start(CLIENT_1), Some(Running(CLIENT_1))),
+    (Tick(CLIENT_1), None),
     (Sync(1, 1), None),
-    (Start(S1), Some(Running(S1))),
-    (Crash(S1), None),
-    (Crash(S1), Some(NotRunning(S1))),
-    (Tick(S1), Some(NotRunning(S1))),
-    (Tick(S2), None),
-    (Start(S1), None),
-    (Start(S1), Some(Running(S1))),
-    (Tick(S1), None),
-    (Crash(S1), None),
+    (Start(SERVER_1), Some(Running(SERVER_1))),
+    (Crash(SERVER_1), None),
+    (Crash(SERVER_1), Some(NotRunning(SERVER_1))),
+    (Tick(SERVER_1), Some(NotRunning(SERVER_1))),
+    (Tick(SERVER_2), None),
+    (Start(SERVER_1), None),
+    (Start(SERVER_1), Some(Running(SERVER_1))),
+    (Tick(SERVER_1), None),
+    (Crash(SERVER_1), None),
 ];
 
 /// Messages that were not sent, that are lost, and whose direction is cut.
@@ -65,41 +75,41 @@ pub const MESSAGES: &[(Call, Option<WorldRefusal>)] = &[
     (Deliver(4), None),
     (Lose(4), None),
     (Deliver(4), Some(LostMessage(4))),
-    (Cut(NO_CLIENT, S1), Some(NoNode(NO_CLIENT))),
-    (Cut(C1, NO_SERVER), Some(NoNode(NO_SERVER))),
+    (Cut(NO_CLIENT, SERVER_1), Some(NoNode(NO_CLIENT))),
+    (Cut(CLIENT_1, NO_SERVER), Some(NoNode(NO_SERVER))),
     (Cut(NO_CLIENT, NO_SERVER), Some(NoNode(NO_CLIENT))),
-    (Heal(NO_CLIENT, S1), Some(NoNode(NO_CLIENT))),
-    (Heal(C1, NO_SERVER), Some(NoNode(NO_SERVER))),
+    (Heal(NO_CLIENT, SERVER_1), Some(NoNode(NO_CLIENT))),
+    (Heal(CLIENT_1, NO_SERVER), Some(NoNode(NO_SERVER))),
     (Heal(NO_SERVER, NO_CLIENT), Some(NoNode(NO_SERVER))),
-    (Cut(C1, S2), None),
+    (Cut(CLIENT_1, SERVER_2), None),
     (Deliver(3), None),
-    (Cut(C1, S1), None),
-    (Deliver(3), Some(LinkCut(C1, S1))),
-    (Deliver(1), Some(LinkCut(C1, S1))),
+    (Cut(CLIENT_1, SERVER_1), None),
+    (Deliver(3), Some(LinkCut(CLIENT_1, SERVER_1))),
+    (Deliver(1), Some(LinkCut(CLIENT_1, SERVER_1))),
     (Deliver(2), None),
-    (Cut(C1, S1), None),
-    (Heal(S1, C1), None),
-    (Deliver(3), Some(LinkCut(C1, S1))),
-    (Heal(C1, S1), None),
+    (Cut(CLIENT_1, SERVER_1), None),
+    (Heal(SERVER_1, CLIENT_1), None),
+    (Deliver(3), Some(LinkCut(CLIENT_1, SERVER_1))),
+    (Heal(CLIENT_1, SERVER_1), None),
     (Deliver(3), None),
     (Deliver(1), None),
-    (Cut(S1, C1), None),
-    (Deliver(2), Some(LinkCut(S1, C1))),
+    (Cut(SERVER_1, CLIENT_1), None),
+    (Deliver(2), Some(LinkCut(SERVER_1, CLIENT_1))),
     (Deliver(3), None),
-    (Crash(C1), None),
-    (Deliver(2), Some(LinkCut(S1, C1))),
-    (Heal(S1, C1), None),
-    (Deliver(2), Some(NotRunning(C1))),
+    (Crash(CLIENT_1), None),
+    (Deliver(2), Some(LinkCut(SERVER_1, CLIENT_1))),
+    (Heal(SERVER_1, CLIENT_1), None),
+    (Deliver(2), Some(NotRunning(CLIENT_1))),
     (Deliver(3), None),
-    (Start(C1), None),
+    (Start(CLIENT_1), None),
     (Deliver(2), None),
-    (Crash(S1), None),
-    (Deliver(3), Some(NotRunning(S1))),
-    (Cut(C1, S1), None),
-    (Deliver(3), Some(LinkCut(C1, S1))),
+    (Crash(SERVER_1), None),
+    (Deliver(3), Some(NotRunning(SERVER_1))),
+    (Cut(CLIENT_1, SERVER_1), None),
+    (Deliver(3), Some(LinkCut(CLIENT_1, SERVER_1))),
     (Lose(3), None),
     (Deliver(3), Some(LostMessage(3))),
-    (Heal(C1, S1), None),
+    (Heal(CLIENT_1, SERVER_1), None),
     (Deliver(2), None),
 ];
 
@@ -148,24 +158,42 @@ pub const FLUSHES: &[(Call, Option<WorldRefusal>)] = &[
     (Advance([100, 99, 100, 100]), Some(ClockRate(100, 99))),
     (Advance([0, 0, 0, 0]), Some(ClockRate(0, 0))),
     (Advance([101, 100, 100, 100]), None),
-    (Advance([900, 900, 900, 900]), Some(FlushMissed(ClientId(2), ServerId(1)))),
+    (
+        Advance([900, 900, 900, 900]),
+        Some(FlushMissed(ClientId(2), ServerId(1))),
+    ),
     (Advance([400, 400, 400, 400]), None),
-    (Tick(C2), None),
+    (Tick(CLIENT_2), None),
     (Advance([349, 349, 349, 349]), None),
-    (Advance([151, 151, 151, 151]), Some(FlushMissed(ClientId(2), ServerId(1)))),
+    (
+        Advance([151, 151, 151, 151]),
+        Some(FlushMissed(ClientId(2), ServerId(1))),
+    ),
     (Advance([1, 1, 1, 1]), None),
-    (Advance([150, 150, 150, 150]), Some(FlushMissed(ClientId(2), ServerId(1)))),
-    (Tick(C2), None),
-    (Advance([150, 150, 150, 150]), Some(FlushMissed(ClientId(2), ServerId(1)))),
+    (
+        Advance([150, 150, 150, 150]),
+        Some(FlushMissed(ClientId(2), ServerId(1))),
+    ),
+    (Tick(CLIENT_2), None),
+    (
+        Advance([150, 150, 150, 150]),
+        Some(FlushMissed(ClientId(2), ServerId(1))),
+    ),
     (Effect(1), None),
-    (Advance([150, 150, 150, 150]), Some(FlushMissed(ClientId(2), ServerId(1)))),
+    (
+        Advance([150, 150, 150, 150]),
+        Some(FlushMissed(ClientId(2), ServerId(1))),
+    ),
     (Failed(1), None),
     (Advance([100, 100, 100, 100]), None),
     (Deliver(7), None),
     (Deliver(9), None),
     (Advance([549, 549, 549, 549]), None),
-    (Advance([1, 1, 1, 1]), Some(FlushMissed(ClientId(2), ServerId(1)))),
-    (Crash(C2), None),
+    (
+        Advance([1, 1, 1, 1]),
+        Some(FlushMissed(ClientId(2), ServerId(1))),
+    ),
+    (Crash(CLIENT_2), None),
     (Advance([1, 1, 1, 1]), None),
 ];
 
@@ -192,16 +220,28 @@ pub const CLIENTS: &[(Call, Option<WorldRefusal>)] = &[
     (Deliver(16), None),
     (Deliver(17), None),
     (Deliver(18), None),
-    (Advance([1000, 1000, 1000, 1000]), Some(FlushMissed(ClientId(1), ServerId(2)))),
+    (
+        Advance([1000, 1000, 1000, 1000]),
+        Some(FlushMissed(ClientId(1), ServerId(2))),
+    ),
     (Sync(1, 2), None),
-    (Advance([1000, 1000, 1000, 1000]), Some(FlushMissed(ClientId(1), ServerId(2)))),
+    (
+        Advance([1000, 1000, 1000, 1000]),
+        Some(FlushMissed(ClientId(1), ServerId(2))),
+    ),
     (Effect(1), None),
     (Done(1), None),
-    (Advance([1000, 1000, 1000, 1000]), Some(FlushMissed(ClientId(2), ServerId(1)))),
+    (
+        Advance([1000, 1000, 1000, 1000]),
+        Some(FlushMissed(ClientId(2), ServerId(1))),
+    ),
     (Sync(2, 1), None),
     (Effect(2), None),
     (Done(2), None),
-    (Advance([1000, 1000, 1000, 1000]), Some(FlushMissed(ClientId(2), ServerId(2)))),
+    (
+        Advance([1000, 1000, 1000, 1000]),
+        Some(FlushMissed(ClientId(2), ServerId(2))),
+    ),
     (Sync(2, 2), None),
     (Effect(3), None),
     (Done(3), None),
@@ -222,8 +262,8 @@ pub const LATE: &[(Call, Option<WorldRefusal>)] = &[
     (Deliver(8), None),
     (Sync(2, 1), None),
     (Advance([999, 999, 999, 999]), None),
-    (Crash(C2), None),
-    (Start(C2), None),
+    (Crash(CLIENT_2), None),
+    (Start(CLIENT_2), None),
     (Write(2, 1, 0, 3), None),
     (Deliver(9), None),
     (Deliver(10), None),
@@ -273,7 +313,7 @@ pub const READS: &[(Call, Option<WorldRefusal>)] = &[
     (Effect(3), None),
     (Advance([1, 1, 1, 1]), None),
     (Effect(4), Some(LateDisk(Stamp(1000), Stamp(1000)))),
-    (Tick(C1), None),
+    (Tick(CLIENT_1), None),
     (Effect(4), Some(LateDisk(Stamp(1000), Stamp(1000)))),
     (Done(4), Some(DiskState(4))),
     (Failed(4), None),
@@ -288,24 +328,57 @@ pub const DRIFTS: &[(Call, Option<WorldRefusal>)] = &[
     (Deliver(4), None),
     (Deliver(5), None),
     (Deliver(6), None),
-    (Advance([107, 100, 100, 100]), Some(ClockDrift(C1, C2, 600))),
+    (
+        Advance([107, 100, 100, 100]),
+        Some(ClockDrift(CLIENT_1, CLIENT_2, 600)),
+    ),
     (Advance([106, 100, 100, 100]), None),
-    (Advance([102, 100, 100, 100]), Some(ClockDrift(C1, C2, 600))),
+    (
+        Advance([102, 100, 100, 100]),
+        Some(ClockDrift(CLIENT_1, CLIENT_2, 600)),
+    ),
     (Advance([101, 100, 100, 100]), None),
-    (Advance([1, 0, 0, 0]), Some(ClockDrift(C1, C2, 600))),
+    (
+        Advance([1, 0, 0, 0]),
+        Some(ClockDrift(CLIENT_1, CLIENT_2, 600)),
+    ),
     (Advance([100, 104, 100, 100]), None),
     (Advance([0, 0, 0, 0]), None),
-    (Advance([6, 0, 6, 6]), Some(ClockDrift(C1, C2, 600))),
+    (
+        Advance([6, 0, 6, 6]),
+        Some(ClockDrift(CLIENT_1, CLIENT_2, 600)),
+    ),
     (Advance([5, 0, 5, 5]), None),
-    (Advance([1, 0, 1, 1]), Some(ClockDrift(C1, C2, 600))),
-    (Advance([0, 9, 0, 0]), Some(ClockDrift(C2, C1, 900))),
+    (
+        Advance([1, 0, 1, 1]),
+        Some(ClockDrift(CLIENT_1, CLIENT_2, 600)),
+    ),
+    (
+        Advance([0, 9, 0, 0]),
+        Some(ClockDrift(CLIENT_2, CLIENT_1, 900)),
+    ),
     (Advance([0, 5, 0, 0]), None),
-    (Advance([0, 1, 0, 0]), Some(ClockDrift(C2, C1, 600))),
-    (Crash(C1), None),
-    (Advance([0, 1, 0, 0]), Some(ClockDrift(C2, C1, 600))),
-    (Advance([0, 0, 0, 9]), Some(ClockDrift(S2, C1, 900))),
-    (Advance([1000, 900, 900, 900]), Some(ClockDrift(C1, C2, 9100))),
-    (Advance([1000, 1000, 1000, 1000]), Some(FlushMissed(ClientId(2), ServerId(1)))),
-    (Crash(C2), None),
+    (
+        Advance([0, 1, 0, 0]),
+        Some(ClockDrift(CLIENT_2, CLIENT_1, 600)),
+    ),
+    (Crash(CLIENT_1), None),
+    (
+        Advance([0, 1, 0, 0]),
+        Some(ClockDrift(CLIENT_2, CLIENT_1, 600)),
+    ),
+    (
+        Advance([0, 0, 0, 9]),
+        Some(ClockDrift(SERVER_2, CLIENT_1, 900)),
+    ),
+    (
+        Advance([1000, 900, 900, 900]),
+        Some(ClockDrift(CLIENT_1, CLIENT_2, 9100)),
+    ),
+    (
+        Advance([1000, 1000, 1000, 1000]),
+        Some(FlushMissed(ClientId(2), ServerId(1))),
+    ),
+    (Crash(CLIENT_2), None),
     (Advance([1000, 1000, 1000, 1000]), None),
 ];

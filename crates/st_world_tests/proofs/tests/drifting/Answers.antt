@@ -1,4 +1,4 @@
-use Rattle.std.proofs.Common.{◌≡◌, refl}
+use Rattle.std.proofs.Common.{refl}
 use Rattle.st_world_tests.proofs.tests.drifting.Goals as goal
 
 pub new-requires : goal.new-requires
