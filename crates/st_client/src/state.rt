@@ -9,6 +9,7 @@ ghost use Rattle.st_rules.specs.Client as client;
 ghost use Rattle.st_rules.specs.ClientState.{client_turn};
 ghost use Rattle.st_rules.specs.World as world;
 
+use crate::held::Held;
 use crate::machine::Machine;
 use st_association::Association;
 use st_base::{ClientId, Config, Life, ServerId, Stamp};
@@ -25,7 +26,7 @@ pub struct State {
     pub(crate) alloc: Global,
     pub(crate) id: ClientId,
     pub(crate) config: Config,
-    pub(crate) associations: VecDeque<Association>,
+    pub(crate) associations: VecDeque<Held>,
     pub(crate) operations: Operations,
     pub(crate) next_command: u64,
 }
@@ -91,7 +92,7 @@ impl State {
     {
         let mut servers = Vec::new(self.alloc);
         for a in self.associations.iter() {
-            servers.push(a.server())?;
+            servers.push(a.get().server())?;
         }
         Ok(servers)
     }
@@ -104,7 +105,7 @@ impl State {
     {
         lives.clear();
         for a in self.associations.iter() {
-            lives.push_reserved(a.life());
+            lives.push_reserved(a.get().life());
         }
     }
 
@@ -114,7 +115,7 @@ impl State {
     {
         let mut each = true;
         for a in self.associations.iter() {
-            each = each && a.has_room();
+            each = each && a.get().has_room();
         }
         self.next_command < 4_611_686_018_427_387_904 && each
     }
@@ -124,8 +125,8 @@ impl State {
         ensures { option_copied result ≡ option_map (association_told self.now.id self.now.config) (client.association_with self.now server) }
     {
         for a in self.associations.iter() {
-            if a.server().0 == server.0 {
-                return Some(a);
+            if a.get().server().0 == server.0 {
+                return Some(a.get());
             }
         }
         None
@@ -178,9 +179,9 @@ impl State {
         for a in self.associations.iter() {
             found.push(LeaseLife {
                 client: self.id,
-                server: a.server(),
-                life: a.life(),
-                end: a.lease_end(),
+                server: a.get().server(),
+                life: a.get().life(),
+                end: a.get().lease_end(),
                 crashed: false,
             })?;
         }
@@ -209,7 +210,8 @@ impl State {
     {
         let mut state = self;
         let a = Association::new(state.alloc, state.id, &state.config, server, life)?;
-        state.associations.push_back(a)?;
+        let held = Held::new(state.alloc, a)?;
+        state.associations.push_back(held)?;
         Ok(state)
     }
 }
