@@ -1,14 +1,18 @@
 // A client that runs, between its steps.
 ghost use Rattle.std.specs.Prelude.{◌≡◌, ◌≤◌, ◌^◌, ◌++◌, [], true, map, length, vec_capacity, ◌∷◌, ◌<◌, IsOk, IfOk, OnOk};
+ghost use Rattle.std.specs.List.{list_all};
 ghost use Rattle.std.specs.Option.{option_copied, option_map};
 ghost use Rattle.st_base.specs.Config as settings;
+ghost use Rattle.st_base.specs.declared.ids.ServerId.{ServerId};
+ghost use Rattle.st_client.specs.Ends.{end_in};
 ghost use Rattle.st_client.specs.Inputs.{comes_fit};
-ghost use Rattle.st_client.specs.Nodes.{association_told, server_at, with_more};
+ghost use Rattle.st_client.specs.Nodes.{association_told, is_server, server_at, with_more};
 ghost use Rattle.st_client.specs.Room.{HasRoom, has_room};
 ghost use Rattle.st_rules.specs.Client as client;
 ghost use Rattle.st_rules.specs.ClientState.{client_turn};
 ghost use Rattle.st_rules.specs.World as world;
 
+use crate::ends::LeaseEnds;
 use crate::held::Held;
 use crate::machine::Machine;
 use st_association::Association;
@@ -149,6 +153,21 @@ impl State {
         match self.at(server) {
             Some(a) => a.lease_end(),
             None => None,
+        }
+    }
+
+    /// The ends of the leases at all servers.
+    pub(crate) fn lease_ends(&self) -> LeaseEnds
+        requires { list_all is_server (map server_at self.now.associations) ≡ true }
+        ensures { (s : ServerId) → end_in result s ≡ client.lease_end_with self.now s }
+    {
+        LeaseEnds {
+            ends: [
+                self.lease_end(ServerId(1)),
+                self.lease_end(ServerId(2)),
+                self.lease_end(ServerId(3)),
+                self.lease_end(ServerId(4)),
+            ],
         }
     }
 
