@@ -167,78 +167,70 @@ fn no_more_calls(
     Ok(())
 }
 
+/// Each of these calls of each object fails in turn, and there are no more.
+fn each_fails(
+    rt: &(impl Abort + AllocGlobal),
+    case: &Case<'_>,
+    calls: Failing,
+) -> Result<(), Fail> {
+    each_take_fails(rt, case, calls.source)?;
+    each_put_fails(rt, case, calls.sink)?;
+    each_link_call_fails(rt, case, calls.link)?;
+    each_complaint_fails(rt, case, calls.err)?;
+    no_more_calls(rt, case, calls)
+}
+
+/// A case over the schedule of a head alone.
+fn begun<'a>(
+    words: &'a [&'a str],
+    frames: &'a [u8],
+    status: u8,
+    sent: &'a [u8],
+    complaint: &'a str,
+) -> Case<'a> {
+    Case {
+        words,
+        schedule: HEAD.as_bytes(),
+        frames,
+        status,
+        report: "",
+        sent,
+        complaint,
+    }
+}
+
 /// A replay, a node, a node whose stream is cut, and wrong words, with how many calls of each object they make.
 #[test]
 fn each_call_fails_in_turn(rt: HostRuntime) -> Result<(), Fail> {
     let schedule = joined(rt.alloc(), &[HEAD, WRITTEN, ONE_SIDED_CUT])?;
     let report = joined(rt.alloc(), &[WRITTEN_REPORT, ONE_SIDED_CUT_REPORT])?;
+    let replay = Case {
+        words: &["replay"],
+        schedule: schedule.as_bytes(),
+        frames: GREETING,
+        status: 0,
+        report: report.as_str(),
+        sent: b"",
+        complaint: "",
+    };
+    let calls = Failing {
+        source: 2,
+        sink: 19,
+        ..NONE
+    };
+    each_fails(&rt, &replay, calls)?;
     let node: &[&str] = &["node", "server", "1", "s1"];
-    let table = [
-        (
-            Case {
-                words: &["replay"],
-                schedule: schedule.as_bytes(),
-                frames: GREETING,
-                status: 0,
-                report: report.as_str(),
-                sent: b"",
-                complaint: "",
-            },
-            Failing {
-                source: 2,
-                sink: 19,
-                ..NONE
-            },
-        ),
-        (
-            Case {
-                words: node,
-                schedule: HEAD.as_bytes(),
-                frames: GREETING,
-                status: 0,
-                report: "",
-                sent: WELCOME,
-                complaint: "",
-            },
-            Failing { link: 4, ..NONE },
-        ),
-        (
-            Case {
-                words: node,
-                schedule: HEAD.as_bytes(),
-                frames: &GREETING[..41],
-                status: 1,
-                report: "",
-                sent: b"",
-                complaint: "tank: frame cut at 0\n",
-            },
-            Failing {
-                link: 3,
-                err: 1,
-                ..NONE
-            },
-        ),
-        (
-            Case {
-                words: &["node"],
-                schedule: HEAD.as_bytes(),
-                frames: GREETING,
-                status: 2,
-                report: "",
-                sent: b"",
-                complaint: USAGE,
-            },
-            Failing { err: 1, ..NONE },
-        ),
-    ];
-    for (case, calls) in &table {
-        each_take_fails(&rt, case, calls.source)?;
-        each_put_fails(&rt, case, calls.sink)?;
-        each_link_call_fails(&rt, case, calls.link)?;
-        each_complaint_fails(&rt, case, calls.err)?;
-        no_more_calls(&rt, case, *calls)?;
-    }
-    Ok(())
+    let whole = begun(node, GREETING, 0, WELCOME, "");
+    each_fails(&rt, &whole, Failing { link: 4, ..NONE })?;
+    let cut = begun(node, &GREETING[..41], 1, b"", "tank: frame cut at 0\n");
+    let calls = Failing {
+        link: 3,
+        err: 1,
+        ..NONE
+    };
+    each_fails(&rt, &cut, calls)?;
+    let wrong = begun(&["node"], GREETING, 2, b"", USAGE);
+    each_fails(&rt, &wrong, Failing { err: 1, ..NONE })
 }
 
 /// A schedule that is cut is refused, unless the cut takes only the last newline.
