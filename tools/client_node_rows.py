@@ -8,10 +8,10 @@ and by chance. The lines of the oracle's client that no step came to are told on
 """
 import random
 import sys
-import textwrap
 
 sys.path.insert(0, sys.argv[1])
 sys.dont_write_bytecode = True
+from row_words import body_words, fitting_reply, message_words, runs, rust  # noqa: E402
 from tank_oracle import asks, base, client, wire  # noqa: E402
 from tank_oracle.asks import CutAsk, NameAsk, PatchAsk, ReadAsk, SyncAsk, WriteAsk  # noqa: E402
 from tank_oracle.base import FRESH_TAG, NONE, S, X, Block, File, Tag, uniform_page  # noqa: E402
@@ -26,28 +26,13 @@ G1 = 2 ** 32 + 1
 LOCAL = {(1, 64): "tick", (1, 65): "app", (2, 65): "patch", (1, 66): "answer", (1, 67): "submit", (1, 68): "done"}
 
 
-def runs(data):
-    """Bytes as `HH` or `HH*COUNT`."""
-    words, i = [], 0
-    while i < len(data):
-        j = i
-        while j < len(data) and data[j] == data[i]:
-            j += 1
-        words.append(f"{data[i]:02x}" + (f"*{j - i}" if j > i + 1 else ""))
-        i = j
-    return " ".join(words)
-
-
 def told(message):
     """A message as its kind, its header's numbers, and the bytes of its body; one of the node's surroundings as a word and its body."""
     data = wire.encode(message)
     assert wire.decode(data) == message and len(data) >= 38
-    body = [runs(data[38:])] if data[38:] else []
     if data[1] >= 64:
-        return " ".join([LOCAL[data[0], data[1]], *body])
-    assert data[0] == 1
-    head = [data[1]] + [int.from_bytes(data[a:b]) for a, b in ((2, 4), (4, 6), (6, 14), (14, 22), (22, 30), (30, 38))]
-    return " ".join([*map(str, head), *body])
+        return " ".join([LOCAL[data[0], data[1]], *body_words(data)])
+    return message_words(data)
 
 
 def note(number, *fields):
@@ -473,24 +458,6 @@ def by_chance(r, rng, count):
                 asks.Create(1, b"n"), asks.RemoveEntry(1, b"f2", 2), asks.RemoveEntry(1, b"f3", 3), asks.RemoveEntry(1, b"d", 0),
                 asks.ListDir(1, b""), asks.Rename(1, b"a", 10, b"b"))))
 
-    def reply(peer, body):
-        if rng.random() < 0.12:
-            return Nack(rng.choice((7, 8, 9, 10, 7, 8, 9, 10, 3, 4, 1)), rng.randint(0, 3), rng.randint(0, 3))
-        match body:
-            case wire.Acquire(i, mode):
-                return Queued(i, mode) if rng.random() < 0.25 else Granted(i, grant(peer), rng.choice((mode, mode, X)))
-            case wire.Map(i, _, p):
-                return Extents(i, rng.choice(((), ((p, block(), rng.randint(1, 9)),))))
-            case wire.Allocate(i, _, p, _):
-                rows = {p: block(), **({rng.randint(0, 2): block()} if rng.random() < 0.4 else {})}
-                return Extents(i, tuple((n, rows[n], rng.randint(1, 9)) for n in sorted(rows)))
-            case wire.Name(_):
-                return Named(*rng.choice(((0, 2), (0, 10), (2, 5), (1, ()))))
-            case wire.Reassert(_):
-                return Reasserted()
-            case _:
-                return Ack()
-
     def hear(s):
         peer, k = r.peer(s), rng.random()
         if peer.epoch == 0:
@@ -499,7 +466,7 @@ def by_chance(r, rng, count):
             return r.hear(s, body, 0, stamp, rng.choice((1, 1, 2)))
         q = peer.outstanding
         if q is not None and k < 0.72:
-            return r.hear(s, reply(peer, q.body), q.number, rng.choice((q.sent, q.sent, r.now)))
+            return r.hear(s, fitting_reply(rng, q.body, 0.12, lambda _: grant(peer), block), q.number, rng.choice((q.sent, q.sent, r.now)))
         if k < 0.84:
             return r.free(s, Granted(ino(), grant(peer), rng.choice((S, X, X))))
         if k < 0.94:
@@ -594,29 +561,6 @@ class Reached:
                 found |= {n for _, _, n in c.co_lines() if n} - {c.co_firstlineno}
         text = open(client.__file__).read().split("\n")
         return [(n, text[n - 1].strip()) for n in sorted(found - self.lines)]
-
-
-def text(name, lines):
-    lines = [" \\\n".join(textwrap.wrap(line, 140)) for line in lines]
-    return f'fn {name}() -> &\'static str {{\n    "' + "\\n\\\n".join(lines) + '"\n}\n'
-
-
-def rust(name, doc, lines, most=25):
-    """Functions that return so many lines each, and one that returns the part of a number."""
-    parts = [lines[i:i + most] for i in range(0, len(lines), most)]
-    out = [text(f"{name}_{i}", part) for i, part in enumerate(parts)]
-    arms = "".join(f"        {i} => {name}_{i}(),\n" for i in range(len(parts)))
-    return "\n".join(out) + f"""
-/// How many parts `{name}` has.
-pub const {name.upper()}_PARTS: u32 = {len(parts)};
-
-/// {doc}
-pub fn {name}(part: u32) -> &'static str {{
-    match part {{
-{arms}        _ => "",
-    }}
-}}
-"""
 
 
 def main():

@@ -9,10 +9,11 @@ import sys
 
 sys.path.insert(0, __file__.rsplit("/", 1)[0])
 from client_rows import NONE, G1, Row, S, X, write_file  # noqa: E402
-from tank_oracle import asks, client, wire  # noqa: E402
+from row_words import fitting_reply  # noqa: E402
+from tank_oracle import asks  # noqa: E402
 from tank_oracle.asks import CutAsk, NameAsk, PatchAsk, ReadAsk, SyncAsk, WriteAsk  # noqa: E402
 from tank_oracle.base import FRESH_TAG, Block, File, Tag, uniform_page  # noqa: E402
-from tank_oracle.wire import Ack, Demand, Extents, Granted, Nack, Named, Queued, Reasserted, Welcome  # noqa: E402
+from tank_oracle.wire import Ack, Demand, Granted, Nack, Named, Queued, Reasserted, Welcome  # noqa: E402
 
 
 class Script:
@@ -58,25 +59,7 @@ class Script:
 
     def reply(self, peer, q):
         """A reply that fits the outstanding request, mostly a good one."""
-        rng, body = self.rng, q.body
-        if rng.random() < 0.14:
-            return Nack(rng.choice((7, 8, 9, 10, 7, 8, 9, 10, 3, 4, 1)), rng.randint(0, 3), rng.randint(0, 3))
-        match body:
-            case wire.Acquire(ino, mode):
-                if rng.random() < 0.25:
-                    return Queued(ino, mode)
-                return Granted(ino, self.grant(ino, peer), rng.choice((mode, mode, X)))
-            case wire.Map(ino, _, p):
-                return Extents(ino, rng.choice(((), ((p, self.block(), rng.randint(1, 9)),))))
-            case wire.Allocate(ino, _, p, _):
-                rows = {p: self.block(), **({rng.randint(0, 2): self.block()} if rng.random() < 0.4 else {})}
-                return Extents(ino, tuple((n, rows[n], rng.randint(1, 9)) for n in sorted(rows)))
-            case wire.Name(_):
-                return Named(*rng.choice(((0, 2), (0, 10), (2, 5), (1, ()))))
-            case wire.Reassert(_):
-                return Reasserted()
-            case _:
-                return Ack()
+        return fitting_reply(self.rng, q.body, 0.14, lambda ino: self.grant(ino, peer), self.block)
 
     def hear(self, s):
         rng, peer, r = self.rng, self.row.node.peers[s], self.row

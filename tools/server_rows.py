@@ -6,10 +6,10 @@ The oracle's server takes each step, and its outputs stand behind the step. No o
 """
 import random
 import sys
-import textwrap
 
 sys.path.insert(0, sys.argv[1])
 sys.dont_write_bytecode = True
+from row_words import message_words, rust  # noqa: E402
 from tank_oracle import base, server, wire  # noqa: E402
 from tank_oracle.asks import Create, ListDir, Lookup, Mkdir, Remove, Rename  # noqa: E402
 from tank_oracle.wire import (  # noqa: E402
@@ -21,24 +21,9 @@ COUNTS = base.Counts(16, 2, 2, 4)
 SERVER = 32769
 
 
-def runs(data):
-    """Bytes as `HH` or `HH*COUNT`."""
-    words, i = [], 0
-    while i < len(data):
-        j = i
-        while j < len(data) and data[j] == data[i]:
-            j += 1
-        words.append(f"{data[i]:02x}" + (f"*{j - i}" if j > i + 1 else ""))
-        i = j
-    return " ".join(words)
-
-
 def told(message):
     """A message as its kind, its header's numbers, and the bytes of its body."""
-    data = wire.encode(message)
-    assert data[0] == 1 and len(data) >= 38
-    head = [data[1]] + [int.from_bytes(data[a:b]) for a, b in ((2, 4), (4, 6), (6, 14), (14, 22), (22, 30), (30, 38))]
-    return " ".join([*map(str, head), *([runs(data[38:])] if data[38:] else [])])
+    return message_words(wire.encode(message))
 
 
 def spelled(output):
@@ -238,29 +223,6 @@ def script(seed, count):
             if isinstance(b, Released) and b.to == 0:
                 c.locks.pop(b.ino, None)
     return run.lines
-
-
-def text(name, lines):
-    lines = [" \\\n".join(textwrap.wrap(line, 140)) for line in lines]
-    return f'fn {name}() -> &\'static str {{\n    "' + "\\n\\\n".join(lines) + '"\n}\n'
-
-
-def rust(name, doc, lines, most=25):
-    """Functions that return so many lines each, and one that returns the part of a number."""
-    parts = [lines[i:i + most] for i in range(0, len(lines), most)]
-    out = [text(f"{name}_{i}", part) for i, part in enumerate(parts)]
-    arms = "".join(f"        {i} => {name}_{i}(),\n" for i in range(len(parts)))
-    return "\n".join(out) + f"""
-/// How many parts `{name}` has.
-pub const {name.upper()}_PARTS: u32 = {len(parts)};
-
-/// {doc}
-pub fn {name}(part: u32) -> &'static str {{
-    match part {{
-{arms}        _ => "",
-    }}
-}}
-"""
 
 
 print("//! Written by tools/server_rows.py. A line is a moment, what the server is given, and what it puts out. A message is its kind, its sender,")

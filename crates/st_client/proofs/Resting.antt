@@ -1,8 +1,7 @@
 -- A step begins where counters have room, and what it leaves rests.
-use Rattle.std.proofs.Common.{◌≡◌, ℕ, ◌+◌, ◌<◌, ◌^◌, Bool, true, false, List, [], ◌∷◌, ◌++◌, length, map, refl, sym, ap, ◌∙◌, arith}
-use Rattle.std.specs.Prelude.{Option, Some, None, cond, find, nat_lt, IsTrue, ◌↔◌}
+use Rattle.std.proofs.Common.{◌≡◌, ℕ, ◌+◌, ◌<◌, ◌^◌, Bool, true, List, [], ◌∷◌, ◌++◌, map, refl, sym, ◌∙◌, arith}
+use Rattle.std.specs.Prelude.{Option, Some, None, nat_lt, IsTrue, ◌↔◌}
 use Rattle.std.specs.List.{list_all}
-use Rattle.std.specs.Option.{option_map}
 use Rattle.std.proofs.lemmas.Bool.{and_parts, and_from, lt-ltb, ltb-true}
 use Rattle.st_association.specs.Associations.{ClientAssociation, IsCounted, RequestsBelow, has_room_at, may_ask}
 use Rattle.st_association.specs.Turns.{most_of}
@@ -13,9 +12,9 @@ use Rattle.st_base.specs.declared.ids.ServerId.{ServerId}
 use Rattle.st_messages.specs.declared.output.Output.{Output}
 use Rattle.st_rules.specs.Client.{association_of}
 use Rattle.st_rules.specs.ClientInvariants.{is_below}
-use Rattle.st_rules.specs.ClientState.{Association, ClientSession, ClientState, is_at}
-use Rattle.st_client.specs.Machines.{AreIn, IsIn, IsMachine, here_of}
-use Rattle.st_client.specs.Nodes.{AreGiven, IsGiven, association_told}
+use Rattle.st_rules.specs.ClientState.{Association, ClientSession, ClientState}
+use Rattle.st_client.specs.Machines.{AreIn, IsMachine, here_of}
+use Rattle.st_client.specs.Nodes.{AreGiven}
 use Rattle.st_client.specs.Room.{HasRoom, has_room}
 
 asks : (s : Option ClientSession) → may_ask s ≡ true → RequestsBelow (most_of []) s

@@ -1,5 +1,5 @@
 -- A node that runs: where it begins, and what its steps leave.
-use Rattle.std.proofs.Common.{◌≡◌, ℕ, zero, suc, ◌<◌, ◌≤◌, ◌^◌, Bool, true, false, ◌&&◌, List, [], ◌∷◌, ◌++◌, length, map, refl, sym, ap, subst, ◌∙◌, arith}
+use Rattle.std.proofs.Common.{◌≡◌, ℕ, zero, suc, ◌≤◌, ◌^◌, true, false, List, [], ◌∷◌, length, map, refl, sym, ap, subst, ◌∙◌, arith}
 use Rattle.std.specs.Prelude.{Option, Some, None, find, Ok}
 use Rattle.std.specs.List.{list_all}
 use Rattle.std.proofs.lemmas.Bool.{and_parts, and_from, eqb-true, lt-leb}
@@ -14,14 +14,13 @@ use Rattle.st_base.specs.declared.ids.Stamp.{Stamp}
 use Rattle.st_messages.specs.Kinds.{between}
 use Rattle.st_messages.specs.declared.output.Output.{Output}
 use Rattle.st_rules.specs.declared.client.ClientInput.{ClientInput}
-use Rattle.st_rules.specs.Client.{ClientNode, association_with, client_step, crash_node, fresh_client, lease_at, lease_end_with, life_of_association, lives, start, started_association}
+use Rattle.st_rules.specs.Client.{ClientNode, client_step, crash_node, fresh_client, lease_at, lease_end_with, life_of_association, lives, start, started_association}
 use Rattle.st_rules.specs.ClientLease.{end_at}
 use Rattle.st_rules.specs.ClientState.{Association, ClientState, ClientTurn, client_turn, is_at}
 use Rattle.st_rules.specs.Keys.{same_server}
 use Rattle.st_client.proofs.Crashing.{crashes}
 use Rattle.st_client.proofs.Sends.{crash_sound, fresh_sound, step_sound}
 use Rattle.st_client.proofs.Servers.{step_keeps}
-use Rattle.st_client.specs.declared.ends.LeaseEnds.{LeaseEnds}
 use Rattle.st_client.specs.Ends.{end_in}
 use Rattle.st_client.specs.Inputs.{comes_fit}
 use Rattle.st_client.specs.Nodes.{IsKept, IsNode, RunsAs, crashed_at, crashed_client, is_server, node_of, server_at, state_of, with_more}

@@ -12,7 +12,6 @@ use Rattle.st_rules.specs.declared.client.ClientInput.TheVariants.{Tick, App, Co
 use Rattle.st_rules.specs.Client as client
 use Rattle.st_rules.specs.Client.{app, app_known, client_step, done, finish, is_configured, is_full, losses, lose, take_ask, take_input, work}
 use Rattle.st_rules.specs.ClientPasses as passes
-use Rattle.st_rules.specs.ClientReplies as replies
 use Rattle.st_rules.specs.ClientReplies.{hear, receive, receive_here}
 use Rattle.st_rules.specs.ClientState.{Association, ClientState, ClientTurn, Turn, at_each, at_these, client_turn, enter, is_at, leave, only_at, server_of, with_associations}
 use Rattle.st_client.proofs.Advancing.{either, stays}

@@ -1,11 +1,10 @@
 -- Where nothing waits and nothing is due, rules do nothing.
-use Rattle.std.proofs.Common.{◌≡◌, ℕ, Bool, true, false, ◌||◌, ◌&&◌, List, [], ◌∷◌, ◌++◌, refl, sym, ap, ◌∙◌, append_assoc, append-nil}
+use Rattle.std.proofs.Common.{◌≡◌, ℕ, Bool, true, false, ◌||◌, List, [], ◌∷◌, ◌++◌, refl, sym, ap, ◌∙◌, append_assoc, append-nil}
 use Rattle.std.specs.Prelude.{Option, Some, None, ◌==◌, cond, is_some, not}
 use Rattle.std.specs.List.{list_any}
 use Rattle.st_lemmas.proofs.Tables.{and_left, cond_false, not_false, not_true}
 use Rattle.st_association.specs.Associations.{ClientAssociation}
 use Rattle.st_association.specs.Awake.{is_awake, is_awake_by, may_send}
-use Rattle.st_base.specs.declared.ids.PageNo.{PageNo}
 use Rattle.st_base.specs.declared.ids.ServerId.{ServerId}
 use Rattle.st_base.specs.declared.ids.Stamp.{Stamp}
 use Rattle.st_messages.specs.declared.ask.Ask.{Ask}
@@ -21,7 +20,7 @@ use Rattle.st_rules.specs.ClientLease.{is_renewing, phase_of}
 use Rattle.st_rules.specs.ClientLocks.{demanded_files}
 use Rattle.st_rules.specs.ClientPages.{Pages, dirty_places}
 use Rattle.st_rules.specs.ClientPasses as passes
-use Rattle.st_rules.specs.ClientPasses.{Asking, ask_by, ask_new, ask_next, asked_by, asks_or, first_asking, greet, greeting, greeting_by, is_greeting_due, is_old, keep_alive, ask_for_or, may_ask, must_greet, operate, operate_each, operations, reduce_each, reductions, repeat, requests, requests_at, requests_by, requests_under, write_each, writes, writes_by}
+use Rattle.st_rules.specs.ClientPasses.{ask_by, ask_new, ask_next, asked_by, asks_or, first_asking, greet, greeting, greeting_by, is_greeting_due, is_old, keep_alive, ask_for_or, may_ask, must_greet, operate, operate_each, operations, reduce_each, reductions, repeat, requests, requests_at, requests_by, requests_under, write_each, writes, writes_by}
 use Rattle.st_rules.specs.ClientReplies.{hear, is_heard}
 use Rattle.st_rules.specs.ClientState.{ClientSession, Turn, is_at, is_of, is_serving, keep, only_at, with_operations}
 use Rattle.st_rules.specs.Keys.{rising, server_node}

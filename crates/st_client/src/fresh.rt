@@ -4,6 +4,7 @@ ghost use Rattle.st_base.specs.Config as settings;
 ghost use Rattle.st_rules.specs.Client as client;
 ghost use Rattle.st_rules.specs.ClientState.{client_turn, with_associations};
 
+use crate::held::Held;
 use crate::machine::Machine;
 use st_association::Association;
 use st_base::{ClientId, Config, Life, ServerId};
@@ -41,7 +42,8 @@ impl Machine {
             ServerId(server),
             Life(1),
         )?;
-        machine.associations.push_back(a)?;
+        let held = Held::new(machine.alloc, a)?;
+        machine.associations.push_back(held)?;
         Ok(machine)
     }
 

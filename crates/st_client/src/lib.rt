@@ -4,6 +4,7 @@
 
 mod ends;
 mod fresh;
+mod held;
 mod lives;
 mod machine;
 mod node;

@@ -4,8 +4,8 @@ ghost use Rattle.st_client.specs.Idle.{IsIdle};
 ghost use Rattle.st_client.specs.Machines.{Goes, IsIn};
 ghost use Rattle.st_rules.specs.ClientState as client;
 
+use crate::held::Held;
 use crate::rule::Rule;
-use st_association::Association;
 use st_base::{ClientId, Config};
 use st_messages::Output;
 use st_operations::Operations;
@@ -19,7 +19,7 @@ pub struct Machine {
     pub(crate) alloc: Global,
     pub(crate) id: ClientId,
     pub(crate) config: Config,
-    pub(crate) associations: VecDeque<Association>,
+    pub(crate) associations: VecDeque<Held>,
     pub(crate) operations: Operations,
     pub(crate) next_command: u64,
     pub(crate) out: Vec<Output>,
@@ -48,7 +48,7 @@ impl Model for Machine {
 
 impl Machine {
     /// A rule at one association, which goes last then.
-    fn at_one<R: Rule>(self, rule: &R, a: Association) -> Result<Machine, AllocError>
+    fn at_one<R: Rule>(self, rule: &R, a: Held) -> Result<Machine, AllocError>
         requires one { IsIn self.state.id self.state.config self.state.next_command self.out a }
         requires ready { R.is_ready rule.now self.state.config a.here ≡ true }
         ensures run { IfOk result (λ m. m ≡ client.leave self (R.run rule.now (client.enter self a.here))) }
@@ -63,10 +63,11 @@ impl Machine {
             next_command,
             out,
         } = self;
-        let mut turn = a.enter(alloc, operations, next_command, out);
+        let mut turn = a.open().enter(alloc, operations, next_command, out);
         rule.apply(&mut turn)?;
         let (a, operations, next_command, out) = turn.leave();
-        associations.push_back(a)?;
+        let held = Held::new(alloc, a)?;
+        associations.push_back(held)?;
         Ok(Machine {
             alloc,
             id,
@@ -79,7 +80,7 @@ impl Machine {
     }
 
     /// An association where nothing is done goes last.
-    fn passed_by(self, a: Association) -> Result<Machine, AllocError>
+    fn passed_by(self, a: Held) -> Result<Machine, AllocError>
         requires one { IsIn self.state.id self.state.config self.state.next_command self.out a }
         ensures run { IfOk result (λ m. m ≡ client.leave self (client.enter self a.here)) }
         ensures goes { IfOk result (λ m. Goes self m) }
@@ -90,14 +91,14 @@ impl Machine {
     }
 
     /// Whether a rule may do anything at an association.
-    fn is_touched<R: Rule>(&self, rule: &R, a: &Association) -> bool
+    fn is_touched<R: Rule>(&self, rule: &R, a: &Held) -> bool
         ensures { result ≡ false → IsIdle (R.run rule.now) self.now.state.operations a.now }
     {
-        rule.touches(a, &self.operations)
+        rule.touches(a.get(), &self.operations)
     }
 
     /// A rule at one association, where it may do anything there; the association goes last.
-    fn at_next<R: Rule>(self, rule: &R, a: Association) -> Result<Machine, AllocError>
+    fn at_next<R: Rule>(self, rule: &R, a: Held) -> Result<Machine, AllocError>
         requires one { IsIn self.state.id self.state.config self.state.next_command self.out a }
         requires ready { R.is_ready rule.now self.state.config a.here ≡ true }
         ensures run { IfOk result (λ m. m ≡ client.leave self (R.run rule.now (client.enter self a.here))) }

@@ -124,14 +124,11 @@ impl ClientNode {
     pub fn lease_ends(&self) -> LeaseEnds
         ensures { (s : ServerId) → end_in result s ≡ client.lease_end_with self.now.state s }
     {
-        let _alloc = &self.alloc;
-        LeaseEnds {
-            ends: [
-                self.lease_end(ServerId(1)),
-                self.lease_end(ServerId(2)),
-                self.lease_end(ServerId(3)),
-                self.lease_end(ServerId(4)),
-            ],
+        match &self.state {
+            Some(state) => state.lease_ends(),
+            None => LeaseEnds {
+                ends: [None, None, None, None],
+            },
         }
     }
 

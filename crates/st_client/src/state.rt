@@ -1,14 +1,19 @@
 // A client that runs, between its steps.
 ghost use Rattle.std.specs.Prelude.{◌≡◌, ◌≤◌, ◌^◌, ◌++◌, [], true, map, length, vec_capacity, ◌∷◌, ◌<◌, IsOk, IfOk, OnOk};
+ghost use Rattle.std.specs.List.{list_all};
 ghost use Rattle.std.specs.Option.{option_copied, option_map};
 ghost use Rattle.st_base.specs.Config as settings;
+ghost use Rattle.st_base.specs.declared.ids.ServerId.{ServerId};
+ghost use Rattle.st_client.specs.Ends.{end_in};
 ghost use Rattle.st_client.specs.Inputs.{comes_fit};
-ghost use Rattle.st_client.specs.Nodes.{association_told, server_at, with_more};
+ghost use Rattle.st_client.specs.Nodes.{association_told, is_server, server_at, with_more};
 ghost use Rattle.st_client.specs.Room.{HasRoom, has_room};
 ghost use Rattle.st_rules.specs.Client as client;
 ghost use Rattle.st_rules.specs.ClientState.{client_turn};
 ghost use Rattle.st_rules.specs.World as world;
 
+use crate::ends::LeaseEnds;
+use crate::held::Held;
 use crate::machine::Machine;
 use st_association::Association;
 use st_base::{ClientId, Config, Life, ServerId, Stamp};
@@ -25,7 +30,7 @@ pub struct State {
     pub(crate) alloc: Global,
     pub(crate) id: ClientId,
     pub(crate) config: Config,
-    pub(crate) associations: VecDeque<Association>,
+    pub(crate) associations: VecDeque<Held>,
     pub(crate) operations: Operations,
     pub(crate) next_command: u64,
 }
@@ -91,7 +96,7 @@ impl State {
     {
         let mut servers = Vec::new(self.alloc);
         for a in self.associations.iter() {
-            servers.push(a.server())?;
+            servers.push(a.get().server())?;
         }
         Ok(servers)
     }
@@ -104,7 +109,7 @@ impl State {
     {
         lives.clear();
         for a in self.associations.iter() {
-            lives.push_reserved(a.life());
+            lives.push_reserved(a.get().life());
         }
     }
 
@@ -114,7 +119,7 @@ impl State {
     {
         let mut each = true;
         for a in self.associations.iter() {
-            each = each && a.has_room();
+            each = each && a.get().has_room();
         }
         self.next_command < 4_611_686_018_427_387_904 && each
     }
@@ -124,8 +129,8 @@ impl State {
         ensures { option_copied result ≡ option_map (association_told self.now.id self.now.config) (client.association_with self.now server) }
     {
         for a in self.associations.iter() {
-            if a.server().0 == server.0 {
-                return Some(a);
+            if a.get().server().0 == server.0 {
+                return Some(a.get());
             }
         }
         None
@@ -148,6 +153,21 @@ impl State {
         match self.at(server) {
             Some(a) => a.lease_end(),
             None => None,
+        }
+    }
+
+    /// The ends of the leases at all servers.
+    pub(crate) fn lease_ends(&self) -> LeaseEnds
+        requires { list_all is_server (map server_at self.now.associations) ≡ true }
+        ensures { (s : ServerId) → end_in result s ≡ client.lease_end_with self.now s }
+    {
+        LeaseEnds {
+            ends: [
+                self.lease_end(ServerId(1)),
+                self.lease_end(ServerId(2)),
+                self.lease_end(ServerId(3)),
+                self.lease_end(ServerId(4)),
+            ],
         }
     }
 
@@ -178,9 +198,9 @@ impl State {
         for a in self.associations.iter() {
             found.push(LeaseLife {
                 client: self.id,
-                server: a.server(),
-                life: a.life(),
-                end: a.lease_end(),
+                server: a.get().server(),
+                life: a.get().life(),
+                end: a.get().lease_end(),
                 crashed: false,
             })?;
         }
@@ -209,7 +229,8 @@ impl State {
     {
         let mut state = self;
         let a = Association::new(state.alloc, state.id, &state.config, server, life)?;
-        state.associations.push_back(a)?;
+        let held = Held::new(state.alloc, a)?;
+        state.associations.push_back(held)?;
         Ok(state)
     }
 }

@@ -114,7 +114,7 @@ impl Machine {
     {
         let mut found = false;
         for a in self.associations.iter() {
-            found = found || a.server().0 == server.0;
+            found = found || a.get().server().0 == server.0;
         }
         found
     }

@@ -55,14 +55,14 @@ fn give_effect(disks: &mut Disks, k: u64) -> Result<(), AllocError>
 }
 
 /// Reports the command of this number, where it may be reported so, and takes it out of those that were not reported.
-fn report(disks: &mut Disks, open: &mut Vec<usize>, k: u64, ok: bool)
-    requires { open.old.items ≡ open_from 0 disks.old.commands }
+fn report(disks: &mut Disks, outstanding: &mut Vec<usize>, k: u64, ok: bool)
+    requires { outstanding.old.items ≡ open_from 0 disks.old.commands }
     ensures done { disks.new ≡ events.disks_after disks.old (rules.done disks.old k ok) }
-    ensures open { open.new.items ≡ open_from 0 disks.new.commands }
+    ensures outstanding { outstanding.new.items ≡ open_from 0 disks.new.commands }
     ensures each { length disks.new.commands ≡ length disks.old.commands }
 {
     match disks.done(k, ok) {
-        Ok(()) => close(open, (k - 1) as usize),
+        Ok(()) => close(outstanding, (k - 1) as usize),
         Err(_) => {}
     }
 }

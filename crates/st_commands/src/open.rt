@@ -2,8 +2,8 @@
 ghost use Rattle.std.specs.Prelude.{◌≡◌, ◌==◌, not, filter};
 
 /// Takes a place out of those of the commands that were not reported.
-pub fn close(open: &mut Vec<usize>, k: usize)
-    ensures { open.new.items ≡ filter (λ x. not (x == k)) open.old.items }
+pub fn close(outstanding: &mut Vec<usize>, k: usize)
+    ensures { outstanding.new.items ≡ filter (λ x. not (x == k)) outstanding.old.items }
 {
-    open.retain(|x| *x != k);
+    outstanding.retain(|x| *x != k);
 }

@@ -39,14 +39,14 @@ fn push_spare(found: &mut Vec<Spare>, command: &IssuedCommand) -> Result<(), All
 pub fn spares_of(
     alloc: Global,
     issued: &[IssuedCommand],
-    open: &[usize],
+    outstanding: &[usize],
 ) -> Result<Vec<Spare>, AllocError>
-    requires { list_all (is_below (length issued.now)) open.now ≡ true }
-    ensures { IfOk result (λ found. found.items ≡ spares_at issued.now open.now) }
+    requires { list_all (is_below (length issued.now)) outstanding.now ≡ true }
+    ensures { IfOk result (λ found. found.items ≡ spares_at issued.now outstanding.now) }
 {
     let mut found = Vec::new(alloc);
-    for i in 0..open.len() {
-        push_spare(&mut found, &issued[open[i]])?;
+    for i in 0..outstanding.len() {
+        push_spare(&mut found, &issued[outstanding[i]])?;
     }
     Ok(found)
 }

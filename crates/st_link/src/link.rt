@@ -60,19 +60,21 @@ pub trait Link: Source + Sink {
         ensures written { Self.written self.new ≡ Self.written self.old }
         ensures cause { HasCause (Self.Source.faults self.old) (Self.Source.faults self.new) result };
 
-    /// Takes as `take` does, and leaves what was written.
+    /// Takes as `take` does, and leaves what was written and the names.
     fn receive(&mut self, room: &mut [u8]) -> Result<usize, Failed>
         ensures bound { ReadsAtMost result room.new }
         ensures bytes { ReadConsumes (Self.left self.old) (Self.left self.new) result room.new }
         ensures written { Self.written self.new ≡ Self.written self.old }
+        ensures names { attached self.new ≡ attached self.old }
         ensures cause { HasCause (Self.Source.faults self.old) (Self.Source.faults self.new) result };
 
-    /// Writes as `put` does, and leaves what is left.
+    /// Writes as `put` does, and leaves what is left and the names.
     fn send(&mut self, piece: &[u8]) -> Result<usize, Failed>
         ensures bound { WritesAtMost result piece.now }
         ensures some { IfOk result (λ n. 0 < length piece.now → 0 < n) }
         ensures bytes { WriteAppends (Self.written self.old) (Self.written self.new) result piece.now }
         ensures left { Self.left self.new ≡ Self.left self.old }
+        ensures names { attached self.new ≡ attached self.old }
         ensures cause { HasCause (Self.Source.faults self.old) (Self.Source.faults self.new) result };
 
     /// The link has one count of faults.

@@ -55,6 +55,7 @@ pub fn send_all<L: Link>(link: &mut L, bytes: &[u8]) -> Result<(), Failed>
     ensures ok { OnOk result (Appends (L.written link.old) (L.written link.new) bytes.now) }
     ensures failed { OnErr result (AppendsPrefix (L.written link.old) (L.written link.new) bytes.now) }
     ensures left { L.left link.new ≡ L.left link.old }
+    ensures names { L.attached link.new ≡ L.attached link.old }
     ensures cause { HasCause (L.Source.faults link.old) (L.Source.faults link.new) result }
 {
     let mut done = 0;

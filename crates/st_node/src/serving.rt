@@ -111,6 +111,7 @@ fn serve_piece<L: Link, C: Clock>(
     ensures piece { Pieces result left.old node.old (fed reader.old piece.now) (C.readings clock.old) (C.readings clock.new)
         (L.written link.old) (L.written link.new) left.new node.new reader.new }
     ensures left { L.left link.new ≡ L.left link.old }
+    ensures names { L.attached link.new ≡ L.attached link.old }
     ensures causes { HasCauses result (L.Source.faults link.old) (L.Source.faults link.new) }
     ensures room { OnOk result (HasRoomFor left.new node.new) }
     ensures few { OnOk result (length reader.old.rest + length piece.now + room_for left.new ≤ length reader.new.rest + room_for left.old) }
@@ -164,6 +165,8 @@ pub fn serve<L: Link, C: Clock>(
         Breaks result node.old node.new readings (L.left link.old) (L.left link.new) (L.written link.old) (L.written link.new)) }
     // `Read` and `Write` come only where the count of faults rose; elsewhere but at `Memory` it stayed.
     ensures causes { HasCauses result (L.Source.faults link.old) (L.Source.faults link.new) }
+    // The link is attached at no name.
+    ensures names { L.attached link.new ≡ L.attached link.old }
 {
     let mut reader = FrameReader::new(alloc);
     let mut left = MOST_FRAMES;

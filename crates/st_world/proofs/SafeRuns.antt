@@ -1,10 +1,9 @@
 -- Runs to a world are safe, by the law of every run.
-use Rattle.std.proofs.Common.{◌≡◌, ℕ, ◌+◌, true, List, [], ◌∷◌, ◌++◌, length, sym, ap, ◌∙◌}
-use Rattle.st_base.specs.declared.config.Config.{Config}
+use Rattle.std.proofs.Common.{◌≡◌, ◌+◌, true, [], ◌∷◌, ◌++◌, length, sym, ap, ◌∙◌}
 use Rattle.st_messages.specs.declared.event.Event.{Event}
 use Rattle.st_rules.specs.Safety.{EveryRunIsSafe, is_event}
 use Rattle.st_rules.specs.World.{World}
-use Rattle.st_world.specs.Reached.{IsReached, IsReachedBy}
+use Rattle.st_world.specs.Reached.{IsReached}
 use Rattle.st_world.specs.Safe.{AreSafe, GoesOnSafely, IsLedSafely}
 use Rattle.st_world.proofs.Goes.{all_more}
 use Rattle.st_world.proofs.Shaped.{clocks_are}

@@ -1,5 +1,5 @@
 -- What a step of the world counts, and what it leaves in number.
-use Rattle.std.proofs.Common.{◌≡◌, ◌+◌, true, List, length, refl, sym, ap, ◌∙◌}
+use Rattle.std.proofs.Common.{◌≡◌, true, List, length, refl, sym, ap, ◌∙◌}
 use Rattle.std.specs.Prelude.{Option, Some, None, Ok}
 use Rattle.st_messages.specs.declared.event.Event.{Event}
 use Rattle.st_rules.specs.declared.observation.Observation.{Observation}

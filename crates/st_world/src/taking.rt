@@ -4,7 +4,6 @@ ghost use Rattle.std.specs.List.{list_all};
 ghost use Rattle.st_base.specs.declared.ids.NodeId.TheVariants as nodes;
 ghost use Rattle.st_client.specs.Inputs.{comes_fit, is_sent};
 ghost use Rattle.st_rules.specs.Client as client_rules;
-ghost use Rattle.st_rules.specs.ClientState.{ClientState};
 ghost use Rattle.st_rules.specs.Events as events;
 ghost use Rattle.st_rules.specs.Server as server_rules;
 ghost use Rattle.st_rules.specs.Server.{ServerNode};
@@ -14,7 +13,7 @@ ghost use Rattle.st_server.specs.Ready as ready;
 ghost use Rattle.st_server.specs.Sound as sound;
 ghost use Rattle.st_world.specs.Indexes.{AtPlace};
 ghost use Rattle.st_world.specs.Ends.{HasEnds};
-ghost use Rattle.st_world.specs.Shapes.{says_and_flushes};
+ghost use Rattle.st_world.specs.Shapes.{AfterSaid};
 ghost use Rattle.st_world.specs.Takes.{ServersStep, SiteSteps, SitesStep};
 
 use crate::flushes::flush_all;
@@ -125,7 +124,7 @@ impl Machine {
         requires clients { length self.old.world.clients ≤ 16 }
         requires reads { self.old.world.tally.reads < 2 ^ 63 }
         requires sent { list_all is_sent outputs ≡ true }
-        ensures { (before : ClientState) (site : ClientSite) → HasEnds before ends.now → slice_get self.old.world.clients i ≡ Some site → OnOk result (self.new ≡ says_and_flushes client before site.node.state outputs self.old) }
+        ensures { AfterSaid client i ends.now outputs self.old (λ sc. OnOk result (self.new ≡ sc)) }
     {
         self.client_say_all(client, ends, outputs)?;
         self.flush(client, i)

@@ -7,8 +7,8 @@ use Rattle.st_commands.proofs.commands.report.Goals as goal
 pub overflow_sub-k : goal.overflow_sub-k
 overflow_sub-k c = (done_closes c.args.disks.now c.args.k c.args.ok c.done.new.self (told_ok c.done.new.self (done c.args.disks.now c.args.k c.args.ok) c.in-Ok.ensures.exact)).some
 
-pub returns-in-Ok-clause-open : goal.returns-in-Ok-clause-open
-returns-in-Ok-clause-open c =
+pub returns-in-Ok-clause-outstanding : goal.returns-in-Ok-clause-outstanding
+returns-in-Ok-clause-outstanding c =
     c.close.ensures
     ∙ ap (filter (λ x. not (x == c.args.k - 1))) c.requires
     ∙ sym (done_closes c.args.disks.now c.args.k c.args.ok c.done.new.self (told_ok c.done.new.self (done c.args.disks.now c.args.k c.args.ok) c.in-Ok.ensures.exact)).unreported

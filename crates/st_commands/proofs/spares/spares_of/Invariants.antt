@@ -5,6 +5,6 @@ use Rattle.st_commands.proofs.spares.spares_of.Given as goal
 
 abbrev pub invariant-loop-i : goal.invariant-loop-i
 invariant-loop-i l = record {
-  below : list_all (is_below (length l.issued)) (drop l.i l.open) ≡ true;
-  so_far : l.found.items ++ spares_at l.issued (drop l.i l.open) ≡ spares_at l.issued l.open;
+  below : list_all (is_below (length l.issued)) (drop l.i l.outstanding) ≡ true;
+  so_far : l.found.items ++ spares_at l.issued (drop l.i l.outstanding) ≡ spares_at l.issued l.outstanding;
 }

@@ -12,5 +12,6 @@ loop-done-preserved g c = record {
   written = subst (λ xs. Appends (g.L.Sink.written c.args.link.now) (g.L.Sink.written c.send.new.self) xs) (rw take_rest (sym (take-add _ _ _)))
       (Appends-trans _ (g.L.Sink.written c.loop-done.link) _ _ _ c.loop-done.invariant.written c.in_ok-n.ensures.bytes);
   kept = c.send.ensures.left ∙ c.loop-done.invariant.kept;
+  names = c.send.ensures.names ∙ c.loop-done.invariant.names;
   still = c.in_ok-n.ensures.cause.still ∙ c.loop-done.invariant.still;
 }

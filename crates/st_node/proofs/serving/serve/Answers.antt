@@ -14,6 +14,7 @@ pieces-init g c = record {
       (begun (g.L.Source.left c.args.link.now) (g.L.Sink.written c.args.link.now) (g.C.Clock.readings c.args.clock.now) c.args.node.now);
   room = c.requires.room;
   still = refl;
+  names = refl;
 }
 
 pub returns-in_default-clause-run : goal.returns-in_default-clause-run
@@ -65,6 +66,7 @@ pieces-preserved g c = record {
       (subst (λ x. Consumes (g.L.Source.left c.pieces.link) x (take c.in-Ok.n c.receive.new.room)) (sym c.in-Ok-serve_piece.ensures.left) c.in-Ok.ensures.bytes.0) c.in-Ok-serve_piece.ensures.piece;
   room = c.in-Ok-serve_piece.ensures.room;
   still = c.in-Ok-serve_piece.ensures.causes ∙ c.in-Ok.ensures.cause.still ∙ c.pieces.invariant.still;
+  names = c.serve_piece.ensures.names ∙ c.receive.ensures.names ∙ c.pieces.invariant.names;
 }
 
 pub returns-in-Err-clause-run : goal.returns-in-Err-clause-run

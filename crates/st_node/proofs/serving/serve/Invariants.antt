@@ -11,6 +11,7 @@ invariant-pieces g l = record {
       (g.C.Clock.readings l.fn.clock) (g.C.Clock.readings l.clock) l.fn.node l.left l.node l.reader;
   room : HasRoomFor l.left l.node;
   still : g.L.Source.faults l.link ≡ g.L.Source.faults l.fn.link;
+  names : g.L.Link.attached l.link ≡ g.L.Link.attached l.fn.link;
 }
 
 abbrev pub decreases-pieces : goal.decreases-pieces

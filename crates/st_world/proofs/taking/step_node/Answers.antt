@@ -1,5 +1,5 @@
-use Rattle.std.proofs.Common.{◌∙◌, length, refl}
-use Rattle.std.proofs.lemmas.Option.{get_or_from_slice_get, slice_get_read}
+use Rattle.std.proofs.Common.{◌∙◌}
+use Rattle.std.proofs.lemmas.Option.{get_or_from_slice_get}
 use Rattle.st_world.proofs.Takings.{node_steps_at}
 use Rattle.st_world.proofs.taking.step_node.Goals as goal
 

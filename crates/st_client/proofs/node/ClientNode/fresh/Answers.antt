@@ -1,7 +1,6 @@
-use Rattle.std.proofs.Common.{rules, ◌≡◌, ◌≤◌, length, ap, sym, subst, ◌∙◌, vec_capacity}
+use Rattle.std.proofs.Common.{rules, ◌≡◌, ◌≤◌, length, ap, ◌∙◌, vec_capacity}
 use Rattle.std.specs.Prelude.{Ok}
 use Rattle.st_base.specs.Config.{check}
-use Rattle.st_rules.specs.Client.{fresh_client}
 use Rattle.st_rules.specs.ClientState.{ClientTurn}
 use Rattle.st_client.proofs.Running.{fresh_in}
 use Rattle.st_client.proofs.node.ClientNode.fresh.Goals as goal

@@ -1,6 +1,5 @@
 use Rattle.std.proofs.Common.{ap, sym, ◌∙◌}
 use Rattle.st_rules.specs.Client.{ClientNode, has_dirty_with}
-use Rattle.st_rules.specs.ClientState.{ClientState}
 use Rattle.st_client.proofs.Crashing.{nothing_dirty}
 use Rattle.st_client.specs.Nodes.{state_of}
 use Rattle.st_client.proofs.node.ClientNode.has_dirty.Goals as goal

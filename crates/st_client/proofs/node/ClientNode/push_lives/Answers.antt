@@ -1,4 +1,4 @@
-use Rattle.std.proofs.Common.{◌≡◌, ◌++◌, ap, sym, ◌∙◌}
+use Rattle.std.proofs.Common.{◌++◌, ap, sym, ◌∙◌}
 use Rattle.st_rules.specs.Client.{ClientNode}
 use Rattle.st_rules.specs.World.{lives_of}
 use Rattle.st_client.proofs.Crashing.{crashed_lives_are, on_ok}

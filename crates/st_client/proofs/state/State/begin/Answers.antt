@@ -1,4 +1,4 @@
-use Rattle.std.proofs.Common.{◌^◌, ◌<◌, ◌≡◌, ap, sym, subst, ◌∙◌}
+use Rattle.std.proofs.Common.{◌^◌, ◌<◌, ap, sym, subst, ◌∙◌}
 use Rattle.std.specs.List.{list_all}
 use Rattle.st_association.specs.Associations.{has_room_at}
 use Rattle.st_rules.specs.ClientState.{ClientState}

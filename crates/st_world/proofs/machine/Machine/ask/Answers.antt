@@ -1,5 +1,5 @@
 use Rattle.std.proofs.Common.{◌≡◌, ap, sym, subst, ◌∙◌, length, refl, arith}
-use Rattle.std.specs.Prelude.{OnOk, slice_get, Some}
+use Rattle.std.specs.Prelude.{OnOk, slice_get}
 use Rattle.st_rules.specs.Events.{asks_at, scene}
 use Rattle.st_rules.specs.World.{numbered, site_runs}
 use Rattle.st_world.specs.Indexes.{index_at}

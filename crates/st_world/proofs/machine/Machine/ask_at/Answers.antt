@@ -1,4 +1,4 @@
-use Rattle.std.proofs.Common.{◌≡◌, ◌<◌, ◌+◌, ◌^◌, ap, sym, ◌∙◌, length, arith}
+use Rattle.std.proofs.Common.{◌≡◌, ◌<◌, ◌+◌, ◌^◌, ap, ◌∙◌, length, arith}
 use Rattle.std.specs.Prelude.{slice_get, Some}
 use Rattle.st_lives.proofs.Later.{clock_low}
 use Rattle.st_rules.specs.declared.client.ClientInput.TheVariants as inputs

@@ -1,5 +1,5 @@
 use Rattle.std.proofs.Common.{◌≡◌, ◌+◌, ◌^◌, ap, sym, subst, ◌∙◌, length, refl, arith}
-use Rattle.std.specs.Prelude.{OnOk, Some, slice_get}
+use Rattle.std.specs.Prelude.{OnOk, slice_get}
 use Rattle.st_lives.proofs.Later.{clock_low}
 use Rattle.st_rules.specs.Events.{at_server, scene}
 use Rattle.st_rules.specs.World.{numbered}

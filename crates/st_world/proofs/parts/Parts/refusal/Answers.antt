@@ -1,4 +1,4 @@
-use Rattle.std.proofs.Common.{◌≡◌, ◌≤◌, ◌^◌, true, length, ap, sym, subst, arith}
+use Rattle.std.proofs.Common.{◌≡◌, true, length, ap, sym, subst, arith}
 use Rattle.st_rules.specs.Safety.{is_event}
 use Rattle.st_rules.specs.World.{World}
 use Rattle.st_world.proofs.Admitted.{timed_any}
