@@ -1,3 +1,4 @@
 mod Prefixed
 mod Statuses
-pub mod Made
+mod Made
+mod Nodes

@@ -44,7 +44,7 @@ job_in words = None
 abbrev pub job_of : {A : Type 0} → List (String A) → Option Job
 job_of words = job_in (map string_bytes words)
 
--- the words of a call are right
+-- the words of a call are right, and are not those of a node
 abbrev pub right : {A : Type 0} → List (String A) → Bool
 right words = is_some (job_of words)
 

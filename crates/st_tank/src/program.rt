@@ -1,4 +1,4 @@
-ghost use Rattle.std.specs.Prelude.{◌≡◌, ◌≤◌, ◌⊎◌, false, Some, IfSome, IsTrue};
+ghost use Rattle.std.specs.Prelude.{◌≡◌, ◌≤◌, ◌⊎◌, true, false, Some, IfSome, IsTrue, map, string_bytes};
 ghost use Rattle.std.specs.Io.KnownBytes.{Appends, IsAtEnd};
 ghost use Rattle.st_generate.specs.GeneratedText.{generate_text, work_text};
 ghost use Rattle.st_link.specs.Causes.{Rose};
@@ -8,14 +8,19 @@ ghost use Rattle.st_runs.specs.Replay.{replay_of, report_of};
 ghost use Rattle.st_runs.specs.Safe.{RunsSafely};
 ghost use Rattle.st_runs.specs.Schedule.{lines_of};
 ghost use Rattle.st_rules.specs.Safety.{IsAllPromised};
+ghost use Rattle.st_service.specs.Ends.{Completes, IsAttached, IsServed};
+ghost use Rattle.st_service.specs.Words as services;
+ghost use Rattle.st_service.specs.Words.{starts_node};
 ghost use Rattle.st_tank.specs.Status.{IsMade, status_in, status_made, status_of};
 ghost use Rattle.st_tank.specs.Words as words_of;
 ghost use Rattle.st_tank.specs.Words.{HasFew, OnMade, OnReplay, complaint};
 
 use crate::words::{Job, job_of};
-use st_link::{Sink, Source, put_all};
+use st_clock::Clock;
+use st_link::{Link, Sink, Source, put_all};
 use st_replay::{ReplayFault, Summary, World};
 use st_runs::{all_is_promised, schedules_run_safely};
+use st_service::{name_of, node_of, serve_node};
 use st_work::WorkFault;
 use std::alloc::Global;
 
@@ -179,12 +184,8 @@ fn run_told<I: Source, O: Sink, E: Sink>(
     status
 }
 
-/// The program. With the one word `replay` it reads a schedule from `input` and writes the schedule's report to `out`; with
-/// `generate N SEED` it writes the schedule of that length and seed, and with `work N SEED` the last line of its report. It
-/// returns 0 where the schedule was read and run through its end, or the text was written; 1 where a line was refused, 2 for wrong
-/// words, 3 for a failed read, 4 for a failed write, and 5 where memory ran out. `docs/PROTOCOL.md`, "The program", has the texts
-/// that are written to `err`.
-pub fn run<I: Source, O: Sink, E: Sink>(
+/// The words other than those of a node: a replay, a schedule that is made, or wrong words.
+fn run_words<I: Source, O: Sink, E: Sink>(
     alloc: Global,
     words: &[String],
     input: &mut I,
@@ -207,10 +208,6 @@ pub fn run<I: Source, O: Sink, E: Sink>(
     ensures front { OnMade (words_of.job_of words.now) (λ text. AppendsPrefix (O.written out.old) (O.written out.new) text) }
     ensures alone { OnMade (words_of.job_of words.now) (λ text. input.new ≡ input.old) }
 
-    // The run of which the report tells is safe: every step of it keeps every promise. Old messages change nothing, in any run.
-    ensures safe { IfSome (I.left input.old) (λ bytes. RunsSafely (lines_of bytes)) }
-    ensures promised { IsAllPromised }
-
     // Each other status has its cause, except 5: no clause says when memory runs out.
     ensures known { result ≤ 5 }
     ensures words { result ≡ 2 → words_of.right words.now ≡ false }
@@ -225,10 +222,87 @@ pub fn run<I: Source, O: Sink, E: Sink>(
     ensures told_prefix { AppendsPrefix (E.written err.old) (E.written err.new) (complaint (words_of.right words.now) result) }
     ensures told { Appends (E.written err.old) (E.written err.new) (complaint (words_of.right words.now) result) ⊎ Rose (E.faults err.old) (E.faults err.new) }
 {
-    schedules_run_safely();
-    all_is_promised();
     match job_of(words) {
         Some(job) => run_told(alloc, job, input, out, err),
         None => usage(err),
+    }
+}
+
+/// The program. With the one word `replay` it reads a schedule from `input` and writes the schedule's report to `out`; with
+/// `generate N SEED` it writes the schedule of that length and seed, and with `work N SEED` the last line of its report. It
+/// returns 0 where the schedule was read and run through its end, or the text was written; 1 where a line was refused, 3 for a
+/// failed read, 4 for a failed write, and 5 where memory ran out. With the words `node server ID NAME` or `node client ID NAME` it
+/// attaches `link` at NAME and serves that node over it, on the readings of `clock`: 0 where the stream ended at a frame's boundary,
+/// 1 where the run stopped, 5 where memory ran out, and 6 where the link failed. All other words are wrong: 2. Where the text of 1 or
+/// 2 cannot be written to `err` it is 4. `docs/PROTOCOL.md`, "The program", has the texts that are written to `err`.
+pub fn run<I: Source, O: Sink, E: Sink, L: Link, C: Clock>(
+    alloc: Global,
+    words: &[String],
+    input: &mut I,
+    out: &mut O,
+    err: &mut E,
+    link: &mut L,
+    clock: &mut C,
+) -> u8
+    // At 0 and 1 the report of all bytes of the source was written, and nothing else; it is 0 exactly where the report is whole.
+    ensures report { OnReplay (words_of.job_of words.now) (result ≤ 1 → IfSome (I.left input.old) (λ bytes.
+        (result ≡ status_of (replay_of bytes).last) × Appends (O.written out.old) (O.written out.new) (report_of bytes))) }
+    ensures through { OnReplay (words_of.job_of words.now) (result ≡ 0 → IsAtEnd (I.left input.new)) }
+    ensures still { result ≤ 1 → (I.faults input.new ≡ I.faults input.old) × (O.faults out.new ≡ O.faults out.old) × (E.faults err.new ≡ E.faults err.old) }
+
+    // At every status the output got a prefix of that report.
+    ensures prefix { OnReplay (words_of.job_of words.now) (IfSome (I.left input.old) (λ bytes.
+        AppendsPrefix (O.written out.old) (O.written out.new) (report_of bytes))) }
+
+    // Of `generate` and `work`: at 0 the whole text was written, 1 to 3 never come, and at every status a front of the text was written; no
+    // input is taken.
+    ensures made { OnMade (words_of.job_of words.now) (λ text. (result ≤ 3 → (result ≡ 0) × Appends (O.written out.old) (O.written out.new) text)) }
+    ensures front { OnMade (words_of.job_of words.now) (λ text. AppendsPrefix (O.written out.old) (O.written out.new) text) }
+    ensures alone { OnMade (words_of.job_of words.now) (λ text. input.new ≡ input.old) }
+
+    // Each other status has its cause, except 5: no clause says when memory runs out.
+    ensures few { starts_node words.now ≡ false → result ≤ 5 }
+    ensures words { result ≡ 2 → words_of.right words.now ≡ false }
+    ensures usage { starts_node words.now ≡ false → words_of.right words.now ≡ false →
+        (result ≡ 2) ⊎ ((result ≡ 4) × Rose (E.faults err.old) (E.faults err.new)) }
+    ensures unused { words_of.right words.now ≡ false → (input.new ≡ input.old) × (out.new ≡ out.old) }
+    ensures read { result ≡ 3 → Rose (I.faults input.old) (I.faults input.new) }
+    // After a failed read the output has what was observed in the lines whose newlines were taken, and none of these is refused.
+    ensures cut_off { result ≡ 3 → IsCutOff (I.left input.old) (I.left input.new) (O.written out.old) (O.written out.new) }
+    ensures write { result ≡ 4 → words_of.HasWriteCause (words_of.right words.now) (O.faults out.old) (O.faults out.new) (E.faults err.old) (E.faults err.new) }
+
+    // The error sink gets the text of the status, all of it unless the sink failed; of a node it is another text.
+    ensures told_prefix { starts_node words.now ≡ false → AppendsPrefix (E.written err.old) (E.written err.new) (complaint (words_of.right words.now) result) }
+    ensures told { starts_node words.now ≡ false →
+        Appends (E.written err.old) (E.written err.new) (complaint (words_of.right words.now) result) ⊎ Rose (E.faults err.old) (E.faults err.new) }
+
+    // The run of which the report tells is safe: every step of it keeps every promise. Old messages change nothing, in any run.
+    ensures safe { IfSome (I.left input.old) (λ bytes. RunsSafely (lines_of bytes)) }
+    ensures promised { IsAllPromised }
+
+    // The words of a node: how its run over the stream ended, what was written of it, and the status and the text of that.
+    ensures node { IfSome (services.node_of (map string_bytes words.now)) (λ id. IsServed id result (L.left link.old) (L.written link.old)
+        (L.written link.new) (C.readings clock.old) (L.Source.faults link.old) (L.Source.faults link.new) (E.written err.old) (E.written err.new)
+        (E.faults err.old) (E.faults err.new)) }
+    // Whole frames over a link that does not fail are all served, unless memory runs out.
+    ensures complete { IfSome (services.node_of (map string_bytes words.now)) (λ id. Completes id result (L.left link.old) (L.written link.old)
+        (L.written link.new) (C.readings clock.old) (L.Source.faults link.old) (L.Source.faults link.new)) }
+    // The link is attached once, at the name.
+    ensures names { IfSome (services.node_of (map string_bytes words.now)) (λ id. IsAttached result (L.attached link.old) (L.attached link.new)
+        (services.name_in (map string_bytes words.now))) }
+    ensures link_still { result ≤ 1 → L.Source.faults link.new ≡ L.Source.faults link.old }
+    ensures others { starts_node words.now ≡ true → (result ≤ 1) ⊎ (4 ≤ result) }
+    ensures link { result ≡ 6 → Rose (L.Source.faults link.old) (L.Source.faults link.new) }
+    ensures known { result ≤ 6 }
+
+    // An object that the words do not use is left as it was.
+    ensures node_alone { starts_node words.now ≡ true → (input.new ≡ input.old) × (out.new ≡ out.old) }
+    ensures replay_alone { starts_node words.now ≡ false → (link.new ≡ link.old) × (clock.new ≡ clock.old) }
+{
+    schedules_run_safely();
+    all_is_promised();
+    match node_of(words) {
+        Some(id) => serve_node(alloc, id, name_of(words), err, link, clock),
+        None => run_words(alloc, words, input, out, err),
     }
 }

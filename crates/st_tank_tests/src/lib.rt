@@ -4,7 +4,13 @@
 #[cfg(test)]
 mod drip;
 #[cfg(test)]
+mod failing;
+#[cfg(test)]
+mod frames;
+#[cfg(test)]
 mod link;
+#[cfg(test)]
+mod node;
 #[cfg(test)]
 mod refusals;
 #[cfg(test)]

@@ -1,7 +1,7 @@
 // Reports of whole schedules, and of those that are refused.
-use crate::running::{dripping, joined, runs, whole};
-use crate::texts::{HEAD, THEFT, THEFT_REPORT, WRITTEN, WRITTEN_REPORT};
-use st_link::{MemorySink, SafeSink, SafeSource};
+use crate::running::{dripping, joined, runs, still, whole, words_of};
+use crate::texts::{HEAD, THEFT, THEFT_REPORT, USAGE, WRITTEN, WRITTEN_REPORT};
+use st_link::{MemoryLink, MemorySink, SafeSink, SafeSource};
 use st_tank::run;
 use std::alloc::{AllocError, Global};
 use std::process::Abort;
@@ -10,9 +10,6 @@ use std::test::Fail;
 const BEGUN: &str = "tank 1 1000 500 700 850 100 50 101 100 2 1 1 8\nend\n";
 
 const NOTHING: &str = "end events 0 sent 0 commands 0 writes 0 reads 0 hard 0 gone 0 stolen 0\n";
-
-pub const USAGE: &str =
-    "usage: tank replay | generate N SEED | work N SEED | node server|client ID NAME\n";
 
 /// Runs the program over a schedule, whole and one byte a call, and asserts its report.
 fn reports(
@@ -198,14 +195,31 @@ fn wrong_words_and_a_failed_read(rt: HostRuntime) -> Result<(), Fail> {
 #[test]
 fn safe_ends(rt: HostRuntime) -> Result<(), Fail> {
     let alloc = rt.alloc();
-    let words = vec![in alloc; String::from_str(alloc, "replay")?]?;
+    let words = words_of(alloc, &["replay"])?;
     let mut input = SafeSource::new(Vec::from_slice(alloc, HEAD.as_bytes())?);
-    assert_eq!(rt;
-        run(alloc, &words, &mut input, &mut SafeSink, &mut SafeSink),
-        1
+    let mut link = MemoryLink::new(alloc, Vec::new(alloc), Vec::new(alloc));
+    let mut clock = still(alloc)?;
+    let status = run(
+        alloc,
+        &words,
+        &mut input,
+        &mut SafeSink,
+        &mut SafeSink,
+        &mut link,
+        &mut clock,
     );
+    assert_eq!(rt; status, 1);
     let none = Vec::new(alloc);
     let mut err = MemorySink::new(alloc, vec![in alloc; 1]?);
-    assert_eq!(rt; run(alloc, &none, &mut input, &mut SafeSink, &mut err), 4);
+    let status = run(
+        alloc,
+        &none,
+        &mut input,
+        &mut SafeSink,
+        &mut err,
+        &mut link,
+        &mut clock,
+    );
+    assert_eq!(rt; status, 4);
     Ok(())
 }

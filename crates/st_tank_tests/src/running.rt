@@ -1,6 +1,8 @@
 // The program over memory.
 use crate::drip::Drip;
-use st_link::{MemorySink, MemorySource, Source};
+use st_base::Stamp;
+use st_clock::MemoryClock;
+use st_link::{MemoryLink, MemorySink, MemorySource, Source};
 use st_tank::run;
 use std::alloc::{AllocError, Global};
 use std::process::Abort;
@@ -13,6 +15,20 @@ pub fn joined(alloc: Global, parts: &[&str]) -> Result<String, AllocError> {
         text.push_str(part)?;
     }
     Ok(text)
+}
+
+/// Words of a call.
+pub fn words_of(alloc: Global, words: &[&str]) -> Result<Vec<String>, AllocError> {
+    let mut all = Vec::new(alloc);
+    for word in words {
+        all.push(String::from_str(alloc, word)?)?;
+    }
+    Ok(all)
+}
+
+/// A clock that always reads 0.
+pub fn still(alloc: Global) -> Result<MemoryClock, AllocError> {
+    Ok(MemoryClock::new(Vec::from_slice(alloc, &[Stamp(0)])?))
 }
 
 /// A schedule in memory; the takes of these numbers fail.
@@ -37,13 +53,14 @@ pub fn runs<I: Source>(
     wanted: (u8, &str, &str),
 ) -> Result<(), Fail> {
     let alloc = rt.alloc();
-    let mut all = Vec::new(alloc);
-    for word in words {
-        all.push(String::from_str(alloc, word)?)?;
-    }
+    let all = words_of(alloc, words)?;
     let mut out = MemorySink::new(alloc, Vec::from_slice(alloc, failing)?);
     let mut err = MemorySink::new(alloc, Vec::new(alloc));
-    let status = run(alloc, &all, input, &mut out, &mut err);
+    let mut link = MemoryLink::new(alloc, Vec::new(alloc), Vec::new(alloc));
+    let mut clock = still(alloc)?;
+    let status = run(
+        alloc, &all, input, &mut out, &mut err, &mut link, &mut clock,
+    );
     assert_eq!(rt; out.as_slice(), wanted.1.as_bytes());
     assert_eq!(rt; err.as_slice(), wanted.2.as_bytes());
     assert_eq!(rt; status, wanted.0);

@@ -1,6 +1,6 @@
 // The words of generated schedules, beside an independent reading.
-use crate::refusals::USAGE;
 use crate::running::{runs, whole};
+use crate::texts::USAGE;
 use std::test::Fail;
 
 /// The last line of the report of a schedule without events.

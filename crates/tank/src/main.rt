@@ -1,8 +1,9 @@
-//! The program `tank`: it hands the standard streams and the words of the command line to the top call, and ends with
+//! The program `tank`: it hands the standard streams, a link, a clock and the words of the command line to the top call, and ends with
 //! its status. `docs/PROTOCOL.md`, "The program".
 #![tactic(auto)]
 
-use st_link::{ReaderSource, WriterSink};
+use st_clock::MonotonicClock;
+use st_link::{ReaderSource, UnixLink, WriterSink};
 use st_tank::run;
 use std::env;
 use std::process::ExitCode;
@@ -26,6 +27,16 @@ fn main(rt: HostRuntime) -> ExitCode {
     let mut input = ReaderSource::new(rt.stdin());
     let mut out = WriterSink::new(rt.stdout());
     let mut err = WriterSink::new(rt.stderr());
-    let status = run(rt.alloc(), &words, &mut input, &mut out, &mut err);
+    let mut link = UnixLink::new(rt);
+    let mut clock = MonotonicClock::new(rt);
+    let status = run(
+        rt.alloc(),
+        &words,
+        &mut input,
+        &mut out,
+        &mut err,
+        &mut link,
+        &mut clock,
+    );
     ExitCode::from(status)
 }

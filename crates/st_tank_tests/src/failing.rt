@@ -1,0 +1,268 @@
+// The program over memory, where calls of the source, the sink, the link and the error sink fail.
+use crate::frames::{GREETING, WELCOME};
+use crate::running::{joined, still, words_of};
+use crate::texts::{HEAD, ONE_SIDED_CUT, ONE_SIDED_CUT_REPORT, USAGE, WRITTEN, WRITTEN_REPORT};
+use st_link::{MemoryLink, MemorySink, MemorySource};
+use st_tank::run;
+use std::alloc::{AllocError, Global};
+use std::process::Abort;
+use std::test::Fail;
+
+/// Of the source, the sink, the link and the error sink, the number of the call that fails; 0 is none.
+#[derive(Clone, Copy)]
+pub struct Failing {
+    pub source: u64,
+    pub sink: u64,
+    pub link: u64,
+    pub err: u64,
+}
+
+/// No call fails.
+pub const NONE: Failing = Failing {
+    source: 0,
+    sink: 0,
+    link: 0,
+    err: 0,
+};
+
+/// What a run is given, and what it leaves where no call fails.
+#[derive(Clone, Copy)]
+pub struct Case<'a> {
+    pub words: &'a [&'a str],
+    pub schedule: &'a [u8],
+    pub frames: &'a [u8],
+    pub status: u8,
+    pub report: &'a str,
+    pub sent: &'a [u8],
+    pub complaint: &'a str,
+}
+
+/// What a run left: its status, its report, what it sent over the link, and its complaint.
+#[derive(Drop)]
+pub struct Left {
+    pub status: u8,
+    out: MemorySink,
+    link: MemoryLink,
+    err: MemorySink,
+}
+
+impl Left {
+    /// Whether the run wrote and sent all that it is to, and complained so.
+    pub fn is_whole(&self, case: &Case<'_>, complaint: &str) -> bool {
+        self.out.as_slice() == case.report.as_bytes()
+            && self.link.as_slice() == case.sent
+            && self.err.as_slice() == complaint.as_bytes()
+    }
+
+    /// Whether the run wrote and sent a front of what it is to, and complained so.
+    pub fn is_front(&self, case: &Case<'_>, complaint: &str) -> bool {
+        case.report.as_bytes().starts_with(self.out.as_slice())
+            && case.sent.starts_with(self.link.as_slice())
+            && self.err.as_slice() == complaint.as_bytes()
+    }
+}
+
+/// Runs the program with these words over this schedule and these frames.
+pub fn run_failing(alloc: Global, case: &Case<'_>, failing: Failing) -> Result<Left, AllocError> {
+    let words = words_of(alloc, case.words)?;
+    let bytes = Vec::from_slice(alloc, case.schedule)?;
+    let mut input = MemorySource::new(bytes, Vec::from_slice(alloc, &[failing.source])?);
+    let mut out = MemorySink::new(alloc, Vec::from_slice(alloc, &[failing.sink])?);
+    let mut err = MemorySink::new(alloc, Vec::from_slice(alloc, &[failing.err])?);
+    let frames = Vec::from_slice(alloc, case.frames)?;
+    let mut link = MemoryLink::new(alloc, frames, Vec::from_slice(alloc, &[failing.link])?);
+    let mut clock = still(alloc)?;
+    let status = run(
+        alloc, &words, &mut input, &mut out, &mut err, &mut link, &mut clock,
+    );
+    Ok(Left {
+        status,
+        out,
+        link,
+        err,
+    })
+}
+
+/// Each of these calls of the source fails in turn.
+fn each_take_fails(
+    rt: &(impl Abort + AllocGlobal),
+    case: &Case<'_>,
+    calls: u64,
+) -> Result<(), Fail> {
+    for call in 1..=calls {
+        let failing = Failing {
+            source: call,
+            ..NONE
+        };
+        let left = run_failing(rt.alloc(), case, failing)?;
+        assert_eq!(rt; left.status, 3, "take {call}");
+        assert!(rt; left.is_front(case, "tank: read failed\n"), "take {call}");
+    }
+    Ok(())
+}
+
+/// Each of these calls of the sink fails in turn.
+fn each_put_fails(
+    rt: &(impl Abort + AllocGlobal),
+    case: &Case<'_>,
+    calls: u64,
+) -> Result<(), Fail> {
+    for call in 1..=calls {
+        let failing = Failing { sink: call, ..NONE };
+        let left = run_failing(rt.alloc(), case, failing)?;
+        assert_eq!(rt; left.status, 4, "put {call}");
+        assert!(rt; left.is_front(case, "tank: write failed\n"), "put {call}");
+    }
+    Ok(())
+}
+
+/// Each of these calls of the link fails in turn.
+fn each_link_call_fails(
+    rt: &(impl Abort + AllocGlobal),
+    case: &Case<'_>,
+    calls: u64,
+) -> Result<(), Fail> {
+    for call in 1..=calls {
+        let failing = Failing { link: call, ..NONE };
+        let left = run_failing(rt.alloc(), case, failing)?;
+        assert_eq!(rt; left.status, 6, "call {call} of the link");
+        assert!(rt;
+            left.is_front(case, "tank: link failed\n"),
+            "call {call} of the link"
+        );
+    }
+    Ok(())
+}
+
+/// Each of these calls of the error sink fails in turn.
+fn each_complaint_fails(
+    rt: &(impl Abort + AllocGlobal),
+    case: &Case<'_>,
+    calls: u64,
+) -> Result<(), Fail> {
+    for call in 1..=calls {
+        let failing = Failing { err: call, ..NONE };
+        let left = run_failing(rt.alloc(), case, failing)?;
+        assert_eq!(rt; left.status, 4, "complaint {call}");
+        assert!(rt; left.is_whole(case, ""), "complaint {call}");
+    }
+    Ok(())
+}
+
+/// The calls are all: one more of each object does not come.
+fn no_more_calls(
+    rt: &(impl Abort + AllocGlobal),
+    case: &Case<'_>,
+    calls: Failing,
+) -> Result<(), Fail> {
+    let failing = Failing {
+        source: calls.source.saturating_add(1),
+        sink: calls.sink.saturating_add(1),
+        link: calls.link.saturating_add(1),
+        err: calls.err.saturating_add(1),
+    };
+    let left = run_failing(rt.alloc(), case, failing)?;
+    assert_eq!(rt; left.status, case.status);
+    assert!(rt; left.is_whole(case, case.complaint));
+    Ok(())
+}
+
+/// A replay, a node, a node whose stream is cut, and wrong words, with how many calls of each object they make.
+#[test]
+fn each_call_fails_in_turn(rt: HostRuntime) -> Result<(), Fail> {
+    let schedule = joined(rt.alloc(), &[HEAD, WRITTEN, ONE_SIDED_CUT])?;
+    let report = joined(rt.alloc(), &[WRITTEN_REPORT, ONE_SIDED_CUT_REPORT])?;
+    let node: &[&str] = &["node", "server", "1", "s1"];
+    let table = [
+        (
+            Case {
+                words: &["replay"],
+                schedule: schedule.as_bytes(),
+                frames: GREETING,
+                status: 0,
+                report: report.as_str(),
+                sent: b"",
+                complaint: "",
+            },
+            Failing {
+                source: 2,
+                sink: 19,
+                ..NONE
+            },
+        ),
+        (
+            Case {
+                words: node,
+                schedule: HEAD.as_bytes(),
+                frames: GREETING,
+                status: 0,
+                report: "",
+                sent: WELCOME,
+                complaint: "",
+            },
+            Failing { link: 4, ..NONE },
+        ),
+        (
+            Case {
+                words: node,
+                schedule: HEAD.as_bytes(),
+                frames: &GREETING[..41],
+                status: 1,
+                report: "",
+                sent: b"",
+                complaint: "tank: frame cut at 0\n",
+            },
+            Failing {
+                link: 3,
+                err: 1,
+                ..NONE
+            },
+        ),
+        (
+            Case {
+                words: &["node"],
+                schedule: HEAD.as_bytes(),
+                frames: GREETING,
+                status: 2,
+                report: "",
+                sent: b"",
+                complaint: USAGE,
+            },
+            Failing { err: 1, ..NONE },
+        ),
+    ];
+    for (case, calls) in &table {
+        each_take_fails(&rt, case, calls.source)?;
+        each_put_fails(&rt, case, calls.sink)?;
+        each_link_call_fails(&rt, case, calls.link)?;
+        each_complaint_fails(&rt, case, calls.err)?;
+        no_more_calls(&rt, case, *calls)?;
+    }
+    Ok(())
+}
+
+/// A schedule that is cut is refused, unless the cut takes only the last newline.
+#[test]
+fn a_schedule_is_cut_at_each_place(rt: HostRuntime) -> Result<(), Fail> {
+    let schedule = joined(rt.alloc(), &[HEAD, WRITTEN, ONE_SIDED_CUT])?;
+    let report = joined(rt.alloc(), &[WRITTEN_REPORT, ONE_SIDED_CUT_REPORT])?;
+    for at in 0..schedule.len() {
+        let case = Case {
+            words: &["replay"],
+            schedule: &schedule.as_bytes()[..at],
+            frames: b"",
+            status: 1,
+            report: report.as_str(),
+            sent: b"",
+            complaint: "",
+        };
+        let left = run_failing(rt.alloc(), &case, NONE)?;
+        if at.saturating_add(1) == schedule.len() {
+            assert_eq!(rt; left.status, 0);
+            assert!(rt; left.is_whole(&case, ""));
+        } else {
+            assert_eq!(rt; left.status, 1, "cut at {at}");
+        }
+    }
+    Ok(())
+}
