@@ -3,30 +3,37 @@
 #![tactic(auto)]
 
 use st_clock::MonotonicClock;
-use st_link::{ReaderSource, UnixLink, WriterSink};
+use st_link::{ReaderSource, UnixLink, WriterSink, put_all};
 use st_tank::run;
+use std::alloc::AllocError;
 use std::env;
+use std::io::ErrorKind;
 use std::process::ExitCode;
 use std::rt::Env;
 
 /// The words behind the program's name; where one of them is no text, there are none, and none are wrong words.
-fn words(rt: &(impl Env + AllocGlobal)) -> Vec<String> {
+fn words(rt: &(impl Env + AllocGlobal)) -> Result<Vec<String>, AllocError> {
     let mut words = Vec::new(rt.alloc());
-    if let Ok(args) = env::args(rt) {
-        for word in args.skip(1) {
-            if words.push(word).is_err() {
-                return Vec::new(rt.alloc());
+    match env::args(rt) {
+        Ok(args) => {
+            for word in args.skip(1) {
+                words.push(word)?;
             }
+            Ok(words)
         }
+        Err(e) if e.kind() == ErrorKind::OutOfMemory => Err(AllocError),
+        Err(_) => Ok(words),
     }
-    words
 }
 
 fn main(rt: HostRuntime) -> ExitCode {
-    let words = words(&rt);
+    let mut err = WriterSink::new(rt.stderr());
+    let Ok(words) = words(&rt) else {
+        let _ = put_all(&mut err, b"tank: out of memory\n");
+        return ExitCode::from(5);
+    };
     let mut input = ReaderSource::new(rt.stdin());
     let mut out = WriterSink::new(rt.stdout());
-    let mut err = WriterSink::new(rt.stderr());
     let mut link = UnixLink::new(rt);
     let mut clock = MonotonicClock::new(rt);
     let status = run(
