@@ -215,7 +215,7 @@ fn each_call_fails_in_turn(rt: HostRuntime) -> Result<(), Fail> {
     };
     let calls = Failing {
         source: 2,
-        sink: 19,
+        sink: 2,
         ..NONE
     };
     each_fails(&rt, &replay, calls)?;
