@@ -1,4 +1,4 @@
-ghost use Rattle.std.specs.Prelude.{◌≡◌, true, false, IfOk, map};
+ghost use Rattle.std.specs.Prelude.{◌≡◌, true, false, IfOk, OnOk, map};
 ghost use Rattle.std.specs.List.{list_all};
 ghost use Rattle.st_client.specs.Idle.{IsIdle};
 ghost use Rattle.st_client.specs.Machines.{Goes, IsIn};
@@ -80,14 +80,13 @@ impl Machine {
     }
 
     /// An association where nothing is done goes last.
-    fn passed_by(self, a: Held) -> Result<Machine, AllocError>
-        requires one { IsIn self.state.id self.state.config self.state.next_command self.out a }
-        ensures run { IfOk result (λ m. m ≡ client.leave self (client.enter self a.here)) }
-        ensures goes { IfOk result (λ m. Goes self m) }
+    fn pass_by(&mut self, a: Held) -> Result<(), AllocError>
+        requires one { IsIn self.old.state.id self.old.state.config self.old.state.next_command self.old.out a }
+        ensures run { OnOk result (self.new ≡ client.leave self.old (client.enter self.old a.here)) }
+        ensures goes { OnOk result (Goes self.old self.new) }
     {
-        let mut machine = self;
-        machine.associations.push_back(a)?;
-        Ok(machine)
+        self.associations.push_back(a)?;
+        Ok(())
     }
 
     /// Whether a rule may do anything at an association.
@@ -104,16 +103,31 @@ impl Machine {
         ensures run { IfOk result (λ m. m ≡ client.leave self (R.run rule.now (client.enter self a.here))) }
         ensures goes { IfOk result (λ m. Goes self m) }
     {
-        if self.is_touched(rule, &a) {
-            self.at_one(rule, a)
+        let mut machine = self;
+        if machine.is_touched(rule, &a) {
+            machine.at_one(rule, a)
         } else {
-            self.passed_by(a)
+            machine.pass_by(a)?;
+            Ok(machine)
         }
     }
 
-    /// A rule at each association, in order.
+    /// Whether a rule may do anything at any association.
+    #[tactic(auto, unfolding(st_rules::specs::ClientState::at_each))]
+    fn is_touched_somewhere<R: Rule>(&self, rule: &R) -> bool
+        ensures { result ≡ false → client.at_each (R.run rule.now) self.now ≡ self.now }
+    {
+        for a in self.associations.iter() {
+            if self.is_touched(rule, a) {
+                return true;
+            }
+        }
+        false
+    }
+
+    /// A rule at each association, in order, where it does anything at one.
     #[tactic(auto, unfolding(st_rules::specs::ClientState::at_each, st_rules::specs::ClientState::at_these))]
-    pub(crate) fn at_each<R: Rule>(self, rule: &R) -> Result<Machine, AllocError>
+    fn at_all<R: Rule>(self, rule: &R) -> Result<Machine, AllocError>
         requires { list_all (R.is_ready rule.now self.state.config) self.state.associations ≡ true }
         ensures { IfOk result (λ m. m ≡ client.at_each (R.run rule.now) self) }
     {
@@ -140,5 +154,17 @@ impl Machine {
             machine = machine.at_next(rule, a)?;
         }
         Ok(machine)
+    }
+
+    /// A rule at each association, in order.
+    pub(crate) fn at_each<R: Rule>(self, rule: &R) -> Result<Machine, AllocError>
+        requires { list_all (R.is_ready rule.now self.state.config) self.state.associations ≡ true }
+        ensures { IfOk result (λ m. m ≡ client.at_each (R.run rule.now) self) }
+    {
+        if self.is_touched_somewhere(rule) {
+            self.at_all(rule)
+        } else {
+            Ok(self)
+        }
     }
 }

@@ -1,5 +1,5 @@
 use Rattle.st_client.proofs.Growing.{in_goes, ready_goes, run_goes}
-use Rattle.st_client.proofs.machine.Machine.at_each.Goals as goal
+use Rattle.st_client.proofs.machine.Machine.at_all.Goals as goal
 
 pub loop-a-preserved : goal.loop-a-preserved
 loop-a-preserved g c =

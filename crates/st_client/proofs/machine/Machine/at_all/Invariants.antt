@@ -2,7 +2,7 @@ use Rattle.std.proofs.Common.{◌≡◌, length, map, true}
 use Rattle.std.specs.List.{list_all}
 use Rattle.st_client.specs.Machines.{AreIn, here_of}
 use Rattle.st_rules.specs.ClientState.{at_each, at_these}
-use Rattle.st_client.proofs.machine.Machine.at_each.Given as goal
+use Rattle.st_client.proofs.machine.Machine.at_all.Given as goal
 
 abbrev pub invariant-loop-a : goal.invariant-loop-a
 invariant-loop-a g l = record {
