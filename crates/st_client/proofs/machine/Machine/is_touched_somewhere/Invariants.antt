@@ -8,6 +8,6 @@ abbrev pub invariant-loop-a : goal.invariant-loop-a
 invariant-loop-a g l = record {
   idle :
       AreIdle (g.R.Rule.run l.rule) l.self.state.config l.self.state.operations (map here_of (deque_iter_rest l.a-iterator)) →
-          AreIdle (g.R.Rule.run l.rule) l.self.state.config l.self.state.operations l.self.state.associations;
+      AreIdle (g.R.Rule.run l.rule) l.self.state.config l.self.state.operations l.self.state.associations;
   each : AreIn l.self.state.id l.self.state.config l.self.state.next_command l.self.out (deque_iter_rest l.a-iterator);
 }
