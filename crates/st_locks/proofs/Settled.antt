@@ -1,8 +1,9 @@
 -- What passes settle, and what a change of one file leaves of the others.
-use Rattle.std.proofs.Common.{◌≡◌, ℕ, zero, suc, ◌≤◌, ◌⊎◌, Bool, true, false, cond, if◌then◌else◌, List, [], ◌∷◌, ◌++◌, map, filter, length, refl, sym, ap, subst, ◌∙◌, ⊎_elim, inl, inr, true≢false, arith}
+use Rattle.std.proofs.Common.{◌≡◌, ℕ, zero, suc, ◌+◌, ◌<◌, ◌≤◌, drop, get_or, ◌⊎◌, Bool, true, false, cond, if◌then◌else◌, List, [], ◌∷◌, ◌++◌, map, filter, length, refl, sym, ap, subst, ◌∙◌, ⊎_elim, inl, inr, true≢false, arith}
 use Rattle.std.specs.Prelude.{Result, Ok, Err, find, not, Option, Some, None, ◌==◌, ◌&&◌, ◌||◌}
 use Rattle.std.specs.List.{list_any}
 use Rattle.std.proofs.lemmas.Bool.{cases_Bool, and_parts, eqb-true}
+use Rattle.std.proofs.lemmas.List.{drop_more}
 use Rattle.st_base.specs.declared.ids.ClientId.{ClientId}
 use Rattle.st_base.specs.declared.ids.Life.{Life}
 use Rattle.st_base.specs.declared.mode.Mode.{Mode}
@@ -17,10 +18,10 @@ use Rattle.st_locks.specs.Calls.{Answers, acquired}
 use Rattle.st_rules.specs.declared.locks.LockRow.{LockRow}
 use Rattle.st_rules.specs.declared.locks.Waiter.{Waiter}
 use Rattle.st_rules.specs.Keys.{put, same_client}
-use Rattle.st_rules.specs.Locks.{Locks, Acquired, Granting, is_among, wish, acquire, acquire_at, acquire_granted, acquire_held, acquire_more, acquire_new, acquire_over, acquire_queued, answered_row, demand_seen, drop_file_waits, grant, grantable, grant_and, grant_file, grant_files, grant_waiter, has_place, ino_of_wait, is_row_of, is_row_on, is_under, is_wait_of, is_wait_on, lower, lowered, may_grant, new_row, new_wait, next_grants, next_waiter, not_released, nothing_granted, queue, queue_at, release, release_to, released, released_at, row_of, stands_against, wait_for, wait_of, waited_files}
+use Rattle.st_rules.specs.Locks.{Locks, Acquired, Granting, is_among, wish, acquire, acquire_at, acquire_granted, acquire_held, acquire_more, acquire_new, acquire_over, acquire_queued, answered_row, demand_seen, drop_file_waits, drop_waits, first_conflict, forget, grant, grantable, grant_and, grant_file, grant_files, grant_waiter, has_place, ino_of_wait, install, install_at, installed, is_row_by, is_row_of, is_row_on, is_under, is_wait_by, is_wait_of, is_wait_on, lower, lowered, may_grant, new_row, new_wait, next_grants, next_waiter, not_released, nothing_granted, queue, queue_at, release, release_to, released, released_at, row_of, stands_against, wait_for, wait_of, waited_files, with_rows}
 use Rattle.st_tables.proofs.RisingKeys.{has, has_rising}
 use Rattle.st_rules.specs.declared.locks.RowDemand.{RowDemand}
-use Rattle.st_locks.specs.Settled.{EachInWay, IsSettled, Marked, Marks, Moments, is_in_way, is_low, is_marked, is_timed}
+use Rattle.st_locks.specs.Settled.{EachInWay, IsSettled, Marked, Marks, MarksRows, Moments, is_in_way, is_low, is_marked, is_timed}
 use Rattle.st_locks.proofs.Grants.{grantable_found, length_without, same_wait}
 
 -- Lists, and the part of them that is of one file.
@@ -241,13 +242,33 @@ marked_itself ino g t j e = (e, by (ino == j) (λ s. true≢false (sym t ∙ ap 
     by true h = absurd (h refl)
     by false h = refl
 
--- a change of one file that was marked leaves a table settled
-pub kept : (l m : Locks) (ino : ℕ) (g d h k : Marked) (ms : Moments) (cs : List ClientId) → IsSettled l g d ms cs → ((j : ℕ) → (ino == j) ≡ false → SameOn j l m) → Marks ino g h → Marks ino d k → IsSettled m h k ms cs
-kept l m ino g d h k ms cs s f a b = record {
+-- a change of files that were marked leaves a table settled
+kept_by : (Apart : ℕ → Type 0) (l m : Locks) (g d h k : Marked) (ms : Moments) (cs : List ClientId) → IsSettled l g d ms cs → ((j : ℕ) → Apart j → SameOn j l m)
+    → ((j : ℕ) → is_marked h j ≡ false → (is_marked g j ≡ false) × Apart j) → ((j : ℕ) → is_marked k j ≡ false → (is_marked d j ≡ false) × Apart j) → IsSettled m h k ms cs
+kept_by Apart l m g d h k ms cs s f a b = record {
   granted = λ j e. next_same j l m (f j (a j e).1) ∙ s.granted j (a j e).0;
   demanded = λ j e. each_same (λ w o. is_low (wish w.mode) o) j l m cs (f j (b j e).1) (s.demanded j (b j e).0);
   timed = λ j e. each_same (λ w o. is_timed ms j o) j l m cs (f j (b j e).1) (s.timed j (b j e).0);
 }
+
+-- so does a change of one file that was marked
+pub kept : (l m : Locks) (ino : ℕ) (g d h k : Marked) (ms : Moments) (cs : List ClientId) → IsSettled l g d ms cs → ((j : ℕ) → (ino == j) ≡ false → SameOn j l m) → Marks ino g h → Marks ino d k → IsSettled m h k ms cs
+kept l m ino g d h k ms cs s f a b = kept_by (λ j. (ino == j) ≡ false) l m g d h k ms cs s f a b
+
+-- so does a change of the files of these rows, which were marked
+pub kept_rows : (l m : Locks) (rows : List (ℕ × GrantNo × Mode)) (g d h k : Marked) (ms : Moments) (cs : List ClientId) → IsSettled l g d ms cs
+    → ((j : ℕ) → list_any (λ r. r.0 == j) rows ≡ false → SameOn j l m) → MarksRows rows g h → MarksRows rows d k → IsSettled m h k ms cs
+kept_rows l m rows g d h k ms cs s f a b = kept_by (λ j. list_any (λ r. r.0 == j) rows ≡ false) l m g d h k ms cs s f a b
+
+-- one row's file more is marked
+pub marks_step : (rows : List (ℕ × GrantNo × Mode)) (i : ℕ) (d : ℕ × GrantNo × Mode) (old was new : Marked) → i < length rows
+    → ((j : ℕ) → is_marked was j ≡ false → (is_marked old j ≡ false) × (list_any (λ r. r.0 == j) (drop i rows) ≡ false → list_any (λ r. r.0 == j) rows ≡ false))
+    → Marks (get_or rows i d).0 was new
+    → (j : ℕ) → is_marked new j ≡ false → (is_marked old j ≡ false) × (list_any (λ r. r.0 == j) (drop (i + 1) rows) ≡ false → list_any (λ r. r.0 == j) rows ≡ false)
+marks_step rows i d old was new n h t j e =
+    let a = t j e in
+    let o = h j a.0 in
+    (o.0, λ b. o.1 (ap (list_any (λ r. r.0 == j)) (drop_more rows i d n) ∙ (λ z. a.1 z || b z)))
 
 -- Changes of one file.
 
@@ -332,6 +353,62 @@ module _ (l : Locks) (c : ClientId) (ino j : ℕ) (n : (ino == j) ≡ false) whe
 pub same_dropped : (l : Locks) (ino j : ℕ) → (ino == j) ≡ false → SameOn j l (drop_file_waits l ino)
 unfolding drop_file_waits
 same_dropped l ino j n = record { rows = refl; waits = filter_apart (is_wait_on j) (λ w. not (is_wait_on ino w)) (λ w e. other_file w.ino ino j (no_not (is_wait_on ino w) e) n) l.waiters }
+
+-- Rows that are installed.
+
+module _ {A : Type 0} (o : A → Bool) where
+  none_step : (x : A) (xs : List A) (b : Bool) → o x ≡ b → b || list_any o xs ≡ false → (list_any o xs ≡ false → filter o xs ≡ []) → cond b (x ∷ filter o xs) (filter o xs) ≡ []
+  none_step x xs true q e h = absurd (true≢false e)
+  none_step x xs false q e h = h e
+
+  none_left : (xs : List A) → list_any o xs ≡ false → filter o xs ≡ []
+  none_left [] e = refl
+  none_left (x ∷ xs) e = none_step x xs (o x) refl e (none_left xs)
+
+  more_apart : (ys : List A) → list_any o ys ≡ false → (xs : List A) → filter o (xs ++ ys) ≡ filter o xs
+  more_apart ys e [] = none_left ys e
+  more_apart ys e (x ∷ xs) = ap (λ zs. cond (o x) (x ∷ zs) zs) (more_apart ys e xs)
+
+module _ (c : ClientId) (life : Life) (j : ℕ) where
+  any_installed : (rows : List (ℕ × GrantNo × Mode)) → list_any (is_row_on j) (map (installed c life) rows) ≡ list_any (λ r. r.0 == j) rows
+  any_installed [] = refl
+  any_installed (r ∷ rows) = ap (λ z. (r.0 == j) || z) (any_installed rows)
+
+  module _ (l m : Locks) (rows : List (ℕ × GrantNo × Mode)) (n : list_any (λ r. r.0 == j) rows ≡ false) where
+    same_with_rows : SameOn j l (with_rows l c life rows)
+    unfolding with_rows
+    same_with_rows = record { rows = more_apart (is_row_on j) (map (installed c life) rows) (any_installed rows ∙ n) l.rows; waits = refl }
+
+    install_by : (o : Option (ℕ × ClientId)) → install_at l c life rows o ≡ Ok m → SameOn j l m
+    unfolding install_at
+    install_by None e = let z : with_rows l c life rows ≡ m = cc in subst (SameOn j l) z same_with_rows
+    install_by (Some x) e = cc
+
+    -- rows that are installed are on their files alone
+    pub same_install : install l c life rows ≡ Ok m → SameOn j l m
+    unfolding install
+    same_install e = install_by (first_conflict l c rows) e
+
+-- What a client has none of.
+
+module _ {A : Type 0} (p : A → Bool) where
+  all_step : (x : A) (xs : List A) (b : Bool) → length (cond b (x ∷ filter p xs) (filter p xs)) ≡ 0 → (length (filter p xs) ≡ 0 → filter (λ y. not (p y)) xs ≡ xs)
+      → cond (not b) (x ∷ filter (λ y. not (p y)) xs) (filter (λ y. not (p y)) xs) ≡ x ∷ xs
+  all_step x xs true e h = absurd (omega (arith, e))
+  all_step x xs false e h = ap (λ ys. x ∷ ys) (h e)
+
+  -- where none passes, all that do not pass are all
+  pub all_left : (xs : List A) → length (filter p xs) ≡ 0 → filter (λ x. not (p x)) xs ≡ xs
+  all_left [] e = refl
+  all_left (x ∷ xs) e = all_step x xs (p x) e (all_left xs)
+
+pub none_dropped : (l : Locks) (c : ClientId) → length (filter (is_wait_by c) l.waiters) ≡ 0 → drop_waits l c ≡ l
+unfolding drop_waits
+none_dropped l c e = ap (λ ws. record l { waiters = ws }) (all_left (is_wait_by c) l.waiters e)
+
+pub none_forgotten : (l : Locks) (c : ClientId) → length (filter (is_row_by c) l.rows) ≡ 0 → length (filter (is_wait_by c) l.waiters) ≡ 0 → forget l c ≡ l
+unfolding forget
+none_forgotten l c a b = λ i. record l { rows = all_left (is_row_by c) l.rows a i; waiters = all_left (is_wait_by c) l.waiters b i }
 
 -- where the first waiter may not be granted, a pass over the file does nothing
 pub idle_grants : (i n : ℕ) (p : Granting) → next_waiter p.locks i ≡ None → grant_file i n p ≡ p

@@ -6,6 +6,7 @@ use Rattle.std.specs.Ordering.{nat_cmp, ordering_then}
 use Rattle.st_base.specs.declared.config.Config.{Config}
 use Rattle.st_base.specs.declared.ids.Stamp.{Stamp}
 use Rattle.st_base.specs.declared.ids.ClientId.{ClientId}
+use Rattle.st_base.specs.declared.ids.GrantNo.{GrantNo}
 use Rattle.st_base.specs.declared.mode.Mode.{Mode}
 use Rattle.st_rules.specs.declared.locks.LockRow.{LockRow}
 use Rattle.st_rules.specs.declared.locks.RowDemand.{RowDemand}
@@ -25,6 +26,10 @@ is_marked m ino = m.all || list_any (λ k. k == ino) m.files
 -- one file is marked too; others may be
 abbrev pub Marks : ℕ → Marked → Marked → Type 0
 Marks ino old new = (j : ℕ) → is_marked new j ≡ false → (is_marked old j ≡ false) × ((ino == j) ≡ false)
+
+-- the files of these rows are marked too; others may be
+abbrev pub MarksRows : List (ℕ × GrantNo × Mode) → Marked → Marked → Type 0
+MarksRows rows old new = (j : ℕ) → is_marked new j ≡ false → (is_marked old j ≡ false) × (list_any (λ r. r.0 == j) rows ≡ false)
 
 -- no file is marked
 abbrev pub IsClear : Marked → Type 0

@@ -173,27 +173,43 @@ impl LockTable {
         requires earlier { list_all (is_old_row self.old.epoch) rows.now ≡ true }
         ensures { Installs self.old self.new result (locks.install self.old client life rows.now) }
     {
-        self.parts.granting.touch_all();
-        self.parts.demanding.touch_all();
-        self.parts.table.install(client, life, rows)
+        self.parts.granting.reserve(rows.len())?;
+        self.parts.demanding.reserve(rows.len())?;
+        match self.parts.table.install(client, life, rows) {
+            Ok(()) => {
+                self.parts.granting.touch_rows(rows);
+                self.parts.demanding.touch_rows(rows);
+                Ok(())
+            }
+            Err(LockRefusal::Conflict(ino, holder)) => Err(LockRefusal::Conflict(ino, holder)),
+            Err(_) => {
+                self.parts.granting.touch_all();
+                self.parts.demanding.touch_all();
+                Err(LockRefusal::Memory)
+            }
+        }
     }
 
-    /// All rows and waits of the client go.
+    /// All rows and waits of the client go. Where it has none, no file is touched.
     pub fn forget(&mut self, client: ClientId)
         ensures { self.new ≡ locks.forget self.old client }
     {
-        self.parts.granting.touch_all();
-        self.parts.demanding.touch_all();
-        self.parts.table.forget(client);
+        if self.parts.table.has_any(client) {
+            self.parts.granting.touch_all();
+            self.parts.demanding.touch_all();
+            self.parts.table.forget(client);
+        }
     }
 
-    /// All waits of the client go.
+    /// All waits of the client go. Where it has none, no file is touched.
     pub fn drop_waits(&mut self, client: ClientId)
         ensures { self.new ≡ locks.drop_waits self.old client }
     {
-        self.parts.granting.touch_all();
-        self.parts.demanding.touch_all();
-        self.parts.table.drop_waits(client);
+        if self.parts.table.has_waits(client) {
+            self.parts.granting.touch_all();
+            self.parts.demanding.touch_all();
+            self.parts.table.drop_waits(client);
+        }
     }
 
     /// All waits for the file go.

@@ -1,5 +1,6 @@
 // What takes locks and waits away, and the answer to a demand.
 ghost use Rattle.std.specs.Prelude.{◌≡◌, ◌≤◌, ◌<◌, ◌+◌, ◌^◌, ◌++◌, ◌∷◌, ◌&&◌, [], IfOk, IfSome, OnOk, OnErr, Some, find, filter, map, not, length, slice_get, None, false, nat_lt, nat_le, ◌==◌, if◌then◌else◌};
+ghost use Rattle.std.specs.Bool.{OnFalse};
 ghost use Rattle.std.specs.List.{IsDistinct, list_any};
 ghost use Rattle.std.specs.Option.{option_copied, option_map, option_to_list};
 ghost use Rattle.st_rules.specs.Keys as keys;
@@ -81,6 +82,22 @@ fn seen(row: LockRow) -> LockRow
 }
 
 impl PlainTable {
+    /// Whether the client waits for a file; where it does not, dropping its waits changes nothing.
+    #[tactic(auto, unfolding(st_rules::specs::Locks::drop_waits))]
+    pub fn has_waits(&self, client: ClientId) -> bool
+        ensures { OnFalse result (locks.drop_waits self.now client ≡ self.now) }
+    {
+        self.waits.count(client) > 0
+    }
+
+    /// Whether the client has a row or a wait; where it has none, forgetting it changes nothing.
+    #[tactic(auto, unfolding(st_rules::specs::Locks::forget))]
+    pub fn has_any(&self, client: ClientId) -> bool
+        ensures { OnFalse result (locks.forget self.now client ≡ self.now) }
+    {
+        self.rows.count(client) > 0 || self.waits.count(client) > 0
+    }
+
     /// All rows and waits of the client go.
     #[tactic(auto, unfolding(st_rules::specs::Locks::forget))]
     pub fn forget(&mut self, client: ClientId)

@@ -2,8 +2,9 @@
 ghost use Rattle.std.specs.Prelude.{◌≡◌, ◌==◌, ◌<◌, ◌-◌, ℕ, IfOk, false};
 ghost use Rattle.std.specs.List.{list_any};
 ghost use Rattle.st_rules.specs.Keys as keys;
-ghost use Rattle.st_locks.specs.Settled.{IsClear, IsFull, Marks, is_marked};
+ghost use Rattle.st_locks.specs.Settled.{IsClear, IsFull, Marks, MarksRows, is_marked};
 
+use st_base::{GrantNo, Mode};
 use st_tables::put_key;
 use std::alloc::{AllocError, Global};
 use std::marker::Model;
@@ -93,6 +94,15 @@ impl Touched {
     {
         if !self.has(ino) {
             self.keep(ino);
+        }
+    }
+
+    /// The files of these rows were touched.
+    pub fn touch_rows(&mut self, rows: &[(u32, GrantNo, Mode)])
+        ensures { MarksRows rows.now self.old self.new }
+    {
+        for row in rows {
+            self.touch(row.0);
         }
     }
 
