@@ -239,7 +239,7 @@ def acquire(node, client, life, ino, mode, grants):
 
 
 def fill(node, client, first, count):
-    """Locks, shared, of so many files."""
+    """Shared locks of this number of files."""
     return "done" if all(acquire(node, client, 1, first + i, 1, True).startswith("granted") for i in range(count)) else "stopped"
 
 
