@@ -31,7 +31,7 @@ fn put_next(
 {
     let event = choose(draws, &*world, alloc)?;
     put_event(alloc, text, &event)?;
-    run_event(world, event)
+    run_event(world, &event)
 }
 
 /// Chooses the next event, appends its line and runs it, and writes the text where it is long.

@@ -50,15 +50,15 @@ pub(crate) fn fresh(alloc: Global) -> Result<World, AllocError>
 }
 
 /// Runs an event that is admissible.
-pub(crate) fn run_event(world: &mut World, event: Event) -> Result<(), AllocError>
-    requires event { is_event (length world.old.clocks) event ≡ true }
+pub(crate) fn run_event(world: &mut World, event: &Event) -> Result<(), AllocError>
+    requires event { is_event (length world.old.clocks) event.now ≡ true }
     requires room { world.old.tally.events < 2 ^ 29 }
-    requires admissible { refusal world.old event ≡ None }
-    ensures leads { OnOk result (Leads world.old event world.new) }
+    requires admissible { refusal world.old event.now ≡ None }
+    ensures leads { OnOk result (Leads world.old event.now world.new) }
     ensures events { OnOk result (world.new.tally.events ≡ world.old.tally.events + 1) }
     ensures clocks { OnOk result (length world.new.clocks ≡ length world.old.clocks) }
 {
-    match world.step(event) {
+    match world.run(event) {
         Ok(_seen) => Ok(()),
         Err(WorldFault::Refused(_)) => unreachable!(),
         Err(WorldFault::Memory) => Err(AllocError),
@@ -74,5 +74,5 @@ pub(crate) fn advance(alloc: Global, world: &mut World, draws: &mut Draws) -> Re
     ensures events { OnOk result (world.new.tally.events ≡ world.old.tally.events + 1) }
 {
     let event = choose(draws, &*world, alloc)?;
-    run_event(world, event)
+    run_event(world, &event)
 }

@@ -1,6 +1,6 @@
 -- What a step of the world counts, and what it leaves in number.
 use Rattle.std.proofs.Common.{◌≡◌, true, List, length, refl, sym, ap, ◌∙◌}
-use Rattle.std.specs.Prelude.{Option, Some, None, Ok}
+use Rattle.std.specs.Prelude.{Option, Some, None, Result, Ok, Err, IfOk, OnErr}
 use Rattle.st_messages.specs.declared.event.Event.{Event}
 use Rattle.st_rules.specs.declared.observation.Observation.{Observation}
 use Rattle.st_rules.specs.declared.observation.WorldRefusal.{WorldRefusal}
@@ -9,7 +9,10 @@ use Rattle.st_rules.specs.Events.{Scene, counted, happens, scene, world_by, worl
 use Rattle.st_rules.specs.Safety.{is_event}
 use Rattle.st_rules.specs.World.{World}
 use Rattle.st_world.specs.Shaping.{SameShape}
+use Rattle.st_world.specs.Steps.{StepsAs}
 use Rattle.st_world.specs.Timed.{IsLaid}
+use Rattle.st_world.specs.declared.fault.WorldFault.{WorldFault}
+use Rattle.st_world.specs.declared.fault.WorldFault.TheVariants.{Refused, Memory}
 use Rattle.st_world.proofs.Admitted.{timed_any}
 use Rattle.st_world.proofs.Shapes.{happens_shape}
 
@@ -35,3 +38,11 @@ pub stepped : (w new : World) (e : Event) (seen : List Observation) → IsLaid w
 unfolding world_step
 stepped w new e seen l i h =
     by w e (refusal w e) new seen (happens_shape (counted w) e (λ steps q. let t = timed_any w e l i steps q in (t.nodes ∙ l.drift, t.nodes))) h
+
+-- a step of an event that is not refused
+pub admitted_steps : {V : Type 0} (seen : V → List Observation) (w new : World) (e : Event) (r : Result V WorldFault) → refusal w e ≡ None →
+    IfOk r (λ v. happens (counted w) e ≡ scene new (seen v)) → OnErr r (r ≡ Err Memory) → StepsAs seen w new r (world_step w e)
+unfolding world_step world_by
+admitted_steps seen w new e (Ok v) a h m = ap (world_by w e) a ∙ ap Ok h
+admitted_steps seen w new e (Err (Refused f)) a h m = absurd (cc)
+admitted_steps seen w new e (Err Memory) a h m = tt

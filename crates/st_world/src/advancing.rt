@@ -43,7 +43,7 @@ impl Machine {
         requires steps { list_all is_step steps.now ≡ true }
         ensures { IfOk result (λ found. found.items ≡ events.lives_reached self.now.world steps.now) }
     {
-        let mut present = Vec::new(self.alloc);
+        let mut present = Vec::with_capacity(self.alloc, 16)?;
         push_present(&self.clients, &mut present)?;
         let mut found = Vec::new(self.alloc);
         self.lives

@@ -64,7 +64,8 @@ impl Machine {
             return Err(AllocError);
         }
         let op = raise_asks(&mut self.clients, i);
-        self.client_take_at(client, i, ClientInput::App { op, ask })
+        let mut input = ClientInput::App { op, ask };
+        self.client_take_at(client, i, &mut input)
     }
     /// A client, which runs, is asked.
     #[tactic(auto, unfolding(st_rules::specs::Events::asks_at))]

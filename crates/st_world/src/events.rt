@@ -51,7 +51,7 @@ fn is_same_at(clients: &[Site], i: usize, command: &IssuedCommand) -> bool
 impl Machine {
     /// A client takes an input.
     #[tactic(auto, unfolding(st_rules::specs::Events::at_client))]
-    fn client_take(&mut self, client: ClientId, input: ClientInput) -> Result<(), AllocError>
+    fn client_take(&mut self, client: ClientId, mut input: ClientInput) -> Result<(), AllocError>
         requires begins { self.old.seen ≡ [] }
         requires ready { IsReady self.old.world }
         requires fits { comes_fit input ≡ true }
@@ -59,7 +59,7 @@ impl Machine {
     {
         match index_of(client.0, self.clients.len()) {
             None => Ok(()),
-            Some(i) => self.client_take_at(client, i, input),
+            Some(i) => self.client_take_at(client, i, &mut input),
         }
     }
 
@@ -136,14 +136,11 @@ impl Machine {
     {
         if is_same_at(&self.clients, i, &command) {
             let result = self.commands.result(k, ok)?;
-            self.client_take_at(
-                command.client,
-                i,
-                ClientInput::Done {
-                    command: command.number,
-                    result,
-                },
-            )
+            let mut input = ClientInput::Done {
+                command: command.number,
+                result,
+            };
+            self.client_take_at(command.client, i, &mut input)
         } else {
             Ok(())
         }

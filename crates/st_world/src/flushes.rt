@@ -49,7 +49,10 @@ fn in_flush(end: Option<Stamp>, phase: Option<Phase>) -> Option<Stamp>
 fn flush_end(node: &ClientNode, server: ServerId, clock: Stamp) -> Option<Stamp>
     ensures { result ≡ flush_end node.now.state server clock }
 {
-    in_flush(node.lease_end(server), node.phase(server, clock))
+    match node.lease_end(server) {
+        None => None,
+        Some(end) => in_flush(Some(end), node.phase(server, clock)),
+    }
 }
 
 fn put_end(

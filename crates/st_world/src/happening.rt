@@ -59,30 +59,30 @@ impl Machine {
 
     /// An event happens.
     #[tactic(auto, unfolding(st_rules::specs::Events::happens))]
-    pub(crate) fn happen(&mut self, event: Event) -> Result<(), AllocError>
+    pub(crate) fn happen(&mut self, event: &Event) -> Result<(), AllocError>
         requires begins { self.old.seen ≡ [] }
         requires ready { IsReady self.old.world }
-        requires met { IsMet self.old.world event }
-        ensures { OnOk result (self.new ≡ events.happens self.old.world event) }
+        requires met { IsMet self.old.world event.now }
+        ensures { OnOk result (self.new ≡ events.happens self.old.world event.now) }
     {
         match event {
-            Event::Tick(node) => self.tick(node),
-            Event::App { client, ask } => self.ask(client, ask),
-            Event::Deliver(k) => self.deliver(k),
+            Event::Tick(node) => self.tick(*node),
+            Event::App { client, ask } => self.ask(*client, ask.copy()?),
+            Event::Deliver(k) => self.deliver(*k),
             Event::Lose(k) => {
-                self.lose_message(k);
+                self.lose_message(*k);
                 Ok(())
             }
-            Event::Cut(from, to) => self.cut(from, to),
+            Event::Cut(from, to) => self.cut(*from, *to),
             Event::Heal(from, to) => {
-                self.heal(from, to);
+                self.heal(*from, *to);
                 Ok(())
             }
             Event::Advance(steps) => self.advance(steps.as_slice()),
-            Event::Effect(k) => self.effect(k),
-            Event::Report { k, ok } => self.report(k, ok),
-            Event::Crash(node) => self.crash(node),
-            Event::Start(node) => self.start(node),
+            Event::Effect(k) => self.effect(*k),
+            Event::Report { k, ok } => self.report(*k, *ok),
+            Event::Crash(node) => self.crash(*node),
+            Event::Start(node) => self.start(*node),
         }
     }
 

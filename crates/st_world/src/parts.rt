@@ -1,5 +1,5 @@
 // The parts of a world, and what they return of it.
-ghost use Rattle.std.specs.Prelude.{◌≡◌, ◌<◌, ◌≤◌, ◌+◌, ◌^◌, [], true, IsOk, IfOk, OnOk, length, option_map};
+ghost use Rattle.std.specs.Prelude.{◌≡◌, ◌<◌, ◌≤◌, ◌+◌, ◌^◌, [], true, None, IsOk, IfOk, OnOk, length, option_map};
 ghost use Rattle.std.specs.Option.{option_copied};
 ghost use Rattle.st_base.specs.Config as settings;
 ghost use Rattle.st_rules.specs.Admissible.{refusal};
@@ -122,12 +122,13 @@ impl Parts {
         })
     }
 
-    /// Runs one event, and returns what is observed of it, in order. A refusal changes nothing. Where memory runs out nothing is
-    /// known of the world, and every later step returns `Memory`: discard it.
-    pub(crate) fn step(&mut self, event: Event) -> Result<Vec<Observation>, WorldFault>
-        requires event { is_event (length self.old.clocks) event ≡ true }
+    /// Runs one event that is not refused, and returns what is observed of it, in order. Where memory runs out nothing is known of
+    /// the world, and every later step returns `Memory`: discard it.
+    pub(crate) fn run(&mut self, event: &Event) -> Result<Vec<Observation>, WorldFault>
+        requires event { is_event (length self.old.clocks) event.now ≡ true }
         requires room { self.old.tally.events < 2 ^ 29 }
-        ensures machine { StepsAs (λ seen. seen.items) self.old self.new result (events.world_step self.old event) }
+        requires admissible { refusal self.old event.now ≡ None }
+        ensures machine { StepsAs (λ seen. seen.items) self.old self.new result (events.world_step self.old event.now) }
         ensures events { OnOk result (self.new.tally.events ≡ self.old.tally.events + 1) }
         ensures clocks { OnOk result (length self.new.clocks ≡ length self.old.clocks) }
     {
@@ -135,7 +136,7 @@ impl Parts {
             return Err(WorldFault::Memory);
         }
         runs_go_on_in_parts();
-        match self.machine.step(event) {
+        match self.machine.step_admitted(event) {
             Ok(seen) => Ok(seen),
             Err(WorldFault::Refused(refusal)) => Err(WorldFault::Refused(refusal)),
             Err(WorldFault::Memory) => {
@@ -143,6 +144,25 @@ impl Parts {
                 self.broken = true;
                 Err(WorldFault::Memory)
             }
+        }
+    }
+
+    /// Runs one event, and returns what is observed of it, in order. A refusal changes nothing. Where memory runs out nothing is
+    /// known of the world, and every later step returns `Memory`: discard it.
+    #[tactic(auto, unfolding(st_rules::specs::Events::world_step, st_rules::specs::Events::world_by))]
+    pub(crate) fn step(&mut self, event: &Event) -> Result<Vec<Observation>, WorldFault>
+        requires event { is_event (length self.old.clocks) event.now ≡ true }
+        requires room { self.old.tally.events < 2 ^ 29 }
+        ensures machine { StepsAs (λ seen. seen.items) self.old self.new result (events.world_step self.old event.now) }
+        ensures events { OnOk result (self.new.tally.events ≡ self.old.tally.events + 1) }
+        ensures clocks { OnOk result (length self.new.clocks ≡ length self.old.clocks) }
+    {
+        if self.broken {
+            return Err(WorldFault::Memory);
+        }
+        match self.refusal(event) {
+            Some(refusal) => Err(WorldFault::Refused(refusal)),
+            None => self.run(event),
         }
     }
 

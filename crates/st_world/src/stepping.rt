@@ -23,14 +23,14 @@ impl Machine {
     }
 
     /// An event that is not refused happens.
-    fn run(&mut self, event: Event) -> Result<Vec<Observation>, WorldFault>
+    fn run(&mut self, event: &Event) -> Result<Vec<Observation>, WorldFault>
         requires begins { self.old.seen ≡ [] }
         requires laid { IsLaid self.old.world }
         requires ready { IsReady self.old.world }
-        requires event { is_event (length self.old.world.clocks) event ≡ true }
+        requires event { is_event (length self.old.world.clocks) event.now ≡ true }
         requires room { self.old.world.tally.events < 2 ^ 29 }
-        requires admitted { admissible.refusal self.old.world event ≡ None }
-        ensures machine { IfOk result (λ seen. events.happens (events.counted self.old.world) event ≡ events.scene self.new.world seen.items) }
+        requires admitted { admissible.refusal self.old.world event.now ≡ None }
+        ensures machine { IfOk result (λ seen. events.happens (events.counted self.old.world) event.now ≡ events.scene self.new.world seen.items) }
         ensures memory { OnErr result (result ≡ Err Memory) }
         ensures ends { self.new.seen ≡ [] }
     {
@@ -51,13 +51,13 @@ impl Machine {
     }
 
     /// Runs one event, where its counts have room.
-    fn run_counted(&mut self, event: Event) -> Result<Vec<Observation>, WorldFault>
+    fn run_counted(&mut self, event: &Event) -> Result<Vec<Observation>, WorldFault>
         requires begins { self.old.seen ≡ [] }
         requires laid { IsLaid self.old.world }
-        requires event { is_event (length self.old.world.clocks) event ≡ true }
+        requires event { is_event (length self.old.world.clocks) event.now ≡ true }
         requires room { self.old.world.tally.events < 2 ^ 29 }
-        requires admitted { admissible.refusal self.old.world event ≡ None }
-        ensures machine { IfOk result (λ seen. events.happens (events.counted self.old.world) event ≡ events.scene self.new.world seen.items) }
+        requires admitted { admissible.refusal self.old.world event.now ≡ None }
+        ensures machine { IfOk result (λ seen. events.happens (events.counted self.old.world) event.now ≡ events.scene self.new.world seen.items) }
         ensures memory { OnErr result (result ≡ Err Memory) }
         ensures ends { self.new.seen ≡ [] }
     {
@@ -68,19 +68,17 @@ impl Machine {
         }
     }
 
-    /// Runs one event, and returns what is observed of it. Where a count of reads or thefts is at its end, it returns `Memory`.
-    #[tactic(auto, unfolding(st_rules::specs::Events::world_step, st_rules::specs::Events::world_by))]
-    pub fn step(&mut self, event: Event) -> Result<Vec<Observation>, WorldFault>
+    /// Runs one event that is not refused, and returns what is observed of it. Where a count of reads or thefts is at its end, it returns
+    /// `Memory`.
+    pub(crate) fn step_admitted(&mut self, event: &Event) -> Result<Vec<Observation>, WorldFault>
         requires begins { self.old.seen ≡ [] }
         requires laid { IsLaid self.old.world }
-        requires event { is_event (length self.old.world.clocks) event ≡ true }
+        requires event { is_event (length self.old.world.clocks) event.now ≡ true }
         requires room { self.old.world.tally.events < 2 ^ 29 }
-        ensures machine { StepsAs (λ seen. seen.items) self.old.world self.new.world result (events.world_step self.old.world event) }
+        requires admitted { admissible.refusal self.old.world event.now ≡ None }
+        ensures machine { StepsAs (λ seen. seen.items) self.old.world self.new.world result (events.world_step self.old.world event.now) }
         ensures ends { self.new.seen ≡ [] }
     {
-        match self.refusal(&event) {
-            Some(refusal) => Err(WorldFault::Refused(refusal)),
-            None => self.run_counted(event),
-        }
+        self.run_counted(event)
     }
 }

@@ -25,19 +25,20 @@ use st_messages::{Outputs, StepFault};
 use st_rules::{ClientInput, ServerInput};
 use st_server::ServerNode;
 use std::alloc::AllocError;
+use std::mem;
 
 impl Site {
     /// The client takes an input at this moment. Where one of its counters is at its end, it returns an error of memory.
-    fn step(&mut self, now: Stamp, input: ClientInput) -> Result<Outputs, StepFault>
+    fn step(&mut self, now: Stamp, input: &mut ClientInput) -> Result<Outputs, StepFault>
         requires time { now.0 ≤ 2 ^ 62 }
-        requires fits { comes_fit input ≡ true }
-        ensures exact { SiteSteps self.old self.new result (client_rules.node_step self.old.node now input) }
+        requires fits { comes_fit input.old ≡ true }
+        ensures exact { SiteSteps self.old self.new result (client_rules.node_step self.old.node now input.old) }
         ensures sent { IfOk result (λ out. list_all is_sent out ≡ true) }
     {
         if !self.node.has_room() {
             return Err(StepFault::Memory);
         }
-        self.node.step(now, input)
+        self.node.step(now, mem::replace(input, ClientInput::Tick))
     }
 
     /// The ends of the client's leases.
@@ -61,12 +62,12 @@ fn step_site(
     clients: &mut Vec<Site>,
     i: usize,
     now: Stamp,
-    input: ClientInput,
+    input: &mut ClientInput,
 ) -> Result<Outputs, StepFault>
     requires there { i < length clients.old.items }
     requires time { now.0 ≤ 2 ^ 62 }
-    requires fits { comes_fit input ≡ true }
-    ensures exact { AtPlace clients.old.items i (λ site. SitesStep i site clients.old.items clients.new.items result (client_rules.node_step site.node now input)) }
+    requires fits { comes_fit input.old ≡ true }
+    ensures exact { AtPlace clients.old.items i (λ site. SitesStep i site clients.old.items clients.new.items result (client_rules.node_step site.node now input.old)) }
     ensures sent { IfOk result (λ out. list_all is_sent out ≡ true) }
     ensures len { length clients.new.items ≡ length clients.old.items }
 {
@@ -161,7 +162,7 @@ impl Machine {
         &mut self,
         client: ClientId,
         i: usize,
-        input: ClientInput,
+        input: &mut ClientInput,
     ) -> Result<(), AllocError>
         requires begins { self.old.seen ≡ [] }
         requires number { client.0 ≡ i + 1 }
@@ -170,9 +171,9 @@ impl Machine {
         requires few { length self.old.world.servers ≤ 4 }
         requires clients { length self.old.world.clients ≤ 16 }
         requires time { (world.clock_of self.old.world (nodes.Client client)).0 ≤ 2 ^ 62 }
-        requires fits { comes_fit input ≡ true }
+        requires fits { comes_fit input.old ≡ true }
         requires reads { self.old.world.tally.reads < 2 ^ 63 }
-        ensures { AtPlace self.old.world.clients i (λ site. OnOk result (self.new ≡ events.client_takes self.old.world client input site)) }
+        ensures { AtPlace self.old.world.clients i (λ site. OnOk result (self.new ≡ events.client_takes self.old.world client input.old site)) }
     {
         let now = self.clock_of(NodeId::Client(client));
         let ends = ends_at(&self.clients, i);

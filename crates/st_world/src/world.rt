@@ -1,5 +1,5 @@
 // The world.
-ghost use Rattle.std.specs.Prelude.{◌≡◌, ◌<◌, ◌+◌, ◌^◌, true, IfOk, OnOk, length, option_map};
+ghost use Rattle.std.specs.Prelude.{◌≡◌, ◌<◌, ◌+◌, ◌^◌, true, None, IfOk, OnOk, length, option_map};
 ghost use Rattle.std.specs.Option.{option_copied};
 ghost use Rattle.st_rules.specs.Admissible.{refusal};
 ghost use Rattle.st_rules.specs.Events as events;
@@ -64,7 +64,25 @@ impl World {
     {
         let parts: &mut Parts = &mut self.of;
         parts.runs_on_are_safe(&event);
-        let stepped = parts.step(event);
+        let stepped = parts.step(&event);
+        parts.runs_here_are_safe();
+        stepped
+    }
+
+    /// Runs one event that is admissible, as `step` does, which asks first whether it is.
+    pub fn run(&mut self, event: &Event) -> Result<Vec<Observation>, WorldFault>
+        requires event { is_event (length self.old.clocks) event.now ≡ true }
+        requires room { self.old.tally.events < 2 ^ 29 }
+        requires admissible { refusal self.old event.now ≡ None }
+        ensures machine { StepsAs (λ seen. seen.items) self.old self.new result (events.world_step self.old event.now) }
+        ensures events { OnOk result (self.new.tally.events ≡ self.old.tally.events + 1) }
+        ensures clocks { OnOk result (length self.new.clocks ≡ length self.old.clocks) }
+        ensures led { IsLedSafely self.new }
+        ensures safe { GoesOnSafely self.old event.now }
+    {
+        let parts: &mut Parts = &mut self.of;
+        parts.runs_on_are_safe(event);
+        let stepped = parts.run(event);
         parts.runs_here_are_safe();
         stepped
     }

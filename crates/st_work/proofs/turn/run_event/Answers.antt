@@ -5,6 +5,6 @@ use Rattle.st_work.proofs.turn.run_event.Goals as goal
 
 pub unreachable-requires : goal.unreachable-requires
 unreachable-requires c =
-    let m : (world_step c.args.world.now c.args.event ≡ Err c.in-Err-Refused.field-0-0) ×
-    (c.step.new.self ≡ c.args.world.now) = rw c.in-Err-Refused.field-0-is at c.in-Err-Refused.ensures.machine in
-    not_refused c.args.world.now c.args.event c.in-Err-Refused.field-0-0 c.requires.admissible m.0
+    let m : (world_step c.args.world.now c.args.event.now ≡ Err c.in-Err-Refused.field-0-0) ×
+    (c.run.new.self ≡ c.args.world.now) = rw c.in-Err-Refused.field-0-is at c.in-Err-Refused.ensures.machine in
+    not_refused c.args.world.now c.args.event.now c.in-Err-Refused.field-0-0 c.requires.admissible m.0

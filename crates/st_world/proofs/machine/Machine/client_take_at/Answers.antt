@@ -44,4 +44,4 @@ returns-in-Ok c = rw (← c.self.view_is) (λ site e.
     on_ok c.client_said.result c.client_said.new.self _ _ (c.client_said.ensures site.node.state now ends there)
     (ap (λ (sc : Scene). with_flushes c.args.client took.node.state (client_says_all c.args.client site.node.state c.in-Ok.outputs sc))
     ((λ j. scene (record w { clients = took.clients j }) (begins j)) ∙ ap (λ k. quiet (record w { clients = set w.clients k now })) place)
-    ∙ sym (ap (client_took w c.args.client site) (ap (λ t. client_rules.node_step site.node t c.args.input) (sym clock) ∙ took.turn))))
+    ∙ sym (ap (client_took w c.args.client site) (ap (λ t. client_rules.node_step site.node t c.args.input.now) (sym clock) ∙ took.turn))))

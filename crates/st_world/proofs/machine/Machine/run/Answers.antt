@@ -10,5 +10,5 @@ happen-happened-requires-clause-ready c =
 
 pub happen-happened-requires-clause-met : goal.happen-happened-requires-clause-met
 happen-happened-requires-clause-met c =
-    subst (λ (s : Scene). IsMet s.world c.args.event) (sym c.count_event.ensures)
-    (met c.args.self.now.world c.args.event c.requires.laid c.requires.event c.requires.admitted)
+    subst (λ (s : Scene). IsMet s.world c.args.event.now) (sym c.count_event.ensures)
+    (met c.args.self.now.world c.args.event.now c.requires.laid c.requires.event c.requires.admitted)
