@@ -9,11 +9,28 @@ ghost use Rattle.st_client_passes.specs.Passing.{is_serving_at, put_back};
 use crate::changing::{answer, patch, write};
 use crate::reading::read;
 use st_association::Turn;
-use st_base::{FileId, Stamp};
+use st_base::{FileId, ServerId, Stamp};
 use st_messages::{AppAnswer, Ask};
-use st_operations::{OfServer, Operations, file_of, is_of, is_sent};
+use st_operations::{Operations, Test, file_of, is_of, is_sent, is_sync};
 use st_rules::Operation;
 use std::alloc::AllocError;
+
+/// The operations of a server for which the pass may do something: with a session all of them, and without one the syncs.
+#[derive(Clone, Copy)]
+struct MayAct {
+    server: ServerId,
+    all: bool,
+}
+
+impl Test<Operation> for MayAct {
+    ghost use Rattle.st_client_passes.specs.Passing.{may_act};
+
+    ghost passes = { λ t o. may_act t.server t.all o };
+
+    fn test(&self, operation: &Operation) -> bool {
+        (self.all || is_sync(&operation.ask)) && is_of(self.server, operation)
+    }
+}
 
 /// A sync is hard where its file has no dirty page and no outstanding write.
 #[tactic(auto, unfolding(st_rules::specs::ClientPasses::sync))]
@@ -210,12 +227,15 @@ fn operate_all(t: &mut Turn, now: Stamp) -> Result<(), AllocError>
     Ok(())
 }
 
-/// Operations. Where none of this server is pending, nothing is done.
+/// Operations. Where the pass does nothing for any that is pending, all stay.
 pub fn operations(t: &mut Turn, now: Stamp) -> Result<(), AllocError>
     ensures { OnOk result (t.new ≡ passes.operations now t.old) }
 {
-    let here = OfServer { server: t.server() };
-    if t.operations().any(&here) {
+    let acting = MayAct {
+        server: t.server(),
+        all: t.has_session(),
+    };
+    if t.operations().any(&acting) {
         operate_all(t, now)
     } else {
         Ok(())
