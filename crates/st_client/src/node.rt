@@ -12,7 +12,6 @@ ghost use Rattle.st_rules.specs.World as world;
 
 use crate::ends::LeaseEnds;
 use crate::lives::{are_low, life_among, push_crashed, started};
-use crate::machine::Machine;
 use crate::state::State;
 use st_base::{ClientId, Config, Life, ServerId, Stamp};
 use st_messages::{Outputs, StepFault};
@@ -58,7 +57,7 @@ impl ClientNode {
         requires servers { servers ≤ 4 }
         ensures { IfOk result (λ n. n ≡ client.fresh_node id config.now servers) }
     {
-        let (state, _) = Machine::fresh(alloc, id, config, servers)?.rest();
+        let state = State::fresh(alloc, id, config, servers)?;
         let servers = state.servers()?;
         let mut lives = Vec::with_capacity(alloc, servers.len())?;
         state.tell_lives(&mut lives);

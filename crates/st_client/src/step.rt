@@ -41,7 +41,7 @@ impl Machine {
     fn is_to(&self, header: &Header) -> bool
         ensures { result ≡ (header.now.to == self.now.state.id.0) }
     {
-        header.to == self.id.0
+        header.to == self.parts.id.0
     }
 
     /// A message, where it is to this client.
@@ -93,9 +93,9 @@ impl Machine {
         ensures rule { IfOk result (λ t. t ≡ client.answered_at_once self op answer) }
         ensures last { IfOk result (λ t. all_last t.state now ≡ true) }
     {
-        let mut machine = self;
-        machine.out.push(Output::Answer { op, answer })?;
-        Ok(machine)
+        let Machine { mut parts } = self;
+        parts.out.push(Output::Answer { op, answer })?;
+        Ok(Machine { parts })
     }
 
     /// An ask, at its server.
@@ -113,8 +113,8 @@ impl Machine {
         ensures { result ≡ client.is_configured self.now.state server }
     {
         let mut found = false;
-        for a in self.associations.iter() {
-            found = found || a.get().server().0 == server.0;
+        for a in self.parts.associations.iter() {
+            found = found || a.server().0 == server.0;
         }
         found
     }
@@ -123,7 +123,7 @@ impl Machine {
     fn is_full(&self) -> bool
         ensures { result ≡ client.is_full self.now.state }
     {
-        self.operations.is_full()
+        self.parts.operations.is_full()
     }
 
     /// An ask for which there is a place.
