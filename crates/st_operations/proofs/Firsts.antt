@@ -1,6 +1,6 @@
 -- Lists of operations by their places: which pass a test, and which are fit.
 use Rattle.std.proofs.Common.{◌≡◌, ℕ, zero, suc, ◌+◌, ◌-◌, ◌<◌, ◌≤◌, Bool, true, false, cond, List, [], ◌∷◌, ◌++◌, length, take, Some, None, refl, sym, ap, ◌∙◌, arith, append_assoc, add-one, true≢false}
-use Rattle.std.specs.Prelude.{filter, is_some, slice_get, not, ◌||◌, nat_lt, IfSome, Option}
+use Rattle.std.specs.Prelude.{filter, is_some, remove, slice_get, not, ◌&&◌, ◌||◌, nat_lt, IfSome, Option}
 use Rattle.std.specs.Option.{option_copied, option_to_list}
 use Rattle.std.specs.List.{list_all, list_any, position, position_or_len}
 use Rattle.std.proofs.lemmas.Bool.{and_parts, le-ltb, lt-ltb}
@@ -73,3 +73,13 @@ fit_at os i (Some b) h e = go os i h e
     go [] i h e = cc
     go (x ∷ xs) zero h e = let same : b.now ≡ x = cc in ap is_fit same ∙ (and_parts (is_fit x) (list_all is_fit xs) h).0
     go (x ∷ xs) (suc i) h e = go xs i (and_parts (is_fit x) (list_all is_fit xs) h).1 e
+
+-- the operations but for the one at a place are fit
+pub fit_removed : (os : List Operation) (i : ℕ) → AreFit os → AreFit (remove os i)
+fit_removed [] zero h = h
+fit_removed [] (suc i) h = h
+fit_removed (x ∷ xs) zero h = (and_parts (is_fit x) (list_all is_fit xs) h).1
+fit_removed (x ∷ xs) (suc i) h =
+    let q = and_parts (is_fit x) (list_all is_fit xs) h in
+    let r = fit_removed xs i q.1 in
+    λ j. q.0 j && r j

@@ -1,4 +1,4 @@
-ghost use Rattle.std.specs.Prelude.{◌≡◌, ◌≤◌, ◌<◌, ◌^◌, ◌++◌, ◌∷◌, [], true, IfOk, IfSome, OnOk, filter, length, map, nat_le, not, slice_get};
+ghost use Rattle.std.specs.Prelude.{◌≡◌, ◌≤◌, ◌<◌, ◌^◌, ◌++◌, ◌∷◌, [], true, IfOk, IfSome, OnOk, filter, length, map, nat_le, not, remove, slice_get};
 ghost use Rattle.std.specs.List.{list_any};
 ghost use Rattle.std.specs.Option.{option_copied, option_to_list};
 ghost use Rattle.st_messages.specs.Fits.{is_ask};
@@ -154,6 +154,14 @@ impl Operations {
         } else {
             self.rows.take(0)
         }
+    }
+
+    /// The operation at a place is pending no more. It does not allocate.
+    pub fn remove(&mut self, place: usize)
+        requires { place < length self.old }
+        ensures { self.new ≡ remove self.old place }
+    {
+        let _operation = self.rows.take(place);
     }
 
     /// The operation goes behind the picked ones where it passes the test, and else behind those that stay.
