@@ -13,6 +13,7 @@ pub mod SoundRequests
 pub mod Sends
 pub mod Growing
 pub mod Rotating
+pub mod Idling
 pub mod Advancing
 pub mod HearGrows
 pub mod InputsGrow

@@ -112,4 +112,28 @@ impl Machine {
         }
         Ok(machine)
     }
+
+    /// Whether a rule may do anything at any association.
+    fn is_touched_somewhere<R: Rule>(&self, rule: &R) -> bool
+        ensures { result ≡ false → client.at_each (R.run rule.now) self.now ≡ self.now }
+    {
+        for a in self.parts.associations.iter() {
+            if self.is_touched(rule, a) {
+                return true;
+            }
+        }
+        false
+    }
+
+    /// A rule at each association, in order. Where it does nothing anywhere, they stay as they are.
+    pub(crate) fn at_any<R: Rule>(self, rule: &R) -> Result<Machine, AllocError>
+        requires { list_all (R.is_ready rule.now self.state.config) self.state.associations ≡ true }
+        ensures { IfOk result (λ m. m ≡ client.at_each (R.run rule.now) self) }
+    {
+        if self.is_touched_somewhere(rule) {
+            self.at_each(rule)
+        } else {
+            Ok(self)
+        }
+    }
 }

@@ -202,12 +202,12 @@ impl ClientNode {
     }
 
     /// Takes a step of a client that runs.
-    fn step_running(&mut self, now: Stamp, input: ClientInput) -> Result<Outputs, StepFault>
+    fn step_running(&mut self, now: Stamp, input: &ClientInput) -> Result<Outputs, StepFault>
         requires time { now.0 ≤ 2 ^ 62 }
-        requires fits { comes_fit input ≡ true }
+        requires fits { comes_fit input.now ≡ true }
         requires room { HasRoom self.old.state }
         requires running { self.old.running ≡ true }
-        ensures { Runs self.old self.new result (client.node_turn self.old (client.client_step self.old.state now input)) }
+        ensures { Runs self.old self.new result (client.node_turn self.old (client.client_step self.old.state now input.now)) }
     {
         let state = match self.state.take() {
             Some(state) => state,
@@ -240,7 +240,7 @@ impl ClientNode {
         ensures discarding { (s : ServerId) → IsOver s self.old.state now → IfOk result (λ out. Discards s self.old.state input self.new.state out) }
     {
         if self.state.is_some() {
-            self.step_running(now, input)
+            self.step_running(now, &input)
         } else {
             Err(StepFault::Crashed)
         }

@@ -54,11 +54,15 @@ impl State {
     }
 
     /// A step: what it leaves, and its outputs.
-    pub(crate) fn step(self, now: Stamp, input: ClientInput) -> Result<(State, Outputs), AllocError>
+    pub(crate) fn step(
+        self,
+        now: Stamp,
+        input: &ClientInput,
+    ) -> Result<(State, Outputs), AllocError>
         requires time { now.0 ≤ 2 ^ 62 }
-        requires fits { comes_fit input ≡ true }
+        requires fits { comes_fit input.now ≡ true }
         requires room { HasRoom self }
-        ensures { IfOk result (λ r. client_turn r.0 r.1 ≡ client.client_step self now input) }
+        ensures { IfOk result (λ r. client_turn r.0 r.1 ≡ client.client_step self now input.now) }
     {
         let machine = self.begin().step(now, input)?;
         Ok(machine.rest())

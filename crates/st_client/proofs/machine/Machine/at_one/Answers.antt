@@ -1,6 +1,5 @@
 use Rattle.std.proofs.Common.{◌≤◌, ap, sym, subst, ◌∙◌, length, arith}
 use Rattle.st_client.proofs.Growing.{machine_run}
-use Rattle.st_client.specs.declared.parts.Parts.{Parts}
 use Rattle.st_client.specs.Machines.{IsMachineOf, turn_of}
 use Rattle.st_rules.specs.ClientState.{ClientTurn}
 use Rattle.st_client.proofs.machine.Machine.at_one.Goals as goal

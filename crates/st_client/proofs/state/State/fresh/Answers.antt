@@ -2,7 +2,7 @@ use Rattle.std.proofs.Common.{rules, ◌+◌, ◌≤◌, List, [], ◌∷◌, ap
 use Rattle.st_client.proofs.Growing.{numbers_next}
 use Rattle.st_client.specs.Nodes.{with_more}
 use Rattle.st_rules.specs.Client.{fresh_association}
-use Rattle.st_rules.specs.ClientState.{Association, ClientState}
+use Rattle.st_rules.specs.ClientState.{Association}
 use Rattle.st_client.proofs.state.State.fresh.Goals as goal
 
 pub loop-server-preserved : goal.loop-server-preserved
