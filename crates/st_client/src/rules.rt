@@ -1,5 +1,7 @@
 // The rules at each server: losses, messages, asks, ends of commands, and the passes.
-ghost use Rattle.std.specs.Prelude.{◌≡◌, ◌==◌, ◌||◌, true};
+ghost use Rattle.std.specs.Prelude.{◌≡◌, ◌==◌, true};
+ghost use Rattle.std.specs.List.{list_any};
+ghost use Rattle.st_client.specs.Idle.{may_act};
 ghost use Rattle.st_rules.specs.Keys.{same_server, server_node};
 
 use crate::rule::Rule;
@@ -8,8 +10,8 @@ use st_base::{PageBytes, ServerId, Stamp, Tag};
 use st_client_inputs::{finish, lose, take_ask};
 use st_client_passes::passes;
 use st_client_replies::hear;
-use st_messages::{Ask, Body, Header};
-use st_operations::{OfServer, Operations, server_of};
+use st_messages::{Ask, Header, Message};
+use st_operations::{Operation, Operations, Test, is_of, is_sync, server_of};
 use std::alloc::AllocError;
 
 /// Whether a message is from a server.
@@ -26,11 +28,28 @@ fn is_same(a: ServerId, b: ServerId) -> bool
     a.0 == b.0
 }
 
-/// Whether one of two is true.
-fn either(a: bool, b: bool) -> bool
-    ensures { result ≡ (a || b) }
+/// The operations that may do something at a server: each of its own, or its syncs alone.
+#[derive(Clone, Copy)]
+struct MayAct {
+    server: ServerId,
+    all: bool,
+}
+
+impl Test<Operation> for MayAct {
+    ghost use Rattle.st_client.specs.Idle.{may_act};
+
+    ghost passes = { λ t o. may_act t.server t.all o };
+
+    fn test(&self, operation: &Operation) -> bool {
+        (self.all || is_sync(&operation.ask)) && is_of(self.server, operation)
+    }
+}
+
+/// Whether an operation may do something at a server. Where its syncs alone may, and no sync is pending, none is looked at.
+fn any_may_act(operations: &Operations, server: ServerId, all: bool) -> bool
+    ensures { result ≡ list_any (may_act server all) operations.now }
 {
-    a || b
+    (all || operations.has_sync()) && operations.any(&MayAct { server, all })
 }
 
 /// The loss.
@@ -57,17 +76,17 @@ impl Rule for Lose {
 }
 
 /// The end of a disk command.
-#[derive(Drop)]
-pub struct Finish {
+#[derive(Clone, Copy)]
+pub struct Finish<'a> {
     pub number: u64,
-    pub result: Option<Option<(Tag, PageBytes)>>,
+    pub result: &'a Option<Option<(Tag, PageBytes)>>,
 }
 
-impl Rule for Finish {
+impl<'a> Rule for Finish<'a> {
     ghost use Rattle.std.specs.Prelude.{true};
     ghost use Rattle.st_rules.specs.Client as client;
 
-    ghost run = { λ r t. client.finish r.number r.result t };
+    ghost run = { λ r t. client.finish r.number r.result.now t };
 
     ghost is_ready = { λ r k a. true };
 
@@ -76,33 +95,32 @@ impl Rule for Finish {
     }
 
     fn apply(&self, turn: &mut Turn) -> Result<(), AllocError> {
-        finish(turn, self.number, &self.result)
+        finish(turn, self.number, self.result)
     }
 }
 
 /// A message.
-#[derive(Drop)]
-pub struct Hear {
+#[derive(Clone, Copy)]
+pub struct Hear<'a> {
     pub now: Stamp,
-    pub header: Header,
-    pub body: Body,
+    pub message: &'a Message,
 }
 
-impl Rule for Hear {
+impl<'a> Rule for Hear<'a> {
     ghost use Rattle.std.specs.Prelude.{◌&&◌, ◌^◌, nat_le};
     ghost use Rattle.st_rules.specs.ClientInvariants.{lasts_here};
     ghost use Rattle.st_rules.specs.ClientReplies as replies;
 
-    ghost run = { λ r t. replies.hear r.now r.header r.body t };
+    ghost run = { λ r t. replies.hear r.now r.message.now.header r.message.now.body t };
 
     ghost is_ready = { λ r k a. nat_le r.now.0 (2 ^ 62) && lasts_here k r.now a };
 
     fn touches(&self, a: &Association, _operations: &Operations) -> bool {
-        is_from(&self.header, a.server())
+        is_from(&self.message.header, a.server())
     }
 
     fn apply(&self, turn: &mut Turn) -> Result<(), AllocError> {
-        hear(turn, self.now, self.header, &self.body)
+        hear(turn, self.now, self.message.header, &self.message.body)
     }
 }
 
@@ -123,8 +141,8 @@ impl Rule for Passes {
 
     fn touches(&self, a: &Association, operations: &Operations) -> bool {
         let server = a.server();
-        let works = operations.any(&OfServer { server });
-        either(works, a.is_awake(self.now, self.tick))
+        let all = a.takes_all(self.now, self.tick);
+        any_may_act(operations, server, all) || a.is_awake(self.now, self.tick)
     }
 
     fn apply(&self, turn: &mut Turn) -> Result<(), AllocError> {
@@ -133,28 +151,28 @@ impl Rule for Passes {
 }
 
 /// An ask.
-#[derive(Drop)]
-pub struct TakeAsk {
+#[derive(Clone, Copy)]
+pub struct TakeAsk<'a> {
     pub op: u32,
-    pub ask: Ask,
+    pub ask: &'a Ask,
 }
 
-impl Rule for TakeAsk {
+impl<'a> Rule for TakeAsk<'a> {
     ghost use Rattle.st_messages.specs.Fits.{is_ask};
     ghost use Rattle.st_rules.specs.Client as client;
     ghost use Rattle.st_rules.specs.ClientState.{only_at, server_of};
 
-    ghost run = { λ r t. only_at (server_of r.ask) (client.take_ask r.op r.ask) t };
+    ghost run = { λ r t. only_at (server_of r.ask.now) (client.take_ask r.op r.ask.now) t };
 
-    ghost is_ready = { λ r k a. is_ask r.ask };
+    ghost is_ready = { λ r k a. is_ask r.ask.now };
 
     fn touches(&self, a: &Association, _operations: &Operations) -> bool {
-        is_same(a.server(), server_of(&self.ask))
+        is_same(a.server(), server_of(self.ask))
     }
 
     #[tactic(auto, unfolding(st_rules::specs::ClientState::only_at))]
     fn apply(&self, turn: &mut Turn) -> Result<(), AllocError> {
-        if turn.server().0 == server_of(&self.ask).0 {
+        if turn.server().0 == server_of(self.ask).0 {
             take_ask(turn, self.op, self.ask.copy()?)
         } else {
             Ok(())

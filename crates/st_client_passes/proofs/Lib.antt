@@ -1,6 +1,8 @@
 pub mod Frames
 pub mod Idle
 pub mod SentOnes
+pub mod Behind
+pub mod Remaining
 pub mod FirstAsking
 pub mod Asks
 pub mod Cached

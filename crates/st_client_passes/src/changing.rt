@@ -1,5 +1,5 @@
 // Writes and patches of pages.
-ghost use Rattle.std.specs.Prelude.{◌≡◌, ◌+◌, ◌≤◌, true, IfOk, length, option_map};
+ghost use Rattle.std.specs.Prelude.{◌≡◌, ◌+◌, ◌≤◌, true, IfOk, OnOk, length, option_map};
 ghost use Rattle.st_association.specs.Turns.{has_session, session_of};
 ghost use Rattle.st_rules.specs.ClientPages as pages;
 ghost use Rattle.st_rules.specs.ClientPasses as passes;
@@ -16,7 +16,8 @@ use std::alloc::{AllocError, Global};
 
 /// Answers the operation, which is pending no more.
 pub fn answer(t: &mut Turn, o: &Operation, a: AppAnswer) -> Result<bool, AllocError>
-    ensures { IfOk result (λ stays. put_back o.now stays t.new ≡ passes.answer o.now a t.old) }
+    ensures left { OnOk result (t.new.operations ≡ t.old.operations) }
+    ensures stays { IfOk result (λ stays. put_back o.now stays t.new ≡ passes.answer o.now a t.old) }
 {
     t.answer(o.op, a)?;
     Ok(false)
@@ -35,7 +36,8 @@ fn change_page(
 ) -> Result<bool, AllocError>
     requires session { has_session t.old ≡ true }
     requires serving { is_serving_at t.old now ≡ true }
-    ensures { IfOk result (λ stays. put_back o.now stays t.new ≡ passes.change_page t.old o.now file page bytes.now note) }
+    ensures left { OnOk result (t.new.operations ≡ t.old.operations) }
+    ensures stays { IfOk result (λ stays. put_back o.now stays t.new ≡ passes.change_page t.old o.now file page bytes.now note) }
 {
     if t.change_page(now, file.ino, page, bytes, note)? {
         answer(t, o, AppAnswer::Written)
@@ -71,7 +73,8 @@ pub fn write(
 ) -> Result<bool, AllocError>
     requires session { has_session t.old ≡ true }
     requires serving { is_serving_at t.old now ≡ true }
-    ensures { IfOk result (λ stays. put_back o.now stays t.new ≡ passes.write t.old (session_of t.old) o.now file page bytes.now) }
+    ensures left { OnOk result (t.new.operations ≡ t.old.operations) }
+    ensures stays { IfOk result (λ stays. put_back o.now stays t.new ≡ passes.write t.old (session_of t.old) o.now file page bytes.now) }
 {
     if may_write(t, file, page) {
         let note = Note::Accepted {
@@ -139,7 +142,8 @@ fn patch_bytes(
 ) -> Result<bool, AllocError>
     requires session { has_session t.old ≡ true }
     requires serving { is_serving_at t.old now ≡ true }
-    ensures { IfOk result (λ stays. put_back o.now stays t.new ≡ passes.change_page t.old o.now file page whole.now (Note.Patched file page at bytes.now)) }
+    ensures left { OnOk result (t.new.operations ≡ t.old.operations) }
+    ensures stays { IfOk result (λ stays. put_back o.now stays t.new ≡ passes.change_page t.old o.now file page whole.now (Note.Patched file page at bytes.now)) }
 {
     let note = Note::Patched {
         file,
@@ -163,7 +167,8 @@ fn patch_at(
     requires session { has_session t.old ≡ true }
     requires serving { is_serving_at t.old now ≡ true }
     requires range { at + length bytes.now ≤ 4096 }
-    ensures { IfOk result (λ stays. put_back o.now stays t.new ≡ passes.patch_at t.old o.now file page at bytes.now (pages.cached t.old.here.store.pages file.ino page)) }
+    ensures left { OnOk result (t.new.operations ≡ t.old.operations) }
+    ensures stays { IfOk result (λ stays. put_back o.now stays t.new ≡ passes.patch_at t.old o.now file page at bytes.now (pages.cached t.old.here.store.pages file.ino page)) }
 {
     match patched_page(t, file, page, at, bytes)? {
         None => fetch(t, now, o, file, page),
@@ -184,7 +189,8 @@ pub fn patch(
     requires session { has_session t.old ≡ true }
     requires serving { is_serving_at t.old now ≡ true }
     requires range { at + length bytes.now ≤ 4096 }
-    ensures { IfOk result (λ stays. put_back o.now stays t.new ≡ passes.patch t.old (session_of t.old) o.now file page at bytes.now) }
+    ensures left { OnOk result (t.new.operations ≡ t.old.operations) }
+    ensures stays { IfOk result (λ stays. put_back o.now stays t.new ≡ passes.patch t.old (session_of t.old) o.now file page at bytes.now) }
 {
     if may_write(t, file, page) {
         patch_at(t, now, o, file, page, at, bytes)

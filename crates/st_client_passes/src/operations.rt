@@ -1,7 +1,7 @@
 // The pass over the pending operations: each is answered, or stays pending.
-ghost use Rattle.std.specs.Prelude.{◌≡◌, [], true, filter, IfOk, OnOk};
+ghost use Rattle.std.specs.Prelude.{◌≡◌, ◌+◌, ◌<◌, ◌^◌, [], true, if◌then◌else◌, length, remove, slice_get, IfOk, IfSome, OnOk};
 ghost use Rattle.st_association.specs.Turns.{has_session, session_of};
-ghost use Rattle.st_operations.specs.Pending.{AreFit, is_fit};
+ghost use Rattle.st_operations.specs.Pending.{is_fit};
 ghost use Rattle.st_rules.specs.ClientPasses as passes;
 ghost use Rattle.st_rules.specs.ClientState as client_state;
 ghost use Rattle.st_client_passes.specs.Passing.{is_serving_at, put_back};
@@ -9,16 +9,34 @@ ghost use Rattle.st_client_passes.specs.Passing.{is_serving_at, put_back};
 use crate::changing::{answer, patch, write};
 use crate::reading::read;
 use st_association::Turn;
-use st_base::{FileId, Stamp};
+use st_base::{FileId, ServerId, Stamp};
 use st_messages::{AppAnswer, Ask};
-use st_operations::{OfServer, Operations, file_of, is_of, is_sent};
+use st_operations::{Operations, Test, file_of, is_of, is_sent, is_sync};
 use st_rules::Operation;
 use std::alloc::AllocError;
+
+/// The operations of a server for which the pass may do something: with a session all of them, and without one the syncs.
+#[derive(Clone, Copy)]
+struct MayAct {
+    server: ServerId,
+    all: bool,
+}
+
+impl Test<Operation> for MayAct {
+    ghost use Rattle.st_client_passes.specs.Passing.{may_act};
+
+    ghost passes = { λ t o. may_act t.server t.all o };
+
+    fn test(&self, operation: &Operation) -> bool {
+        (self.all || is_sync(&operation.ask)) && is_of(self.server, operation)
+    }
+}
 
 /// A sync is hard where its file has no dirty page and no outstanding write.
 #[tactic(auto, unfolding(st_rules::specs::ClientPasses::sync))]
 fn sync(t: &mut Turn, o: &Operation, file: FileId) -> Result<bool, AllocError>
-    ensures { IfOk result (λ stays. put_back o.now stays t.new ≡ passes.sync t.old o.now file) }
+    ensures left { OnOk result (t.new.operations ≡ t.old.operations) }
+    ensures stays { IfOk result (λ stays. put_back o.now stays t.new ≡ passes.sync t.old o.now file) }
 {
     if t.is_hard(file.ino) {
         answer(t, o, AppAnswer::Hard)
@@ -30,7 +48,8 @@ fn sync(t: &mut Turn, o: &Operation, file: FileId) -> Result<bool, AllocError>
 /// In quiesce or later an operation that was not sent is answered so.
 #[tactic(auto, unfolding(st_rules::specs::ClientPasses::quiesce))]
 fn quiesce(t: &mut Turn, o: &Operation) -> Result<bool, AllocError>
-    ensures { IfOk result (λ stays. put_back o.now stays t.new ≡ passes.quiesce t.old o.now) }
+    ensures left { OnOk result (t.new.operations ≡ t.old.operations) }
+    ensures stays { IfOk result (λ stays. put_back o.now stays t.new ≡ passes.quiesce t.old o.now) }
 {
     if is_sent(o) {
         Ok(true)
@@ -45,7 +64,8 @@ fn serve_open(t: &mut Turn, now: Stamp, o: &Operation) -> Result<bool, AllocErro
     requires session { has_session t.old ≡ true }
     requires serving { is_serving_at t.old now ≡ true }
     requires fit { is_fit o.now ≡ true }
-    ensures { IfOk result (λ stays. put_back o.now stays t.new ≡ passes.serve_open t.old (session_of t.old) o.now o.now.ask) }
+    ensures left { OnOk result (t.new.operations ≡ t.old.operations) }
+    ensures stays { IfOk result (λ stays. put_back o.now stays t.new ≡ passes.serve_open t.old (session_of t.old) o.now o.now.ask) }
 {
     match &o.ask {
         Ask::Write(file, page, bytes) => write(t, now, o, *file, *page, bytes),
@@ -78,7 +98,8 @@ fn serve(all: &Operations, t: &mut Turn, now: Stamp, o: &Operation) -> Result<bo
     requires session { has_session t.old ≡ true }
     requires serving { is_serving_at t.old now ≡ true }
     requires fit { is_fit o.now ≡ true }
-    ensures { IfOk result (λ stays. put_back o.now stays t.new ≡ passes.serve all.now t.old (session_of t.old) o.now) }
+    ensures left { OnOk result (t.new.operations ≡ t.old.operations) }
+    ensures stays { IfOk result (λ stays. put_back o.now stays t.new ≡ passes.serve all.now t.old (session_of t.old) o.now) }
 {
     if is_open_file(all, t, file_of(&o.ask)) {
         serve_open(t, now, o)
@@ -96,7 +117,8 @@ fn operate_under(
 ) -> Result<bool, AllocError>
     requires session { has_session t.old ≡ true }
     requires fit { is_fit o.now ≡ true }
-    ensures { IfOk result (λ stays. put_back o.now stays t.new ≡ passes.operate_under all.now t.old (session_of t.old) now o.now) }
+    ensures left { OnOk result (t.new.operations ≡ t.old.operations) }
+    ensures stays { IfOk result (λ stays. put_back o.now stays t.new ≡ passes.operate_under all.now t.old (session_of t.old) now o.now) }
 {
     if t.is_serving(now) {
         serve(all, t, now, o)
@@ -107,7 +129,8 @@ fn operate_under(
 
 fn operate_by(all: &Operations, t: &mut Turn, now: Stamp, o: &Operation) -> Result<bool, AllocError>
     requires fit { is_fit o.now ≡ true }
-    ensures { IfOk result (λ stays. put_back o.now stays t.new ≡ passes.operate_by all.now t.old now o.now t.old.here.session) }
+    ensures left { OnOk result (t.new.operations ≡ t.old.operations) }
+    ensures stays { IfOk result (λ stays. put_back o.now stays t.new ≡ passes.operate_by all.now t.old now o.now t.old.here.session) }
 {
     if t.has_session() {
         operate_under(all, t, now, o)
@@ -119,7 +142,8 @@ fn operate_by(all: &Operations, t: &mut Turn, now: Stamp, o: &Operation) -> Resu
 #[tactic(auto, unfolding(st_rules::specs::ClientPasses::operate_on))]
 fn operate_on(all: &Operations, t: &mut Turn, now: Stamp, o: &Operation) -> Result<bool, AllocError>
     requires fit { is_fit o.now ≡ true }
-    ensures { IfOk result (λ stays. put_back o.now stays t.new ≡ passes.operate_on all.now t.old now o.now o.now.ask) }
+    ensures left { OnOk result (t.new.operations ≡ t.old.operations) }
+    ensures stays { IfOk result (λ stays. put_back o.now stays t.new ≡ passes.operate_on all.now t.old now o.now o.now.ask) }
 {
     match &o.ask {
         Ask::Sync(file) => sync(t, o, *file),
@@ -131,7 +155,8 @@ fn operate_on(all: &Operations, t: &mut Turn, now: Stamp, o: &Operation) -> Resu
 #[tactic(auto, unfolding(st_rules::specs::ClientPasses::operate))]
 fn stays(all: &Operations, t: &mut Turn, now: Stamp, o: &Operation) -> Result<bool, AllocError>
     requires fit { is_fit o.now ≡ true }
-    ensures { IfOk result (λ stays. put_back o.now stays t.new ≡ passes.operate all.now t.old now o.now) }
+    ensures left { OnOk result (t.new.operations ≡ t.old.operations) }
+    ensures stays { IfOk result (λ stays. put_back o.now stays t.new ≡ passes.operate all.now t.old now o.now) }
 {
     if is_of(t.server(), o) {
         operate_on(all, t, now, o)
@@ -140,28 +165,52 @@ fn stays(all: &Operations, t: &mut Turn, now: Stamp, o: &Operation) -> Result<bo
     }
 }
 
-fn operate(all: &Operations, t: &mut Turn, now: Stamp, o: Operation) -> Result<(), AllocError>
-    requires fit { is_fit o ≡ true }
-    ensures { OnOk result (t.new ≡ passes.operate all.now t.old now o) }
+/// Whether the operation at a place stays pending, after what is done for it.
+fn stays_at(
+    sent: &Operations,
+    t: &mut Turn,
+    now: Stamp,
+    all: &Operations,
+    place: usize,
+) -> Result<bool, AllocError>
+    ensures left { OnOk result (t.new.operations ≡ t.old.operations) }
+    ensures stays { IfOk result (λ stays. IfSome (slice_get all.now place) (λ o. put_back o stays t.new ≡ passes.operate sent.now t.old now o)) }
 {
-    if stays(all, t, now, &o)? {
-        t.keep(o)
-    } else {
-        Ok(())
+    match all.get(place) {
+        None => Ok(true),
+        Some(o) => stays(sent, t, now, o),
     }
 }
 
-#[tactic(auto, unfolding(st_rules::specs::ClientPasses::operate_each))]
+/// The operation at a place stays there, or is pending no more. Returns the place of the next one.
+fn settle(all: &mut Operations, place: usize, stays: bool) -> usize
+    requires within { place < length all.old }
+    requires small { place < 2 ^ 63 }
+    ensures left { all.new ≡ (if stays then all.old else remove all.old place) }
+    ensures next { result ≡ (if stays then place + 1 else place) }
+{
+    if stays {
+        place + 1
+    } else {
+        all.remove(place);
+        place
+    }
+}
+
+/// The operations go through the pass, in order; each stays in its place, or is pending no more.
 fn operate_each(
-    all: &Operations,
+    sent: &Operations,
     t: &mut Turn,
     now: Stamp,
-    mut rest: Operations,
+    all: &mut Operations,
 ) -> Result<(), AllocError>
-    ensures { OnOk result (t.new ≡ passes.operate_each all.now now rest t.old) }
+    requires { t.old.operations ≡ [] }
+    ensures { OnOk result (client_state.with_operations all.new t.new ≡ passes.operate_each sent.now now all.old t.old) }
 {
-    while let Some(operation) = rest.take_first() {
-        operate(all, t, now, operation)?;
+    let mut place = 0;
+    while place < all.len() {
+        let stays = stays_at(sent, t, now, all, place)?;
+        place = settle(all, place, stays);
     }
     Ok(())
 }
@@ -172,17 +221,21 @@ fn operate_all(t: &mut Turn, now: Stamp) -> Result<(), AllocError>
     ensures { OnOk result (t.new ≡ passes.operations now t.old) }
 {
     let sent = t.operations().copy_sent()?;
-    let rest = t.take_operations();
-    operate_each(&sent, t, now, rest)?;
+    let mut all = t.take_operations();
+    operate_each(&sent, t, now, &mut all)?;
+    t.set_operations(all);
     Ok(())
 }
 
-/// Operations. Where none of this server is pending, nothing is done.
+/// Operations. Where the pass does nothing for any that is pending, all stay.
 pub fn operations(t: &mut Turn, now: Stamp) -> Result<(), AllocError>
     ensures { OnOk result (t.new ≡ passes.operations now t.old) }
 {
-    let here = OfServer { server: t.server() };
-    if t.operations().any(&here) {
+    let acting = MayAct {
+        server: t.server(),
+        all: t.has_session(),
+    };
+    if t.operations().any(&acting) {
         operate_all(t, now)
     } else {
         Ok(())

@@ -58,7 +58,8 @@ pub fn fetch(
     requires session { has_session t.old ≡ true }
     requires serving { is_serving_at t.old now ≡ true }
     requires missing { pages.cached t.old.here.store.pages file.ino page ≡ None }
-    ensures { IfOk result (λ stays. put_back o.now stays t.new ≡ passes.fetch t.old o.now file page) }
+    ensures left { OnOk result (t.new.operations ≡ t.old.operations) }
+    ensures stays { IfOk result (λ stays. put_back o.now stays t.new ≡ passes.fetch t.old o.now file page) }
 {
     fetch_at(t, now, file, page)?;
     Ok(true)
@@ -76,7 +77,8 @@ fn read_cached(
 ) -> Result<bool, AllocError>
     requires session { has_session t.old ≡ true }
     requires serving { is_serving_at t.old now ≡ true }
-    ensures { IfOk result (λ stays. put_back o.now stays t.new ≡ passes.read_cached t.old o.now file page bytes) }
+    ensures left { OnOk result (t.new.operations ≡ t.old.operations) }
+    ensures stays { IfOk result (λ stays. put_back o.now stays t.new ≡ passes.read_cached t.old o.now file page bytes) }
 {
     t.use_page(now, file.ino, page);
     answer(t, o, AppAnswer::Read(bytes))
@@ -94,7 +96,8 @@ fn read_known(
     requires session { has_session t.old ≡ true }
     requires serving { is_serving_at t.old now ≡ true }
     requires missing { pages.cached t.old.here.store.pages file.ino page ≡ None }
-    ensures { IfOk result (λ stays. put_back o.now stays t.new ≡ passes.read_known t.old o.now file page known known.mapping) }
+    ensures left { OnOk result (t.new.operations ≡ t.old.operations) }
+    ensures stays { IfOk result (λ stays. put_back o.now stays t.new ≡ passes.read_known t.old o.now file page known known.mapping) }
 {
     match known.mapping {
         None => answer(t, o, AppAnswer::Read(PageBytes::filled(0))),
@@ -113,7 +116,8 @@ fn read_uncached(
     requires session { has_session t.old ≡ true }
     requires serving { is_serving_at t.old now ≡ true }
     requires missing { pages.cached t.old.here.store.pages file.ino page ≡ None }
-    ensures { IfOk result (λ stays. put_back o.now stays t.new ≡ passes.read_uncached t.old o.now file page (pages.known_of t.old.here.store.extents file.ino page)) }
+    ensures left { OnOk result (t.new.operations ≡ t.old.operations) }
+    ensures stays { IfOk result (λ stays. put_back o.now stays t.new ≡ passes.read_uncached t.old o.now file page (pages.known_of t.old.here.store.extents file.ino page)) }
 {
     match t.known(file.ino, page) {
         None => Ok(true),
@@ -141,7 +145,8 @@ fn read_at(
 ) -> Result<bool, AllocError>
     requires session { has_session t.old ≡ true }
     requires serving { is_serving_at t.old now ≡ true }
-    ensures { IfOk result (λ stays. put_back o.now stays t.new ≡ passes.read_at t.old o.now file page (pages.cached t.old.here.store.pages file.ino page)) }
+    ensures left { OnOk result (t.new.operations ≡ t.old.operations) }
+    ensures stays { IfOk result (λ stays. put_back o.now stays t.new ≡ passes.read_at t.old o.now file page (pages.cached t.old.here.store.pages file.ino page)) }
 {
     match cached_copy(t, file, page)? {
         None => read_uncached(t, now, o, file, page),
@@ -159,7 +164,8 @@ pub fn read(
 ) -> Result<bool, AllocError>
     requires session { has_session t.old ≡ true }
     requires serving { is_serving_at t.old now ≡ true }
-    ensures { IfOk result (λ stays. put_back o.now stays t.new ≡ passes.read t.old (session_of t.old) o.now file page) }
+    ensures left { OnOk result (t.new.operations ≡ t.old.operations) }
+    ensures stays { IfOk result (λ stays. put_back o.now stays t.new ≡ passes.read t.old (session_of t.old) o.now file page) }
 {
     if holds(t, Mode::S, file) {
         read_at(t, now, o, file, page)

@@ -9,6 +9,7 @@ pub returns : goal.returns
 unfolding operations
 returns c =
     let sent : c.in_ok-sent.sent ≡ filter is_sent c.args.t.now.operations = c.in_ok-sent.ensures ∙ ap (filter is_sent) c.operations.ensures in
-    c.in_ok-operate_each.ensures
-    ∙ (λ i. operate_each (sent i) c.args.now (c.take_operations-rest.ensures.0 i) (c.take_operations-rest.ensures.1 i))
+    c.set_operations.ensures
+    ∙ c.in_ok-operate_each.ensures
+    ∙ (λ i. operate_each (sent i) c.args.now (c.take_operations-all.ensures.0 i) (c.take_operations-all.ensures.1 i))
     ∙ operate_each_sent c.args.t.now.operations c.args.now c.args.t.now.operations (with_operations [] c.args.t.now)

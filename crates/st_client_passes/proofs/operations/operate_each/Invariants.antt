@@ -1,9 +1,12 @@
-use Rattle.std.proofs.Common.{◌≡◌, length}
-use Rattle.st_rules.specs.ClientPasses.{operate_each}
+use Rattle.std.proofs.Common.{◌≡◌, ◌-◌, [], length}
+use Rattle.st_client_passes.proofs.Remaining.{remaining}
 use Rattle.st_client_passes.proofs.operations.operate_each.Given as goal
 
-abbrev pub invariant-loop-operation : goal.invariant-loop-operation
-invariant-loop-operation l = operate_each l.all l.now l.rest l.t ≡ operate_each l.all l.now l.fn.rest l.fn.t
+abbrev pub invariant-loop-place : goal.invariant-loop-place
+invariant-loop-place l = record {
+  none : l.t.operations ≡ [];
+  rest : remaining l.sent l.now l.place l.all l.t ≡ remaining l.sent l.now 0 l.fn.all l.fn.t;
+}
 
-abbrev pub decreases-loop-operation : goal.decreases-loop-operation
-decreases-loop-operation l = length l.rest
+abbrev pub decreases-loop-place : goal.decreases-loop-place
+decreases-loop-place l = length l.all - l.place
