@@ -1,13 +1,14 @@
 // What an association tells of itself between steps.
-ghost use Rattle.std.specs.Prelude.{◌≡◌, false, not, Some};
+ghost use Rattle.std.specs.Prelude.{◌≡◌, ◌+◌, false, nat_le, not, Some};
 ghost use Rattle.std.specs.List.{list_any};
 ghost use Rattle.st_association.specs.Associations.{has_room_at, may_ask};
-ghost use Rattle.st_association.specs.Awake.{is_awake, is_awake_by, may_send};
+ghost use Rattle.st_association.specs.Awake.{is_awake, is_awake_by, may_send, takes_all};
 ghost use Rattle.st_rules.specs.Client as client;
 ghost use Rattle.st_rules.specs.ClientInvariants.{lasts_here};
 ghost use Rattle.st_rules.specs.ClientLease as leases;
 ghost use Rattle.st_rules.specs.ClientLocks as locks;
 ghost use Rattle.st_rules.specs.ClientPages as pages;
+ghost use Rattle.st_rules.specs.ClientPasses as passes;
 
 use crate::association::Association;
 use st_base::{Life, Stamp};
@@ -101,6 +102,30 @@ impl Association {
             None => false,
         }
     }
+
+    /// Whether a greeting is due: none was sent yet, or on a tick the last one is old.
+    fn is_greeting_due(&self, now: Stamp, tick: bool) -> bool
+        ensures { result ≡ passes.is_greeting_due self.now.config now tick self.now.here.greeting }
+    {
+        match self.here.greeting {
+            None => true,
+            Some(at) => tick && has_passed(self.here.config.retry, at, now),
+        }
+    }
+
+    /// Whether each pending operation of the server may do something there: with a session, or where a greeting is due.
+    pub fn takes_all(&self, now: Stamp, tick: bool) -> bool
+        ensures { result ≡ takes_all self.now.config now tick self.now.here }
+    {
+        self.here.session.is_some() || self.is_greeting_due(now, tick)
+    }
+}
+
+/// Whether this time has passed since a moment.
+fn has_passed(time: u64, since: Stamp, now: Stamp) -> bool
+    ensures { result ≡ nat_le (since.0 + time) now.0 }
+{
+    since.0 <= now.0 && time <= now.0 - since.0
 }
 
 /// Whether the lease is in renewal, in quiesce or in flush.

@@ -1,5 +1,7 @@
 // The rules at each server: losses, messages, asks, ends of commands, and the passes.
 ghost use Rattle.std.specs.Prelude.{◌≡◌, ◌==◌, true};
+ghost use Rattle.std.specs.List.{list_any};
+ghost use Rattle.st_client.specs.Idle.{may_act};
 ghost use Rattle.st_rules.specs.Keys.{same_server, server_node};
 
 use crate::rule::Rule;
@@ -41,6 +43,13 @@ impl Test<Operation> for MayAct {
     fn test(&self, operation: &Operation) -> bool {
         (self.all || is_sync(&operation.ask)) && is_of(self.server, operation)
     }
+}
+
+/// Whether an operation may do something at a server. Where its syncs alone may, and no sync is pending, none is looked at.
+fn any_may_act(operations: &Operations, server: ServerId, all: bool) -> bool
+    ensures { result ≡ list_any (may_act server all) operations.now }
+{
+    (all || operations.has_sync()) && operations.any(&MayAct { server, all })
 }
 
 /// The loss.
@@ -133,7 +142,7 @@ impl Rule for Passes {
     fn touches(&self, a: &Association, operations: &Operations) -> bool {
         let server = a.server();
         let all = a.takes_all(self.now, self.tick);
-        operations.any(&MayAct { server, all }) || a.is_awake(self.now, self.tick)
+        any_may_act(operations, server, all) || a.is_awake(self.now, self.tick)
     }
 
     fn apply(&self, turn: &mut Turn) -> Result<(), AllocError> {
