@@ -1,10 +1,11 @@
 // The pass over the pending operations: each is answered, or stays pending.
-ghost use Rattle.std.specs.Prelude.{◌≡◌, ◌+◌, ◌<◌, ◌^◌, [], true, if◌then◌else◌, length, remove, slice_get, IfOk, IfSome, OnOk};
+ghost use Rattle.std.specs.List.{list_any};
+ghost use Rattle.std.specs.Prelude.{◌≡◌, ◌+◌, ◌<◌, ◌^◌, [], false, true, if◌then◌else◌, length, remove, slice_get, IfOk, IfSome, OnOk};
 ghost use Rattle.st_association.specs.Turns.{has_session, session_of};
 ghost use Rattle.st_operations.specs.Pending.{is_fit};
 ghost use Rattle.st_rules.specs.ClientPasses as passes;
 ghost use Rattle.st_rules.specs.ClientState as client_state;
-ghost use Rattle.st_client_passes.specs.Passing.{is_serving_at, put_back};
+ghost use Rattle.st_client_passes.specs.Passing.{is_serving_at, may_act, put_back};
 
 use crate::changing::{answer, patch, write};
 use crate::reading::read;
@@ -227,15 +228,37 @@ fn operate_all(t: &mut Turn, now: Stamp) -> Result<(), AllocError>
     Ok(())
 }
 
+/// Whether the pass may do something for a pending sync. Where no sync is pending it looks at no operation.
+fn may_act_for_syncs(t: &Turn) -> bool
+    ensures { result ≡ list_any (may_act t.now.here.server false) t.now.operations }
+{
+    let syncs = MayAct {
+        server: t.server(),
+        all: false,
+    };
+    t.operations().has_sync() && t.operations().any(&syncs)
+}
+
+/// Whether the pass may do something for a pending operation.
+fn may_act(t: &Turn) -> bool
+    ensures { result ≡ list_any (may_act t.now.here.server (has_session t.now)) t.now.operations }
+{
+    if t.has_session() {
+        let here = MayAct {
+            server: t.server(),
+            all: true,
+        };
+        t.operations().any(&here)
+    } else {
+        may_act_for_syncs(t)
+    }
+}
+
 /// Operations. Where the pass does nothing for any that is pending, all stay.
 pub fn operations(t: &mut Turn, now: Stamp) -> Result<(), AllocError>
     ensures { OnOk result (t.new ≡ passes.operations now t.old) }
 {
-    let acting = MayAct {
-        server: t.server(),
-        all: t.has_session(),
-    };
-    if t.operations().any(&acting) {
+    if may_act(t) {
         operate_all(t, now)
     } else {
         Ok(())
