@@ -1,15 +1,17 @@
 -- Where nothing waits and nothing is due, rules do nothing.
-use Rattle.std.proofs.Common.{◌≡◌, ℕ, Bool, true, false, ◌||◌, List, [], ◌∷◌, ◌++◌, refl, sym, ap, ◌∙◌, append_assoc, append-nil}
+use Rattle.std.proofs.Common.{◌≡◌, ℕ, Bool, true, false, ◌&&◌, ◌||◌, List, [], ◌∷◌, ◌++◌, refl, sym, ap, ◌∙◌, append_assoc, append-nil}
 use Rattle.std.specs.Prelude.{Option, Some, None, ◌==◌, cond, is_some, not}
 use Rattle.std.specs.List.{list_any}
-use Rattle.st_lemmas.proofs.Tables.{and_left, cond_false, not_false, not_true}
+use Rattle.st_lemmas.proofs.Tables.{and_left, and_right, cond_false, not_false, not_true}
 use Rattle.st_association.specs.Associations.{ClientAssociation}
-use Rattle.st_association.specs.Awake.{is_awake, is_awake_by, may_send}
+use Rattle.st_association.specs.Awake.{is_awake, is_awake_by, may_send, takes_all}
 use Rattle.st_base.specs.declared.ids.ServerId.{ServerId}
 use Rattle.st_base.specs.declared.ids.Stamp.{Stamp}
 use Rattle.st_messages.specs.declared.ask.Ask.{Ask}
+use Rattle.st_messages.specs.declared.ask.Ask.TheVariants as asks
 use Rattle.st_messages.specs.declared.message.Body.{Body}
 use Rattle.st_messages.specs.declared.message.Header.{Header}
+use Rattle.st_operations.specs.Pending.{asks_sync}
 use Rattle.st_rules.specs.declared.client.Operation.{Operation}
 use Rattle.st_rules.specs.declared.client.Release.{Release}
 use Rattle.st_rules.specs.declared.client.Request.{Request}
@@ -20,11 +22,11 @@ use Rattle.st_rules.specs.ClientLease.{is_renewing, phase_of}
 use Rattle.st_rules.specs.ClientLocks.{demanded_files}
 use Rattle.st_rules.specs.ClientPages.{Pages, dirty_places}
 use Rattle.st_rules.specs.ClientPasses as passes
-use Rattle.st_rules.specs.ClientPasses.{ask_by, ask_new, ask_next, asked_by, asks_or, first_asking, greet, greeting, greeting_by, is_greeting_due, is_old, keep_alive, ask_for_or, may_ask, must_greet, operate, operate_each, operations, reduce_each, reductions, repeat, requests, requests_at, requests_by, requests_under, write_each, writes, writes_by}
+use Rattle.st_rules.specs.ClientPasses.{ask_by, ask_new, ask_next, asked_by, asks_or, first_asking, greet, greeting, greeting_by, is_greeting_due, is_old, keep_alive, ask_for_or, may_ask, must_greet, operate, operate_by, operate_each, operate_on, operations, reduce_each, reductions, repeat, requests, requests_at, requests_by, requests_under, write_each, writes, writes_by}
 use Rattle.st_rules.specs.ClientReplies.{hear, is_heard}
-use Rattle.st_rules.specs.ClientState.{ClientSession, Turn, is_at, is_of, is_serving, keep, only_at, with_operations}
+use Rattle.st_rules.specs.ClientState.{ClientSession, Turn, is_at, is_of, is_serving, is_sync, keep, only_at, with_operations}
 use Rattle.st_rules.specs.Keys.{rising, server_node}
-use Rattle.st_client.specs.Idle.{IsIdle}
+use Rattle.st_client.specs.Idle.{IsIdle, may_act}
 
 or_parts : (a b : Bool) → (a || b) ≡ false → (a ≡ false) × (b ≡ false)
 or_parts true b e = cc
@@ -155,9 +157,76 @@ with_session_idle now tick t (Some s) h e f =
     ∙ ap (requests_by t now tick) h
     ∙ requests_idle now tick t s e q.1
 
-pub idle_passes : (now : Stamp) (tick : Bool) (operations : List Operation) (a : ClientAssociation) (b d : Bool) → b ≡ list_any (is_of a.here.server) operations → (d ≡ false → is_awake a.config now tick a.here ≡ false) →
-    (b || d) ≡ false → IsIdle (passes.passes now tick) operations a
-idle_passes now tick os a b d e g f t h k o =
-    let p = or_parts b d f in
-    with_session_idle now tick t t.here.session refl (ap (λ x. list_any (is_of x.server) t.operations) h ∙ ap (list_any (is_of a.here.server)) o ∙ sym e ∙ p.0)
-    (ap (λ c. is_awake c now tick t.here) k ∙ ap (λ x. is_awake a.config now tick x) h ∙ g p.1)
+-- Without a session, where no greeting is due: syncs alone do anything.
+
+ask_kept : (all : List Operation) (now : Stamp) (o : Operation) (t : Turn) (ask : Ask) → t.here.session ≡ None → is_sync ask ≡ false → operate_on all t now o ask ≡ keep o t
+unfolding operate_on operate_by
+ask_kept all now o t (asks.Write f p bytes) h e = ap (operate_by all t now o) h
+ask_kept all now o t (asks.Read f p) h e = ap (operate_by all t now o) h
+ask_kept all now o t (asks.Sync f) h e = cc
+ask_kept all now o t (asks.Cut f p) h e = ap (operate_by all t now o) h
+ask_kept all now o t (asks.Name s ask) h e = ap (operate_by all t now o) h
+ask_kept all now o t (asks.Patch f p at bytes) h e = ap (operate_by all t now o) h
+
+kept_both : (b c : Bool) (x y : Turn) → (b && c) ≡ false → (b ≡ false → x ≡ y) → cond c x y ≡ y
+kept_both true true x y e f = cc
+kept_both false true x y e f = f refl
+kept_both b false x y e f = refl
+
+operation_kept : (all : List Operation) (now : Stamp) (o : Operation) (t : Turn) → t.here.session ≡ None → may_act t.here.server false o ≡ false → operate all t now o ≡ keep o t
+unfolding operate
+operation_kept all now o t h e = kept_both (is_sync o.ask) (is_of t.here.server o) _ (keep o t) e (ask_kept all now o t o.ask h)
+
+each_left : (all : List Operation) (now : Stamp) (os : List Operation) (t : Turn) → t.here.session ≡ None → list_any (may_act t.here.server false) os ≡ false → operate_each all now os t ≡ with_operations (t.operations ++ os) t
+unfolding operate_each
+each_left all now [] t h e = ap (λ xs. with_operations xs t) (sym (append-nil t.operations))
+each_left all now (o ∷ os) t h e =
+    let p = or_parts (may_act t.here.server false o) (list_any (may_act t.here.server false) os) e in
+    ap (operate_each all now os) (operation_kept all now o t h p.0) ∙ each_left all now os (keep o t) h p.1
+    ∙ ap (λ xs. with_operations xs t) (append_assoc t.operations (o ∷ []) os)
+
+no_sync_idle : (now : Stamp) (t : Turn) → t.here.session ≡ None → list_any (may_act t.here.server false) t.operations ≡ false → operations now t ≡ t
+unfolding operations
+no_sync_idle now t h e = each_left t.operations now t.operations (with_operations [] t) h e
+
+not_due_idle : (now : Stamp) (tick : Bool) (t : Turn) → is_greeting_due t.config now tick t.here.greeting ≡ false → greeting_by t now tick None ≡ t
+unfolding greeting_by greet
+not_due_idle now tick t e = cond_false (must_greet t now tick) _ t (and_right (list_any (is_of t.here.server) t.operations) _ e)
+
+without_session_idle : (now : Stamp) (tick : Bool) (t : Turn) → t.here.session ≡ None → is_greeting_due t.config now tick t.here.greeting ≡ false →
+    list_any (may_act t.here.server false) t.operations ≡ false → passes.passes now tick t ≡ t
+unfolding passes.passes greeting writes writes_by requests requests_by
+without_session_idle now tick t h d e =
+    ap (λ u. requests now tick (greeting now tick (writes now tick (reductions u)))) (no_sync_idle now t h e)
+    ∙ ap (λ u. requests now tick (greeting now tick (writes now tick u))) (reductions_idle t (ap passes.files_demanded h))
+    ∙ ap (λ u. requests now tick (greeting now tick u)) (ap (writes_by t now tick) h)
+    ∙ ap (requests now tick) (ap (greeting_by t now tick) h ∙ not_due_idle now tick t d)
+    ∙ ap (requests_by t now tick) h
+
+no_session : (s : Option ClientSession) → is_some s ≡ false → s ≡ None
+no_session None e = refl
+no_session (Some s) e = cc
+
+-- Syncs alone may do anything, and there is none.
+
+pub none_acts : (server : ServerId) (os : List Operation) → list_any asks_sync os ≡ false → list_any (may_act server false) os ≡ false
+none_acts server [] e = refl
+none_acts server (o ∷ os) e =
+    let p = or_parts (is_sync o.ask) (list_any asks_sync os) e in
+    λ i. (p.0 i && is_of server o) || none_acts server os p.1 i
+
+-- The passes, by whether each pending operation of the server may do something.
+
+passes_idle : (now : Stamp) (tick : Bool) (t : Turn) (all : Bool) → takes_all t.config now tick t.here ≡ all → list_any (may_act t.here.server all) t.operations ≡ false →
+    is_awake t.config now tick t.here ≡ false → passes.passes now tick t ≡ t
+passes_idle now tick t true k e f = with_session_idle now tick t t.here.session refl e f
+passes_idle now tick t false k e f =
+    let p = or_parts (is_some t.here.session) (is_greeting_due t.config now tick t.here.greeting) k in
+    without_session_idle now tick t (no_session t.here.session p.0) p.1 e
+
+pub idle_passes : (now : Stamp) (tick : Bool) (operations : List Operation) (a : ClientAssociation) (server : ServerId) (all : Bool) → server ≡ a.here.server → all ≡ takes_all a.config now tick a.here →
+    list_any (may_act server all) operations ≡ false → is_awake a.config now tick a.here ≡ false → IsIdle (passes.passes now tick) operations a
+idle_passes now tick os a server all s u e g t h k o =
+    passes_idle now tick t all (ap (λ c. takes_all c now tick t.here) k ∙ ap (takes_all a.config now tick) h ∙ sym u)
+    (ap (λ x. list_any (may_act x.server all) t.operations) h ∙ ap (list_any (may_act a.here.server all)) o ∙ ap (λ x. list_any (may_act x all) os) (sym s) ∙ e)
+    (ap (λ c. is_awake c now tick t.here) k ∙ ap (is_awake a.config now tick) h ∙ g)

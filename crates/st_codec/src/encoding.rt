@@ -222,7 +222,8 @@ pub fn encode(alloc: Global, message: &Message) -> Result<Vec<u8>, AllocError>
     requires { fits.fits message.now ≡ true }
     ensures { IfOk result (λ bytes. bytes.items ≡ spells.spelling message.now) }
 {
-    let mut out = Vec::new(alloc);
+    // most messages are shorter
+    let mut out = Vec::with_capacity(alloc, 64)?;
     put_kind(&mut out, message.body.kind())?;
     put_header(&mut out, &message.header)?;
     put_body(&mut out, &message.body)?;

@@ -6,7 +6,7 @@ use Rattle.std.specs.List.{list_all, list_any, position, position_or_len}
 use Rattle.std.proofs.lemmas.Bool.{and_parts, le-ltb, lt-ltb}
 use denote.Ref.{Bor}
 use Rattle.st_rules.specs.declared.client.Operation.{Operation}
-use Rattle.st_operations.specs.Pending.{AreFit, KeepsFirst, is_fit, marked}
+use Rattle.st_operations.specs.Pending.{AreCounted, AreFit, KeepsFirst, asks_sync, count_syncs, is_fit, marked}
 
 -- the next one is passed over, as the one at a place is to be marked
 pub marked_more : (i n : ℕ) (kept now all old rest : List Operation) → i < n → kept ++ marked (n - i) old ≡ all → KeepsFirst kept old now rest → now ++ marked (n - (i + 1)) rest ≡ all
@@ -83,3 +83,67 @@ fit_removed (x ∷ xs) (suc i) h =
     let q = and_parts (is_fit x) (list_all is_fit xs) h in
     let r = fit_removed xs i q.1 in
     λ j. q.0 j && r j
+
+-- How many operations are syncs.
+
+-- one more, behind the others
+pub count_more : (os : List Operation) (o : Operation) → count_syncs (os ++ o ∷ []) ≡ count_syncs os + count_syncs (o ∷ [])
+count_more [] o = omega arith
+count_more (x ∷ xs) o = let e = count_more xs o in omega (arith, e)
+
+-- no more than there are operations
+pub count_small : (os : List Operation) → count_syncs os ≤ length os
+count_small [] = omega arith
+count_small (x ∷ xs) = by (asks_sync x) (count_small xs)
+  where
+    by : (b : Bool) → count_syncs xs ≤ length xs → cond b 1 0 + count_syncs xs ≤ suc (length xs)
+    by true h = omega (arith, h)
+    by false h = omega (arith, h)
+
+-- the one at a place, and the others
+pub count_taken : (os : List Operation) (i : ℕ) → count_syncs (option_to_list (slice_get os i)) + count_syncs (remove os i) ≡ count_syncs os
+count_taken [] zero = omega arith
+count_taken [] (suc i) = omega arith
+count_taken (x ∷ xs) zero = omega arith
+count_taken (x ∷ xs) (suc i) = let e = count_taken xs i in omega (arith, e)
+
+-- all are fit, and the syncs are counted, with one more
+fit_more : (os : List Operation) (o : Operation) → AreFit os → is_fit o ≡ true → AreFit (os ++ o ∷ [])
+fit_more [] o h f = λ j. f j && true
+fit_more (x ∷ xs) o h f =
+    let q = and_parts (is_fit x) (list_all is_fit xs) h in
+    let r = fit_more xs o q.1 f in
+    λ j. q.0 j && r j
+
+pub counted_more : (os : List Operation) (o : Operation) (n m : ℕ) (new : List Operation) → AreCounted os n → is_fit o ≡ true → m ≡ count_syncs (o ∷ []) → new ≡ os ++ o ∷ [] → AreCounted new (n + m)
+counted_more os o n m new h f k e = record {
+  fit = ap (list_all is_fit) e ∙ fit_more os o h.fit f;
+  count = (λ j. h.count j + k j) ∙ sym (count_more os o) ∙ sym (ap count_syncs e);
+}
+
+-- no more than there were are taken, and the others are counted
+pub counted_few : (os : List Operation) (i n m : ℕ) (r : Option Operation) → AreCounted os n → r ≡ slice_get os i → m ≡ count_syncs (option_to_list r) → m ≤ n
+counted_few os i n m r h e k =
+    let t = ap (λ x. count_syncs (option_to_list x)) e in
+    omega (arith, h.count, k, t, count_taken os i)
+
+pub counted_taken : (os : List Operation) (i n m : ℕ) (r : Option Operation) (new : List Operation) → AreCounted os n → r ≡ slice_get os i → m ≡ count_syncs (option_to_list r) → new ≡ remove os i → AreCounted new (n - m)
+counted_taken os i n m r new h e k l =
+    let t = ap (λ x. count_syncs (option_to_list x)) e in
+    let u = ap count_syncs l in
+    record {
+      fit = ap (list_all is_fit) l ∙ fit_removed os i h.fit;
+      count = omega (arith, h.count, k, t, u, count_taken os i);
+    }
+
+-- whether there is one
+any_counted : (os : List Operation) → nat_lt 0 (count_syncs os) ≡ list_any asks_sync os
+any_counted [] = refl
+any_counted (x ∷ xs) = by (asks_sync x) (any_counted xs)
+  where
+    by : (b : Bool) → nat_lt 0 (count_syncs xs) ≡ list_any asks_sync xs → nat_lt 0 (cond b 1 0 + count_syncs xs) ≡ (b || list_any asks_sync xs)
+    by true h = lt-ltb 0 (1 + count_syncs xs) (omega arith)
+    by false h = ap (nat_lt 0) (omega arith) ∙ h
+
+pub any_sync : (os : List Operation) (n : ℕ) → AreCounted os n → nat_lt 0 n ≡ list_any asks_sync os
+any_sync os n h = ap (nat_lt 0) h.count ∙ any_counted os

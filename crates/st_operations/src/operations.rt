@@ -3,9 +3,9 @@ ghost use Rattle.std.specs.List.{list_any};
 ghost use Rattle.std.specs.Option.{option_copied, option_to_list};
 ghost use Rattle.st_messages.specs.Fits.{is_ask};
 ghost use Rattle.st_rules.specs.ClientState as client_state;
-ghost use Rattle.st_operations.specs.Pending.{AreFit, KeepsFirst, TakesFirst, is_fit, marked, stuck};
+ghost use Rattle.st_operations.specs.Pending.{AreFit, KeepsFirst, TakesFirst, asks_sync, count_syncs, is_fit, marked, stuck};
 
-use crate::asks::{is_asked, is_sent};
+use crate::asks::{is_asked, is_sent, is_sync};
 use st_base::ServerId;
 use st_messages::{AppAnswer, Ask, Output};
 use st_rules::{Operation, Stage};
@@ -20,6 +20,8 @@ use std::mem;
 pub struct Operations {
     alloc: Global,
     rows: Ordered<Operation>,
+    /// How many of the rows are syncs.
+    syncs: usize,
 }
 
 impl Model for Operations {
@@ -28,11 +30,28 @@ impl Model for Operations {
 
     ghost Value = { List Operation };
 
-    ghost use Rattle.st_operations.specs.Pending.{AreFit};
+    ghost use Rattle.st_operations.specs.Pending.{AreCounted};
 
     ghost view = { λ o. o.rows };
 
-    ghost invariant = { λ o. AreFit o.rows };
+    ghost invariant = { λ o. AreCounted o.rows o.syncs };
+}
+
+/// One for a sync, and none for another operation.
+fn count_one(operation: &Operation) -> usize
+    ensures { result ≡ count_syncs (operation.now ∷ []) }
+{
+    if is_sync(&operation.ask) { 1 } else { 0 }
+}
+
+/// One for a sync, and none for another operation or for none.
+fn count_in(operation: &Option<Operation>) -> usize
+    ensures { result ≡ count_syncs (option_to_list operation.now) }
+{
+    match operation {
+        None => 0,
+        Some(operation) => count_one(operation),
+    }
 }
 
 /// The operation of the server's outstanding request is stuck.
@@ -80,6 +99,7 @@ impl Operations {
         Operations {
             alloc,
             rows: Ordered::new(alloc),
+            syncs: 0,
         }
     }
 
@@ -99,6 +119,13 @@ impl Operations {
         self.rows.len() >= 16
     }
 
+    /// Whether a sync is pending. It looks at no operation.
+    pub fn has_sync(&self) -> bool
+        ensures { result ≡ list_any asks_sync self.now }
+    {
+        self.syncs > 0
+    }
+
     /// The operation at a place.
     pub fn get(&self, place: usize) -> Option<&Operation>
         ensures found { option_copied result ≡ slice_get self.now place }
@@ -112,7 +139,10 @@ impl Operations {
         requires { is_fit operation ≡ true }
         ensures { OnOk result (self.new ≡ self.old ++ operation ∷ []) }
     {
+        let _len = self.rows.len();
+        let more = count_one(&operation);
         self.rows.push(operation)?;
+        self.syncs += more;
         Ok(())
     }
 
@@ -144,6 +174,18 @@ impl Operations {
         mem::replace(self, Operations::new(alloc))
     }
 
+    /// Takes out the operation at a place. It does not allocate.
+    fn take(&mut self, place: usize) -> Option<Operation>
+        requires { place < length self.old }
+        ensures taken { result ≡ slice_get self.old place }
+        ensures left { self.new ≡ remove self.old place }
+        ensures fit { AreFit self.old }
+    {
+        let operation = self.rows.take(place);
+        self.syncs -= count_in(&operation);
+        operation
+    }
+
     /// Takes out the first operation. `None` exactly where there is none. It does not allocate.
     pub fn take_first(&mut self) -> Option<Operation>
         ensures taken { TakesFirst self.old result self.new }
@@ -152,7 +194,7 @@ impl Operations {
         if self.rows.len() == 0 {
             None
         } else {
-            self.rows.take(0)
+            self.take(0)
         }
     }
 
@@ -161,7 +203,7 @@ impl Operations {
         requires { place < length self.old }
         ensures { self.new ≡ remove self.old place }
     {
-        let _operation = self.rows.take(place);
+        let _operation = self.take(place);
     }
 
     /// The operation goes behind the picked ones where it passes the test, and else behind those that stay.

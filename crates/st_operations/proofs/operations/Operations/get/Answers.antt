@@ -2,4 +2,4 @@ use Rattle.st_operations.proofs.Firsts.{fit_at}
 use Rattle.st_operations.proofs.operations.Operations.get.Goals as goal
 
 pub returns-clause-fit : goal.returns-clause-fit
-returns-clause-fit c = fit_at c.self.inside.rows c.args.place c.get.result c.self.invariant c.get.ensures.found
+returns-clause-fit c = fit_at c.self.inside.rows c.args.place c.get.result c.self.invariant.fit c.get.ensures.found
