@@ -9,7 +9,7 @@ use Rattle.st_base.specs.declared.mode.Mode.TheVariants as modes
 use Rattle.st_base.specs.Mode.{covers}
 use Rattle.st_messages.specs.declared.ask.Ask.{Ask}
 use Rattle.st_messages.specs.declared.ask.Ask.TheVariants as asks
-use Rattle.st_operations.specs.Pending.{asks_sync}
+use Rattle.st_operations.specs.Pending.{may_act}
 use Rattle.st_rules.specs.declared.client.DemandedFile.{DemandedFile}
 use Rattle.st_rules.specs.declared.client.Operation.{Operation}
 use Rattle.st_rules.specs.declared.pages.DirtyPage.{DirtyPage}
@@ -21,7 +21,7 @@ use Rattle.st_rules.specs.ClientPasses.{operate, operate_each, operate_on, opera
 use Rattle.st_rules.specs.ClientState.{ClientSession, Turn, is_of, is_on, is_sync, is_cut_or_name, is_sent, is_file, file_of, keep, with_operations}
 use Rattle.st_rules.specs.Keys.{past, placed, rising, with_key}
 use Rattle.st_association.specs.Turns.{has_session}
-use Rattle.st_client_passes.specs.Passing.{may_act, wants_writes}
+use Rattle.st_client_passes.specs.Passing.{wants_writes}
 use Rattle.st_client_passes.proofs.Sessions.{operate_without}
 
 or_no : (a b : Bool) → (a || b) ≡ false → (a ≡ false) × (b ≡ false)
@@ -43,14 +43,6 @@ without_session all now t o (asks.Patch f p at bytes) h e = operate_without all 
 without_session all now t o (asks.Read f p) h e = operate_without all t now o h
 without_session all now t o (asks.Cut f p) h e = operate_without all t now o h
 without_session all now t o (asks.Name server ask) h e = operate_without all t now o h
-
--- without a sync none of the syncs may act
-pub no_sync : (server : ServerId) (os : List Operation) → list_any asks_sync os ≡ false → list_any (may_act server false) os ≡ false
-no_sync server [] h = refl
-no_sync server (o ∷ os) h =
-    let q = or_no (asks_sync o) (list_any asks_sync os) h in
-    let r = no_sync server os q.1 in
-    λ i. (q.0 i && is_of server o) || r i
 
 -- an operation for which nothing may be done stays
 no_act : (all : List Operation) (now : Stamp) (t : Turn) (o : Operation) → may_act t.here.server (has_session t) o ≡ false → operate all t now o ≡ keep o t

@@ -1,37 +1,19 @@
 // The pass over the pending operations: each is answered, or stays pending.
-ghost use Rattle.std.specs.List.{list_any};
-ghost use Rattle.std.specs.Prelude.{◌≡◌, ◌+◌, ◌<◌, ◌^◌, [], false, true, if◌then◌else◌, length, remove, slice_get, IfOk, IfSome, OnOk};
+ghost use Rattle.std.specs.Prelude.{◌≡◌, ◌+◌, ◌<◌, ◌^◌, [], true, if◌then◌else◌, length, remove, slice_get, IfOk, IfSome, OnOk};
 ghost use Rattle.st_association.specs.Turns.{has_session, session_of};
 ghost use Rattle.st_operations.specs.Pending.{is_fit};
 ghost use Rattle.st_rules.specs.ClientPasses as passes;
 ghost use Rattle.st_rules.specs.ClientState as client_state;
-ghost use Rattle.st_client_passes.specs.Passing.{is_serving_at, may_act, put_back};
+ghost use Rattle.st_client_passes.specs.Passing.{is_serving_at, put_back};
 
 use crate::changing::{answer, patch, write};
 use crate::reading::read;
 use st_association::Turn;
-use st_base::{FileId, ServerId, Stamp};
+use st_base::{FileId, Stamp};
 use st_messages::{AppAnswer, Ask};
-use st_operations::{Operations, Test, file_of, is_of, is_sent, is_sync};
+use st_operations::{Operations, file_of, is_of, is_sent};
 use st_rules::Operation;
 use std::alloc::AllocError;
-
-/// The operations of a server for which the pass may do something: with a session all of them, and without one the syncs.
-#[derive(Clone, Copy)]
-struct MayAct {
-    server: ServerId,
-    all: bool,
-}
-
-impl Test<Operation> for MayAct {
-    ghost use Rattle.st_client_passes.specs.Passing.{may_act};
-
-    ghost passes = { λ t o. may_act t.server t.all o };
-
-    fn test(&self, operation: &Operation) -> bool {
-        (self.all || is_sync(&operation.ask)) && is_of(self.server, operation)
-    }
-}
 
 /// A sync is hard where its file has no dirty page and no outstanding write.
 #[tactic(auto, unfolding(st_rules::specs::ClientPasses::sync))]
@@ -228,37 +210,11 @@ fn operate_all(t: &mut Turn, now: Stamp) -> Result<(), AllocError>
     Ok(())
 }
 
-/// Whether the pass may do something for a pending sync. Where no sync is pending it looks at no operation.
-fn may_act_for_syncs(t: &Turn) -> bool
-    ensures { result ≡ list_any (may_act t.now.here.server false) t.now.operations }
-{
-    let syncs = MayAct {
-        server: t.server(),
-        all: false,
-    };
-    t.operations().has_sync() && t.operations().any(&syncs)
-}
-
-/// Whether the pass may do something for a pending operation.
-fn may_act(t: &Turn) -> bool
-    ensures { result ≡ list_any (may_act t.now.here.server (has_session t.now)) t.now.operations }
-{
-    if t.has_session() {
-        let here = MayAct {
-            server: t.server(),
-            all: true,
-        };
-        t.operations().any(&here)
-    } else {
-        may_act_for_syncs(t)
-    }
-}
-
-/// Operations. Where the pass does nothing for any that is pending, all stay.
+/// Operations. Where none of this server is pending, or only others than syncs without a session, all stay.
 pub fn operations(t: &mut Turn, now: Stamp) -> Result<(), AllocError>
     ensures { OnOk result (t.new ≡ passes.operations now t.old) }
 {
-    if may_act(t) {
+    if t.operations().any_may_act(t.server(), t.has_session()) {
         operate_all(t, now)
     } else {
         Ok(())
