@@ -23,6 +23,7 @@ use Rattle.st_rules.specs.declared.client.WriteRefusal.TheVariants as writing
 use Rattle.st_rules.specs.declared.pages.DirtyPage.{DirtyPage}
 use Rattle.st_store.specs.Stores.{ServerStore}
 use Rattle.st_association.specs.Turns.{IsTurn, most_of}
+use Rattle.st_association.specs.declared.association.Parts.{Parts}
 
 -- versions stay where a page is used
 pub versions_used : (ps : Pages) (ino : ℕ) (p : PageNo) → (use_page ps ino p).next_version ≡ ps.next_version
@@ -69,6 +70,10 @@ version_written ps qs ino p bytes e = by (is_full_for ps ino p) e
     by : (b : Bool) → (if b then refused_write else Ok (written ps ino p bytes)) ≡ Ok qs → qs.next_version ≡ ps.next_version + 1
     by true e = cc
     by false e = let s : written ps ino p bytes ≡ qs = cc in sym (ap (λ z. z.next_version) s)
+
+-- the parts are lent out of their box
+pub lent : (p q : Parts) (next : ℕ) (out : List Output) → q ≡ p → IsTurn p.id p.config p.server p.life p.session p.store next out → IsTurn q.id q.config q.server q.life q.session q.store next out
+lent p q next out e i = subst (λ (z : Parts). IsTurn z.id z.config z.server z.life z.session z.store next out) (sym e) i
 
 module _ (client : ClientId) (config : Config) (server : ServerId) (life : Life) where
   -- a session and a store are changed that keep their parties and counters

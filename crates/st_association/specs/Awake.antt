@@ -6,6 +6,7 @@ use Rattle.st_rules.specs.Client.{is_any}
 use Rattle.st_rules.specs.ClientLease.{is_renewing, phase_of}
 use Rattle.st_rules.specs.ClientLocks.{demanded_files}
 use Rattle.st_rules.specs.ClientPages.{Store}
+use Rattle.st_rules.specs.ClientPasses.{is_greeting_due}
 use Rattle.st_rules.specs.ClientState.{Association, ClientSession}
 
 -- A session may have a request to send: the outstanding one again, on a tick, or a reassertion, a release or a keep-alive.
@@ -20,3 +21,7 @@ is_awake_by k now tick st (Some s) = is_any (demanded_files s.locks) || (is_any 
 -- anything waits or is due
 abbrev pub is_awake : Config → Stamp → Bool → Association → Bool
 is_awake k now tick a = is_awake_by k now tick a.store a.session
+
+-- with a session, or where a greeting is due, each pending operation may do something
+abbrev pub takes_all : Config → Stamp → Bool → Association → Bool
+takes_all k now tick a = is_some a.session || is_greeting_due k now tick a.greeting

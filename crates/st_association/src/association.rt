@@ -13,9 +13,9 @@ use st_store::Store;
 use std::alloc::{AllocError, Global};
 use std::marker::Model;
 
-/// What a client has of one server. Contracts see the client, the settings, and the definitions' association.
+/// What an association is made of. It stays where it is while a step takes the association and gives it back.
 #[derive(Drop)]
-pub struct Association {
+pub(crate) struct Parts {
     pub(crate) id: ClientId,
     pub(crate) config: Config,
     pub(crate) server: ServerId,
@@ -26,6 +26,12 @@ pub struct Association {
     pub(crate) lost: LostPages,
 }
 
+/// What a client has of one server. Contracts see the client, the settings, and the definitions' association.
+#[derive(Drop)]
+pub struct Association {
+    pub(crate) here: Box<Parts>,
+}
+
 impl Model for Association {
     ghost use Rattle.std.specs.Prelude.{option_map};
     ghost use Rattle.st_association.specs.Associations.{ClientAssociation, IsAssociation};
@@ -34,19 +40,19 @@ impl Model for Association {
     ghost Value = { ClientAssociation };
 
     ghost view = { λ a. record {
-      id = a.id;
-      config = a.config;
+      id = a.here.value.id;
+      config = a.here.value.config;
       here = record {
-        server = a.server;
-        life = a.life;
-        greeting = a.greeting;
-        session = option_map told_session a.session;
-        store = a.store.store;
-        lost = a.lost;
+        server = a.here.value.server;
+        life = a.here.value.life;
+        greeting = a.here.value.greeting;
+        session = option_map told_session a.here.value.session;
+        store = a.here.value.store.store;
+        lost = a.here.value.lost;
       };
     } };
 
-    ghost invariant = { λ a. IsAssociation a.id a.config a.server a.life a.session a.store };
+    ghost invariant = { λ a. IsAssociation a.here.value.id a.here.value.config a.here.value.server a.here.value.life a.here.value.session a.here.value.store };
 }
 
 impl Association {
@@ -62,7 +68,7 @@ impl Association {
         requires node { server.0 < 32768 }
         ensures { IfOk result (λ a. a ≡ record { id = id; config = config.now; here = client.association_of life server }) }
     {
-        Ok(Association {
+        let parts = Parts {
             id,
             config: *config,
             server,
@@ -71,6 +77,9 @@ impl Association {
             session: None,
             store: Store::new(alloc, server)?,
             lost: LostPages::new(alloc),
+        };
+        Ok(Association {
+            here: Box::new(alloc, parts)?,
         })
     }
 
@@ -78,7 +87,7 @@ impl Association {
     pub fn server(&self) -> ServerId
         ensures { result ≡ self.now.here.server }
     {
-        self.server
+        self.here.server
     }
 
     /// A step at this association begins, with the pending operations, the next command's number and the outputs so far.
@@ -92,26 +101,10 @@ impl Association {
         requires counted { IsCounted self.here next_command out.items }
         ensures { result ≡ record { id = self.id; config = self.config; here = self.here; operations = operations; next_command = next_command; out = out.items } }
     {
-        let Association {
-            id,
-            config,
-            server,
-            life,
-            greeting,
-            session,
-            store,
-            lost,
-        } = self;
+        let Association { here } = self;
         Turn {
             alloc,
-            id,
-            config,
-            server,
-            life,
-            greeting,
-            session,
-            store,
-            lost,
+            here,
             operations,
             next_command,
             out,
@@ -127,28 +120,11 @@ impl Turn {
     {
         let Turn {
             alloc: _,
-            id,
-            config,
-            server,
-            life,
-            greeting,
-            session,
-            store,
-            lost,
+            here,
             operations,
             next_command,
             out,
         } = self;
-        let association = Association {
-            id,
-            config,
-            server,
-            life,
-            greeting,
-            session,
-            store,
-            lost,
-        };
-        (association, operations, next_command, out)
+        (Association { here }, operations, next_command, out)
     }
 }

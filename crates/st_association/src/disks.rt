@@ -22,8 +22,9 @@ impl Turn {
         requires serving { client.is_serving self.old.config (session_of self.old) now ≡ true }
         ensures { self.new ≡ with_pages (pages.use_page self.old.here.store.pages ino page) self.old }
     {
-        match &mut self.session {
-            Some(session) => session.use_page(now, &mut self.store, ino, page),
+        let here = &mut *self.here;
+        match &mut here.session {
+            Some(session) => session.use_page(now, &mut here.store, ino, page),
             None => unreachable!(),
         }
     }
@@ -50,8 +51,9 @@ impl Turn {
             what: Command::Read { at: mapping.at },
         })?;
         let _count = count(&self.out);
-        match &mut self.session {
-            Some(session) => session.begin_read(now, &mut self.store, number, ino, page)?,
+        let here = &mut *self.here;
+        match &mut here.session {
+            Some(session) => session.begin_read(now, &mut here.store, number, ino, page)?,
             None => unreachable!(),
         }
         self.next_command = number + 1;
@@ -72,7 +74,7 @@ impl Turn {
         requires unwritten { pages.is_being_written self.old.here.store.commands ino page ≡ false }
         ensures { OnOk result ((d : DirtyPage) → pages.dirty_of self.old.here.store.pages ino page ≡ Some d → self.new ≡ passes.submit_write self.old d mapping) }
     {
-        let Some(dirty) = self.store.dirty_page(ino, page) else {
+        let Some(dirty) = self.here.store.dirty_page(ino, page) else {
             return Ok(());
         };
         let dirty = dirty.copy()?;
@@ -94,8 +96,9 @@ impl Turn {
     {
         let _count = count(&self.out);
         self.out.reserve(1)?;
-        let changed = match &mut self.session {
-            Some(session) => session.change(now, &mut self.store, ino, page, bytes),
+        let here = &mut *self.here;
+        let changed = match &mut here.session {
+            Some(session) => session.change(now, &mut here.store, ino, page, bytes),
             None => unreachable!(),
         };
         match changed {
@@ -139,8 +142,9 @@ impl Turn {
             },
         })?;
         let _count = count(&self.out);
-        match &mut self.session {
-            Some(session) => session.begin_write(now, &mut self.store, number, ino, page, version)?,
+        let here = &mut *self.here;
+        match &mut here.session {
+            Some(session) => session.begin_write(now, &mut here.store, number, ino, page, version)?,
             None => unreachable!(),
         }
         self.next_command = number + 1;

@@ -18,9 +18,9 @@ impl Turn {
         ensures matched { AreMatched self.now.here.store.pages.dirty self.now.here.store.commands }
         ensures apart { AreApart self.now.here.store.commands }
     {
-        let _dirty = self.store.dirty_count();
-        let _on = self.store.command_on(0, PageNo(0));
-        match self.store.command(number) {
+        let _dirty = self.here.store.dirty_count();
+        let _on = self.here.store.command_on(0, PageNo(0));
+        match self.here.store.command(number) {
             None => None,
             Some((ino, page, kind)) => Some(PageCommand {
                 number,
@@ -35,7 +35,7 @@ impl Turn {
     pub fn version(&self, ino: u32, page: PageNo) -> u64
         ensures { result ≡ pages.version_of self.now.here.store.pages ino page }
     {
-        self.store.version(ino, page)
+        self.here.store.version(ino, page)
     }
 
     /// A command ended, as done or as failed; `version` is that of its page now. It is outstanding no more. It does not allocate.
@@ -43,7 +43,7 @@ impl Turn {
         ensures ended { result ≡ (pages.end_command self.old.here.store.commands number ok version).ended }
         ensures left { self.new ≡ client.with_store (record self.old.here.store { commands = (pages.end_command self.old.here.store.commands number ok version).commands }) self.old }
     {
-        self.store.done(number, ok, version)
+        self.here.store.done(number, ok, version)
     }
 
     /// A page that is not dirty becomes the newest clean one with these bytes. The bytes are shared.
@@ -51,7 +51,7 @@ impl Turn {
         requires { pages.dirty_of self.old.here.store.pages ino page ≡ None }
         ensures { OnOk result (self.new ≡ with_pages (pages.fill self.old.here.store.pages ino page bytes.now) self.old) }
     {
-        self.store.fill(ino, page, bytes)?;
+        self.here.store.fill(ino, page, bytes)?;
         Ok(())
     }
 
@@ -60,7 +60,7 @@ impl Turn {
         requires { pages.command_on self.old.here.store.commands ino page ≡ None }
         ensures { OnOk result (self.new ≡ with_pages (pages.harden self.old.here.store.pages ino page) self.old) }
     {
-        self.store.harden(ino, page)?;
+        self.here.store.harden(ino, page)?;
         Ok(())
     }
 
@@ -68,6 +68,6 @@ impl Turn {
     pub fn fail(&mut self, ino: u32, page: PageNo, command: u64)
         ensures { self.new ≡ with_pages (pages.fail self.old.here.store.pages ino page command) self.old }
     {
-        self.store.fail(ino, page, command);
+        self.here.store.fail(ino, page, command);
     }
 }

@@ -56,7 +56,7 @@ impl Turn {
     pub fn has_lost(&self, ino: u32) -> bool
         ensures { result ≡ pages.has_lost self.now.here.lost ino }
     {
-        self.lost.has(ino)
+        self.here.lost.has(ino)
     }
 
     /// The lost pages of a file are told, and forgotten.
@@ -64,7 +64,7 @@ impl Turn {
     pub fn tell_lost(&mut self, op: u32, ino: u32) -> Result<(), AllocError>
         ensures { OnOk result (self.new ≡ node.tell_lost self.old op ino) }
     {
-        let rows = self.lost.tell(ino)?;
+        let rows = self.here.lost.tell(ino)?;
         self.answer(op, AppAnswer::Lost(rows))
     }
 
@@ -72,7 +72,8 @@ impl Turn {
     fn keep_lost(&mut self) -> Result<(), AllocError>
         ensures { OnOk result (self.new ≡ node.with_lost_pages self.old.here.store self.old) }
     {
-        put_lost(&self.store, &mut self.lost)
+        let here = &mut *self.here;
+        put_lost(&here.store, &mut here.lost)
     }
 
     /// Nothing is left but the lost pages, and the next life begins.
@@ -83,12 +84,12 @@ impl Turn {
         ensures { self.new ≡ node.empty_here self.old }
     {
         let _count = crate::outputs::count(&self.out);
-        match self.session.take() {
-            Some(session) => session.end_lost(&mut self.store, now),
+        match self.here.session.take() {
+            Some(session) => session.end_lost(&mut self.here.store, now),
             None => unreachable!(),
         }
-        self.greeting = None;
-        self.life = Life(self.life.0 + 1);
+        self.here.greeting = None;
+        self.here.life = Life(self.here.life.0 + 1);
     }
 
     /// A lease that is over is noted as lost; each dirty page joins the lost ones; all else but the pending operations is emptied, and
@@ -98,7 +99,7 @@ impl Turn {
         requires over { lasts_here self.old.config now self.old.here ≡ false }
         ensures { OnOk result (self.new ≡ node.empty_here (node.with_lost_pages self.old.here.store (client.note self.old (notes.Lost self.old.here.server self.old.here.life)))) }
     {
-        let server = self.server;
+        let server = self.here.server;
         let life = self.life();
         self.note(Note::Lost { server, life })?;
         self.keep_lost()?;

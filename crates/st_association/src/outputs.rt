@@ -41,9 +41,9 @@ impl Turn {
         ensures { result ≡ client.header_of self.now epoch number stamp }
     {
         Header {
-            from: self.id.0,
-            to: 32_768 + self.server.0,
-            life: self.life.0,
+            from: self.here.id.0,
+            to: 32_768 + self.here.server.0,
+            life: self.here.life.0,
             epoch,
             number,
             stamp,

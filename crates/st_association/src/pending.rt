@@ -84,6 +84,6 @@ impl Turn {
     pub fn leave_stuck(&mut self) -> Result<(), AllocError>
         ensures { OnOk result (self.new ≡ replies.leave_stuck self.old) }
     {
-        self.operations.leave_stuck(self.server)
+        self.operations.leave_stuck(self.here.server)
     }
 }

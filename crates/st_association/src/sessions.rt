@@ -95,7 +95,7 @@ impl Turn {
         requires { has_session self.now ≡ true }
         ensures { result ≡ client.is_busy operations.now self.now.here.server (session_of self.now) ino }
     {
-        let server = self.server;
+        let server = self.here.server;
         is_file(ino, self.session().cutting()) || operations.any(&SentOn { server, ino })
     }
 
@@ -128,7 +128,7 @@ impl Turn {
         requires { has_session self.old ≡ true }
         ensures { self.new ≡ client.with_session (client.forget_wait ino (session_of self.old)) self.old }
     {
-        match &mut self.session {
+        match &mut self.here.session {
             Some(session) => session.forget_wait(ino),
             None => unreachable!(),
         }
@@ -139,7 +139,7 @@ impl Turn {
         requires { has_session self.old ≡ true }
         ensures { OnOk result (self.new ≡ client.with_session (client.with_release ino g to (session_of self.old)) self.old) }
     {
-        match &mut self.session {
+        match &mut self.here.session {
             Some(session) => session.queue_release(ino, g, to),
             None => unreachable!(),
         }
@@ -159,7 +159,7 @@ impl Turn {
         requires { has_session self.old ≡ true }
         ensures { OnOk result (self.new ≡ client.with_session (replies.grant (session_of self.old) ino g mode) self.old) }
     {
-        match &mut self.session {
+        match &mut self.here.session {
             Some(session) => session.grant(ino, g, mode),
             None => unreachable!(),
         }
@@ -170,7 +170,7 @@ impl Turn {
         requires { has_session self.old ≡ true }
         ensures { OnOk result (self.new ≡ client.with_session (replies.wait_unless_held (session_of self.old) ino mode now) self.old) }
     {
-        match &mut self.session {
+        match &mut self.here.session {
             Some(session) => session.queued(ino, mode, now),
             None => unreachable!(),
         }
@@ -182,7 +182,7 @@ impl Turn {
         ensures asked { IfOk result (λ asked. asked ≡ (locks.demand (session_of self.old).locks ino g to).asked) }
         ensures ok { OnOk result (self.new ≡ client.with_session (client.with_cache (locks.demand (session_of self.old).locks ino g to).locks (session_of self.old)) self.old) }
     {
-        match &mut self.session {
+        match &mut self.here.session {
             Some(session) => session.demand(ino, g, to),
             None => unreachable!(),
         }
@@ -193,7 +193,7 @@ impl Turn {
         requires { has_session self.old ≡ true }
         ensures { OnOk result (self.new ≡ client.with_session (replies.release_unheld (session_of self.old) ino g) self.old) }
     {
-        match &mut self.session {
+        match &mut self.here.session {
             Some(session) => session.release_unheld(ino, g),
             None => unreachable!(),
         }
@@ -204,7 +204,7 @@ impl Turn {
         requires { has_session self.old ≡ true }
         ensures { Reduces self.old self.new result ino }
     {
-        match &mut self.session {
+        match &mut self.here.session {
             Some(session) => session.reduce(ino),
             None => unreachable!(),
         }
@@ -215,7 +215,7 @@ impl Turn {
         requires { has_session self.old ≡ true }
         ensures { self.new ≡ client.with_session (client.with_cache (locks.drop_lock (session_of self.old).locks ino) (session_of self.old)) self.old }
     {
-        match &mut self.session {
+        match &mut self.here.session {
             Some(session) => session.drop_lock(ino),
             None => unreachable!(),
         }
@@ -226,7 +226,7 @@ impl Turn {
         requires { has_session self.old ≡ true }
         ensures { TakesRelease self.old result self.new }
     {
-        match &mut self.session {
+        match &mut self.here.session {
             Some(session) => session.take_release(),
             None => unreachable!(),
         }
@@ -237,7 +237,7 @@ impl Turn {
         requires { has_session self.old ≡ true }
         ensures { self.new ≡ client.with_session (record (session_of self.old) { due = false }) self.old }
     {
-        match &mut self.session {
+        match &mut self.here.session {
             Some(session) => session.reasserted(),
             None => unreachable!(),
         }
@@ -248,7 +248,7 @@ impl Turn {
         requires { has_session self.old ≡ true }
         ensures { self.new ≡ client.with_session (replies.in_epoch epoch (session_of self.old)) self.old }
     {
-        match &mut self.session {
+        match &mut self.here.session {
             Some(session) => session.begin_epoch(epoch),
             None => unreachable!(),
         }
@@ -260,7 +260,7 @@ impl Turn {
         ensures body { result ≡ option_map body_of (session_of self.old).requests.asked }
         ensures left { self.new ≡ client.with_session (client.without_request (session_of self.old)) self.old }
     {
-        match &mut self.session {
+        match &mut self.here.session {
             Some(session) => session.end_request(),
             None => unreachable!(),
         }
@@ -274,7 +274,7 @@ impl Turn {
         requires reading { now.0 ≤ 2 ^ 62 }
         ensures { self.new ≡ client.with_session (replies.with_renewed stamp (session_of self.old)) self.old }
     {
-        match &mut self.session {
+        match &mut self.here.session {
             Some(session) => session.renew(stamp, now),
             None => unreachable!(),
         }
@@ -286,7 +286,7 @@ impl Turn {
         requires lasting { lasts_here self.old.config now self.old.here ≡ true }
         ensures { self.new ≡ client.with_session (client.with_lease (leases.condemned (session_of self.old).lease) (session_of self.old)) self.old }
     {
-        match &mut self.session {
+        match &mut self.here.session {
             Some(session) => session.condemn(now),
             None => unreachable!(),
         }
@@ -301,7 +301,7 @@ impl Turn {
     {
         let _count = count(&self.out);
         self.out.reserve(1)?;
-        let message = match &mut self.session {
+        let message = match &mut self.here.session {
             Some(session) => session.ask(body, cutting, now)?,
             None => unreachable!(),
         };
@@ -314,7 +314,7 @@ impl Turn {
         requires { has_session self.old ≡ true }
         ensures { IfOk result (λ m. SendsAgain self.old self.new m now (session_of self.old).requests.asked) }
     {
-        let message = match &mut self.session {
+        let message = match &mut self.here.session {
             Some(session) => session.again(now)?,
             None => unreachable!(),
         };

@@ -1,13 +1,14 @@
 // What an association tells of itself between steps.
-ghost use Rattle.std.specs.Prelude.{◌≡◌, false, not, Some};
+ghost use Rattle.std.specs.Prelude.{◌≡◌, ◌+◌, false, nat_le, not, Some};
 ghost use Rattle.std.specs.List.{list_any};
 ghost use Rattle.st_association.specs.Associations.{has_room_at, may_ask};
-ghost use Rattle.st_association.specs.Awake.{is_awake, is_awake_by, may_send};
+ghost use Rattle.st_association.specs.Awake.{is_awake, is_awake_by, may_send, takes_all};
 ghost use Rattle.st_rules.specs.Client as client;
 ghost use Rattle.st_rules.specs.ClientInvariants.{lasts_here};
 ghost use Rattle.st_rules.specs.ClientLease as leases;
 ghost use Rattle.st_rules.specs.ClientLocks as locks;
 ghost use Rattle.st_rules.specs.ClientPages as pages;
+ghost use Rattle.st_rules.specs.ClientPasses as passes;
 
 use crate::association::Association;
 use st_base::{Life, Stamp};
@@ -19,14 +20,14 @@ impl Association {
     pub fn life(&self) -> Life
         ensures { result ≡ self.now.here.life }
     {
-        self.life
+        self.here.life
     }
 
     /// The moment from which the lease is over, where one is held.
     pub fn lease_end(&self) -> Option<Stamp>
         ensures { result ≡ leases.end_at self.now.config (client.lease_at (Some self.now.here)) }
     {
-        match &self.session {
+        match &self.here.session {
             Some(session) => Some(session.end()),
             None => None,
         }
@@ -36,7 +37,7 @@ impl Association {
     pub fn phase(&self, now: Stamp) -> Option<Phase>
         ensures { result ≡ leases.phase_at self.now.config (client.lease_at (Some self.now.here)) now }
     {
-        match &self.session {
+        match &self.here.session {
             Some(session) => Some(session.phase(now)),
             None => None,
         }
@@ -47,21 +48,21 @@ impl Association {
     pub fn has_dirty(&self) -> bool
         ensures { result ≡ client.is_any self.now.here.store.pages.dirty }
     {
-        self.store.dirty_count() > 0
+        self.here.store.dirty_count() > 0
     }
 
     /// Whether a write is outstanding.
     pub fn has_write_out(&self) -> bool
         ensures { result ≡ list_any pages.is_any_write self.now.here.store.commands }
     {
-        self.store.has_write_out()
+        self.here.store.has_write_out()
     }
 
     /// Whether a number is left for one more request.
     fn may_ask(&self) -> bool
         ensures { result ≡ may_ask self.now.here.session }
     {
-        match &self.session {
+        match &self.here.session {
             Some(session) => session.has_room(),
             None => true,
         }
@@ -71,14 +72,14 @@ impl Association {
     pub fn has_room(&self) -> bool
         ensures { result ≡ has_room_at self.now.here }
     {
-        self.store.has_room() && self.life.0 < 4_611_686_018_427_387_904 && self.may_ask()
+        self.here.store.has_room() && self.here.life.0 < 4_611_686_018_427_387_904 && self.may_ask()
     }
 
     /// Whether the lease is over.
     pub fn is_over(&self, now: Stamp) -> bool
         ensures { result ≡ not (lasts_here self.now.config now self.now.here) }
     {
-        match &self.session {
+        match &self.here.session {
             Some(session) => session.is_over(now),
             None => false,
         }
@@ -96,11 +97,35 @@ impl Association {
     pub fn is_awake(&self, now: Stamp, tick: bool) -> bool
         ensures { result ≡ false → is_awake self.now.config now tick self.now.here ≡ false }
     {
-        match &self.session {
+        match &self.here.session {
             Some(session) => self.is_session_awake(session, now, tick),
             None => false,
         }
     }
+
+    /// Whether a greeting is due: none was sent yet, or on a tick the last one is old.
+    fn is_greeting_due(&self, now: Stamp, tick: bool) -> bool
+        ensures { result ≡ passes.is_greeting_due self.now.config now tick self.now.here.greeting }
+    {
+        match self.here.greeting {
+            None => true,
+            Some(at) => tick && has_passed(self.here.config.retry, at, now),
+        }
+    }
+
+    /// Whether each pending operation of the server may do something there: with a session, or where a greeting is due.
+    pub fn takes_all(&self, now: Stamp, tick: bool) -> bool
+        ensures { result ≡ takes_all self.now.config now tick self.now.here }
+    {
+        self.here.session.is_some() || self.is_greeting_due(now, tick)
+    }
+}
+
+/// Whether this time has passed since a moment.
+fn has_passed(time: u64, since: Stamp, now: Stamp) -> bool
+    ensures { result ≡ nat_le (since.0 + time) now.0 }
+{
+    since.0 <= now.0 && time <= now.0 - since.0
 }
 
 /// Whether the lease is in renewal, in quiesce or in flush.

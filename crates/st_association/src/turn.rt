@@ -4,12 +4,11 @@ ghost use Rattle.st_rules.specs.ClientPasses as passes;
 ghost use Rattle.st_rules.specs.ClientReplies as replies;
 ghost use Rattle.st_rules.specs.Keys.{server_node};
 
+use crate::association::Parts;
 use st_base::{ClientId, Config, Epoch, FileId, Life, ServerId, Stamp};
 use st_client_session::Session;
-use st_lost::LostPages;
 use st_messages::Output;
 use st_operations::Operations;
-use st_store::Store;
 use std::alloc::Global;
 use std::marker::Model;
 
@@ -18,14 +17,7 @@ use std::marker::Model;
 #[derive(Drop)]
 pub struct Turn {
     pub(crate) alloc: Global,
-    pub(crate) id: ClientId,
-    pub(crate) config: Config,
-    pub(crate) server: ServerId,
-    pub(crate) life: Life,
-    pub(crate) greeting: Option<Stamp>,
-    pub(crate) session: Option<Session>,
-    pub(crate) store: Store,
-    pub(crate) lost: LostPages,
+    pub(crate) here: Box<Parts>,
     pub(crate) operations: Operations,
     pub(crate) next_command: u64,
     pub(crate) out: Vec<Output>,
@@ -39,22 +31,22 @@ impl Model for Turn {
     ghost Value = { shared.Turn };
 
     ghost view = { λ t. record {
-      id = t.id;
-      config = t.config;
+      id = t.here.value.id;
+      config = t.here.value.config;
       here = record {
-        server = t.server;
-        life = t.life;
-        greeting = t.greeting;
-        session = option_map told_session t.session;
-        store = t.store.store;
-        lost = t.lost;
+        server = t.here.value.server;
+        life = t.here.value.life;
+        greeting = t.here.value.greeting;
+        session = option_map told_session t.here.value.session;
+        store = t.here.value.store.store;
+        lost = t.here.value.lost;
       };
       operations = t.operations;
       next_command = t.next_command;
       out = t.out.items;
     } };
 
-    ghost invariant = { λ t. IsTurn t.id t.config t.server t.life t.session t.store t.next_command t.out.items };
+    ghost invariant = { λ t. IsTurn t.here.value.id t.here.value.config t.here.value.server t.here.value.life t.here.value.session t.here.value.store t.next_command t.out.items };
 }
 
 impl Turn {
@@ -67,21 +59,21 @@ impl Turn {
     pub fn id(&self) -> ClientId
         ensures { result ≡ self.now.id }
     {
-        self.id
+        self.here.id
     }
 
     /// The settings.
     pub fn config(&self) -> &Config
         ensures { result.now ≡ self.now.config }
     {
-        &self.config
+        &self.here.config
     }
 
     /// The server.
     pub fn server(&self) -> ServerId
         ensures { result ≡ self.now.here.server }
     {
-        self.server
+        self.here.server
     }
 
     /// The life at the server.
@@ -89,28 +81,28 @@ impl Turn {
         ensures life { result ≡ self.now.here.life }
         ensures below { self.now.here.life.0 < most_of self.now.out }
     {
-        self.life
+        self.here.life
     }
 
     /// How long an unanswered message stays before it is sent again.
     pub fn retry(&self) -> u64
         ensures { result ≡ self.now.config.retry }
     {
-        self.config.retry
+        self.here.config.retry
     }
 
     /// The client greeted now.
     pub fn set_greeting(&mut self, now: Stamp)
         ensures { self.new ≡ passes.with_greeting now self.old }
     {
-        self.greeting = Some(now);
+        self.here.greeting = Some(now);
     }
 
     /// When the client greeted, if it waits for an answer.
     pub fn greeting(&self) -> Option<Stamp>
         ensures { result ≡ self.now.here.greeting }
     {
-        self.greeting
+        self.here.greeting
     }
 
     /// A file of the server.
@@ -118,7 +110,7 @@ impl Turn {
         ensures { result ≡ passes.file self.now ino }
     {
         FileId {
-            server: self.server,
+            server: self.here.server,
             ino,
         }
     }
@@ -127,7 +119,7 @@ impl Turn {
     pub fn node(&self) -> u16
         ensures { result ≡ server_node self.now.here.server }
     {
-        32_768 + self.server.0
+        32_768 + self.here.server.0
     }
 
     /// A session begins in this epoch. Its lease has this stamp, and is not over yet.
@@ -137,13 +129,13 @@ impl Turn {
         requires reading { now.0 ≤ 2 ^ 62 }
         ensures { self.new ≡ replies.begin_here (replies.new_session epoch stamp) self.old }
     {
-        self.greeting = None;
-        self.session = Some(Session::begin(
+        self.here.greeting = None;
+        self.here.session = Some(Session::begin(
             self.alloc,
-            self.id,
-            self.server,
-            self.life,
-            &self.config,
+            self.here.id,
+            self.here.server,
+            self.here.life,
+            &self.here.config,
             epoch,
             stamp,
             now,
@@ -154,7 +146,7 @@ impl Turn {
     pub fn has_session(&self) -> bool
         ensures { result ≡ has_session self.now }
     {
-        self.session.is_some()
+        self.here.session.is_some()
     }
 
     /// The session.
@@ -162,7 +154,7 @@ impl Turn {
         requires { has_session self.now ≡ true }
         ensures { result.now ≡ record { of = parties_of self.now.id self.now.here.server self.now.here.life self.now.config; session = session_of self.now } }
     {
-        match &self.session {
+        match &self.here.session {
             Some(session) => session,
             None => unreachable!(),
         }

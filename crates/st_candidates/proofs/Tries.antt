@@ -1,5 +1,5 @@
 -- One try after another.
-use Rattle.std.proofs.Common.{◌≡◌, ℕ, suc, ◌+◌, ◌-◌, ◌<◌, true, Option, Some, None, subst, refl, sym, ap, ◌∙◌, arith, if◌then◌else◌}
+use Rattle.std.proofs.Common.{◌≡◌, ℕ, suc, ◌+◌, ◌-◌, ◌<◌, true, Option, Some, None, subst, refl, sym, ap, ◌∙◌, arith}
 use Rattle.std.specs.Prelude.{is_none}
 use Rattle.st_messages.specs.declared.event.Event.{Event}
 use Rattle.st_rules.specs.declared.observation.WorldRefusal.{WorldRefusal}
@@ -8,7 +8,12 @@ use Rattle.st_rules.specs.World.{World}
 use Rattle.st_rules.specs.Generator.{candidate, candidate_in, choice, fallback, try_first, tried, unless_refused}
 use Rattle.st_rules.specs.Safety.{is_event}
 use Rattle.st_generate.proofs.Drawn.{GoodDrawn, candidate_good}
-use Rattle.st_candidates.specs.Choice.{IsTry, admitted_of}
+use Rattle.st_candidates.specs.Choice.{IsTry, found}
+
+-- a candidate, where there is one and it is admissible
+abbrev pub admitted_of : World → Option Event → Option Event
+admitted_of w None = None
+admitted_of w (Some e) = found (is_none (refusal w e)) e
 
 -- what a candidate gives
 given : (w : World) (x : ℕ) (o : Option Event) (y : ℕ) → candidate_in w x ≡ (o, y) → IsTry w x (admitted_of w o) y
@@ -19,7 +24,7 @@ given w x (Some e) y h = go (refusal w e) refl
     at : (later : ℕ → Event × ℕ) (r : Option WorldRefusal) → refusal w e ≡ r → try_first w later (candidate_in w x) ≡ unless_refused later e y r
     at later r q = ap (try_first w later) h ∙ ap (unless_refused later e y) q
 
-    go : (r : Option WorldRefusal) → refusal w e ≡ r → IsTry w x (if is_none r then Some e else None) y
+    go : (r : Option WorldRefusal) → refusal w e ≡ r → IsTry w x (found (is_none r) e) y
     go None q = λ later. at later None q
     go (Some f) q = λ later. at later (Some f) q
 

@@ -1,9 +1,9 @@
 ghost use Rattle.std.specs.Prelude.{◌≡◌, ◌<◌, ◌^◌, true, IfOk, is_none, length};
-ghost use Rattle.st_rules.specs.Generator.{chosen};
+ghost use Rattle.st_rules.specs.Generator.{chosen, fallback};
 ghost use Rattle.st_rules.specs.Admissible.{refusal};
 ghost use Rattle.st_rules.specs.Safety.{is_event};
 ghost use Rattle.st_rules.specs.World.{World};
-ghost use Rattle.st_candidates.specs.Choice.{IsTry, admitted};
+ghost use Rattle.st_candidates.specs.Choice.{IsTry, found};
 
 use crate::candidates::candidate;
 use crate::draws::Draws;
@@ -31,33 +31,29 @@ pub trait Judge {
         ensures { result ≡ is_none (refusal (world self.now) event.now) };
 }
 
-/// Returns the event, where it is admissible.
-fn admitted_event<J: Judge>(judge: &J, event: Event) -> Option<Event>
-    requires event { is_event (length (J.world judge.now).clocks) event ≡ true }
+/// A try. It returns true where there is a candidate and it is admissible; the candidate is in `event` then.
+fn try_one<J: Judge>(
+    draws: &mut Draws,
+    event: &mut Event,
+    judge: &J,
+    alloc: Global,
+) -> Result<bool, AllocError>
+    requires nodes { length (J.world judge.now).clocks ≡ 5 }
     requires room { (J.world judge.now).tally.events < 2 ^ 29 }
-    ensures { result ≡ admitted (J.world judge.now) event }
+    ensures { IfOk result (λ b. IsTry (J.world judge.now) draws.old (found b event.new) draws.new) }
 {
-    if judge.admits(&event) {
-        Some(event)
+    if candidate(draws, event, alloc, judge.sent(), judge.submitted())? {
+        Ok(judge.admits(&*event))
     } else {
-        None
+        Ok(false)
     }
 }
 
-/// A try: an admissible candidate, or none.
-fn try_one<J: Judge>(
-    draws: &mut Draws,
-    judge: &J,
-    alloc: Global,
-) -> Result<Option<Event>, AllocError>
-    requires nodes { length (J.world judge.now).clocks ≡ 5 }
-    requires room { (J.world judge.now).tally.events < 2 ^ 29 }
-    ensures { IfOk result (λ e. IsTry (J.world judge.now) draws.old e draws.new) }
+/// The heal of c1's messages to s1.
+fn fallback_event() -> Event
+    ensures { result ≡ fallback }
 {
-    match candidate(draws, alloc, judge.sent(), judge.submitted())? {
-        None => Ok(None),
-        Some(event) => Ok(admitted_event(judge, event)),
-    }
+    Event::Heal(NodeId::Client(ClientId(1)), NodeId::Server(ServerId(1)))
 }
 
 /// Chooses the next event, in a world of five nodes: the first admissible one of 16 candidates, or else the heal of c1's messages to s1.
@@ -66,10 +62,11 @@ pub fn choose<J: Judge>(draws: &mut Draws, judge: &J, alloc: Global) -> Result<E
     requires room { (J.world judge.now).tally.events < 2 ^ 29 }
     ensures { IfOk result (λ e. (e, draws.new) ≡ chosen (J.world judge.now) draws.old) }
 {
+    let mut event = fallback_event();
     for _i in 0..16_u32 {
-        if let Some(event) = try_one(draws, judge, alloc)? {
+        if try_one(draws, &mut event, judge, alloc)? {
             return Ok(event);
         }
     }
-    Ok(Event::Heal(NodeId::Client(ClientId(1)), NodeId::Server(ServerId(1))))
+    Ok(fallback_event())
 }

@@ -1,8 +1,6 @@
 -- What always stands of associations stands where numbers of commands and outputs grow.
-use Rattle.std.proofs.Common.{◌≡◌, ℕ, suc, zero, ◌+◌, ◌<◌, ◌≤◌, Bool, true, List, [], ◌∷◌, ◌++◌, length, map, refl, sym, ap, subst, ◌∙◌, arith}
+use Rattle.std.proofs.Common.{◌≡◌, ℕ, suc, zero, ◌+◌, ◌<◌, ◌≤◌, List, [], ◌∷◌, ◌++◌, length, map, ap, subst, ◌∙◌, arith}
 use Rattle.std.specs.Prelude.{Option, Some, None}
-use Rattle.std.specs.List.{list_all}
-use Rattle.st_lemmas.proofs.Tables.{and_true}
 use Rattle.st_association.proofs.Kept.{below_more}
 use Rattle.st_association.specs.Associations.{ClientAssociation, IsCounted, RequestsBelow}
 use Rattle.st_association.specs.Turns.{most_of}
@@ -11,9 +9,9 @@ use Rattle.st_base.specs.declared.ids.ClientId.{ClientId}
 use Rattle.st_messages.specs.declared.output.Output.{Output}
 use Rattle.st_rules.specs.Client.{fresh_association}
 use Rattle.st_rules.specs.Extents.{numbers}
-use Rattle.st_rules.specs.ClientState.{Association, ClientSession, ClientTurn, Turn, at_these, enter, leave}
+use Rattle.st_rules.specs.ClientState.{Association, ClientSession}
 use Rattle.st_client.proofs.Advancing.{more_out, same_number}
-use Rattle.st_client.specs.Machines.{AreIn, Goes, IsIn, IsMachine, here_of}
+use Rattle.st_client.specs.Machines.{AreIn, IsIn, IsMachine}
 
 module _ (n m : ℕ) (out more : List Output) (l : n ≤ m) (g : length out ≤ length more) (c : m < most_of more) where
   asks_more : (o : Option ClientSession) → RequestsBelow (most_of out) o → RequestsBelow (most_of more) o
@@ -43,30 +41,12 @@ pub in_last : (id : ClientId) (config : Config) (n : ℕ) (out : List Output) (x
 in_last id config n out [] a i j = (j, tt)
 in_last id config n out (x ∷ xs) a i j = (i.0, in_last id config n out xs a i.1 j)
 
--- the others, after a rule at one of them
-pub in_goes : (t u : ClientTurn) (items xs : List ClientAssociation) (a : ClientAssociation) → items ≡ a ∷ xs → Goes t u → AreIn t.state.id t.state.config t.state.next_command t.out items →
-    AreIn u.state.id u.state.config u.state.next_command u.out xs
-in_goes t u items xs a e g i =
-    let j = subst (λ (ys : List ClientAssociation). AreIn t.state.id t.state.config t.state.next_command t.out ys) e i in
-    let k = in_more t.state.next_command u.state.next_command t.out u.out g.next g.out g.below t.state.id t.state.config xs j.1 in
-    subst (λ (c : Config). AreIn u.state.id c u.state.next_command u.out xs) (sym g.config)
-    (subst (λ (c : ClientId). AreIn c t.state.config u.state.next_command u.out xs) (sym g.id) k)
+-- the first one, and the others
+pub first_in : (id : ClientId) (config : Config) (n : ℕ) (out : List Output) (xs ys : List ClientAssociation) (a : ClientAssociation) → xs ≡ a ∷ ys → IsMachine id config n out xs → IsIn id config n out a
+first_in id config n out xs ys a e m = (subst (AreIn id config n out) e m.each).0
 
-pub first_in : (t : ClientTurn) (items xs : List ClientAssociation) (a : ClientAssociation) → items ≡ a ∷ xs → AreIn t.state.id t.state.config t.state.next_command t.out items →
-    IsIn t.state.id t.state.config t.state.next_command t.out a
-first_in t items xs a e i = (subst (λ (ys : List ClientAssociation). AreIn t.state.id t.state.config t.state.next_command t.out ys) e i).0
-
-module _ (run : Turn → Turn) (ready : Config → Association → Bool) where
-  pub run_goes : (t u s : ClientTurn) (items xs : List ClientAssociation) (a : ClientAssociation) → items ≡ a ∷ xs → u ≡ leave t (run (enter t a.here)) →
-      at_these run (map here_of items) t ≡ s → at_these run (map here_of xs) u ≡ s
-  unfolding at_these
-  run_goes t u s items xs a e n h = ap (at_these run (map here_of xs)) n ∙ ap (λ ys. at_these run (map here_of ys) t) (sym e) ∙ h
-
-  pub ready_goes : (t u : ClientTurn) (items xs : List ClientAssociation) (a : ClientAssociation) → items ≡ a ∷ xs → Goes t u →
-      list_all (ready t.state.config) (map here_of items) ≡ true → list_all (ready u.state.config) (map here_of xs) ≡ true
-  ready_goes t u items xs a e g h =
-      let k : list_all (ready t.state.config) (a.here ∷ map here_of xs) ≡ true = ap (λ ys. list_all (ready t.state.config) (map here_of ys)) (sym e) ∙ h in
-      ap (λ c. list_all (ready c) (map here_of xs)) g.config ∙ (and_true (ready t.state.config a.here) (list_all (ready t.state.config) (map here_of xs)) k).1
+pub others_in : (id : ClientId) (config : Config) (n : ℕ) (out : List Output) (xs ys : List ClientAssociation) (a : ClientAssociation) → xs ≡ a ∷ ys → IsMachine id config n out xs → IsMachine id config n out ys
+others_in id config n out xs ys a e m = record { commands = m.commands; each = (subst (AreIn id config n out) e m.each).1 }
 
 -- one more output
 pub machine_said : (id : ClientId) (config : Config) (n : ℕ) (out more : List Output) (o : Output) (xs : List ClientAssociation) → more ≡ out ++ o ∷ [] → IsMachine id config n out xs → IsMachine id config n more xs
@@ -76,25 +56,16 @@ machine_said id config n out more o xs e i =
     let k : n < most_of more = omega (arith, g, c) in
     record { commands = k; each = in_more n n out more (same_number n) g k id config xs i.each }
 
--- one more association, of which the client has nothing
-pub fresh_in : (id : ClientId) (config : Config) (n : ℕ) (out : List Output) (server : ℕ) → n < most_of out → IsIn id config n out (record { id = id; config = config; here = fresh_association server })
-fresh_in id config n out server c =
-    let k = c in
-    let one : 1 < most_of out = omega arith in
-    record { id = refl; config = refl; counted = record { given = refl; commands = c; versions = one; lives = one; requests = tt } }
-
-pub machine_joined : (id : ClientId) (config : Config) (n : ℕ) (out : List Output) (xs ys : List ClientAssociation) (a : ClientAssociation) (server : ℕ) →
-    ys ≡ xs ++ a ∷ [] → a ≡ record { id = id; config = config; here = fresh_association server } → IsMachine id config n out xs → IsMachine id config n out ys
-machine_joined id config n out xs ys a server e f i =
-    record { commands = i.commands; each = rw e (in_last id config n out xs a i.each (rw f (fresh_in id config n out server i.commands))) }
+-- one more association, after a rule at it
+pub machine_run : (id : ClientId) (config : Config) (n m : ℕ) (out more : List Output) (xs ys : List ClientAssociation) (a : ClientAssociation) → ys ≡ xs ++ a ∷ [] → n ≤ m → length out ≤ length more →
+    IsIn id config m more a → IsMachine id config n out xs → IsMachine id config m more ys
+machine_run id config n m out more xs ys a e l g i k =
+    let c = i.counted.commands in record { commands = c; each = rw e (in_last id config m more xs a (in_more n m out more l g c id config xs k.each) i) }
 
 -- one more association, where nothing was done
-pub machine_last : (t : ClientTurn) (xs ys : List ClientAssociation) (a : ClientAssociation) → ys ≡ xs ++ a ∷ [] → IsIn t.state.id t.state.config t.state.next_command t.out a →
-    IsMachine t.state.id t.state.config t.state.next_command t.out xs → IsMachine t.state.id t.state.config t.state.next_command t.out ys
-machine_last t xs ys a e i m = record { commands = m.commands; each = rw e (in_last t.state.id t.state.config t.state.next_command t.out xs a m.each i) }
-
-pub goes_last : (t : ClientTurn) (xs : List ClientAssociation) (a : Association) → IsMachine t.state.id t.state.config t.state.next_command t.out xs → Goes t (leave t (enter t a))
-goes_last t xs a m = record { id = refl; config = refl; next = same_number t.state.next_command; out = same_number (length t.out); below = m.commands }
+pub machine_last : (id : ClientId) (config : Config) (n : ℕ) (out : List Output) (xs ys : List ClientAssociation) (a : ClientAssociation) → ys ≡ xs ++ a ∷ [] →
+    IsIn id config n out a → IsMachine id config n out xs → IsMachine id config n out ys
+machine_last id config n out xs ys a e i m = record { commands = m.commands; each = rw e (in_last id config n out xs a m.each i) }
 
 -- one number more
 pub numbers_more : (first n : ℕ) → map fresh_association (numbers first (suc n)) ≡ map fresh_association (numbers first n) ++ fresh_association (first + n) ∷ []

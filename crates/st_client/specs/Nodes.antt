@@ -13,6 +13,7 @@ use Rattle.st_rules.specs.Client.{ClientNode, association_of, life_of_associatio
 use Rattle.st_rules.specs.ClientInvariants.{is_below}
 use Rattle.st_rules.specs.ClientState.{Association, ClientState}
 use Rattle.st_rules.specs.Keys.{same_server}
+use Rattle.st_client.specs.declared.parts.Parts.{Parts}
 use Rattle.st_client.specs.Sound.{IsSound}
 
 -- An association of this client, with these settings: the numbers of its commands were given.
@@ -25,6 +26,11 @@ pub record IsGiven (client : ClientId) (settings : Config) (next : ℕ) (a : Cli
 abbrev pub AreGiven : ClientId → Config → ℕ → List ClientAssociation → Type 0
 AreGiven id config next [] = ⊤
 AreGiven id config next (a ∷ more) = IsGiven id config next a × AreGiven id config next more
+
+-- What always stands of a client between its steps: it has no output.
+pub record IsResting (p : Parts) : Type 0 where
+  pub given : AreGiven p.id p.config p.next_command p.associations.items
+  pub empty : p.out.items ≡ []
 
 -- a server of a world
 abbrev pub is_server : ServerId → Bool

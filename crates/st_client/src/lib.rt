@@ -4,10 +4,10 @@
 
 mod ends;
 mod fresh;
-mod held;
 mod lives;
 mod machine;
 mod node;
+mod parts;
 mod rule;
 mod rules;
 mod state;

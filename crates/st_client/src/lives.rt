@@ -66,7 +66,7 @@ pub(crate) fn started(
     requires count { length lives.now ≡ length servers.now }
     ensures { IfOk result (λ s. s ≡ client.start (crashed_client id config.now servers.now lives.now)) }
 {
-    let mut state = State::new(alloc, id, config);
+    let mut state = State::new(alloc, id, config)?;
     for i in 0..servers.len() {
         state = state.with_server(servers[i], Life(lives[i].0 + 1))?;
     }

@@ -1,108 +1,76 @@
-ghost use Rattle.std.specs.Prelude.{◌≡◌, true, false, IfOk, map};
+ghost use Rattle.std.specs.Prelude.{◌≡◌, true, false, IfOk, length};
 ghost use Rattle.std.specs.List.{list_all};
 ghost use Rattle.st_client.specs.Idle.{IsIdle};
-ghost use Rattle.st_client.specs.Machines.{Goes, IsIn};
+ghost use Rattle.st_client.specs.Machines.{IsIn, at_first, is_first};
 ghost use Rattle.st_rules.specs.ClientState as client;
 
-use crate::held::Held;
+use crate::parts::Parts;
 use crate::rule::Rule;
-use st_base::{ClientId, Config};
-use st_messages::Output;
-use st_operations::Operations;
-use std::alloc::{AllocError, Global};
-use std::collections::VecDeque;
+use st_association::Association;
+use std::alloc::AllocError;
 use std::marker::Model;
+use std::mem;
 
 /// A client, with the outputs of the step so far. Contracts see it as a turn.
 #[derive(Drop)]
 pub struct Machine {
-    pub(crate) alloc: Global,
-    pub(crate) id: ClientId,
-    pub(crate) config: Config,
-    pub(crate) associations: VecDeque<Held>,
-    pub(crate) operations: Operations,
-    pub(crate) next_command: u64,
-    pub(crate) out: Vec<Output>,
+    pub(crate) parts: Box<Parts>,
 }
 
 impl Model for Machine {
-    ghost use Rattle.std.specs.Prelude.{map};
-    ghost use Rattle.st_client.specs.Machines.{IsMachine, here_of};
+    ghost use Rattle.st_client.specs.Machines.{IsMachineOf, turn_of};
     ghost use Rattle.st_rules.specs.ClientState as shared;
 
     ghost Value = { shared.ClientTurn };
 
-    ghost view = { λ m. record {
-      state = record {
-        id = m.id;
-        config = m.config;
-        associations = map here_of m.associations.items;
-        operations = m.operations;
-        next_command = m.next_command;
-      };
-      out = m.out.items;
-    } };
+    ghost view = { λ m. turn_of m.parts.value };
 
-    ghost invariant = { λ m. IsMachine m.id m.config m.next_command m.out.items m.associations.items };
+    ghost invariant = { λ m. IsMachineOf m.parts.value };
 }
 
 impl Machine {
     /// A rule at one association, which goes last then.
-    fn at_one<R: Rule>(self, rule: &R, a: Held) -> Result<Machine, AllocError>
+    fn at_one<R: Rule>(self, rule: &R, a: Association) -> Result<Machine, AllocError>
         requires one { IsIn self.state.id self.state.config self.state.next_command self.out a }
         requires ready { R.is_ready rule.now self.state.config a.here ≡ true }
-        ensures run { IfOk result (λ m. m ≡ client.leave self (R.run rule.now (client.enter self a.here))) }
-        ensures goes { IfOk result (λ m. Goes self m) }
+        ensures { IfOk result (λ m. m ≡ client.leave self (R.run rule.now (client.enter self a.here))) }
     {
-        let Machine {
-            alloc,
-            id,
-            config,
-            mut associations,
-            operations,
-            next_command,
-            out,
-        } = self;
-        let mut turn = a.open().enter(alloc, operations, next_command, out);
+        let Machine { mut parts } = self;
+        let here: &mut Parts = &mut parts;
+        let operations = here.operations.take_all();
+        let out = mem::replace(&mut here.out, Vec::new(here.alloc));
+        let mut turn = a.enter(here.alloc, operations, here.next_command, out);
         rule.apply(&mut turn)?;
         let (a, operations, next_command, out) = turn.leave();
-        let held = Held::new(alloc, a)?;
-        associations.push_back(held)?;
-        Ok(Machine {
-            alloc,
-            id,
-            config,
-            associations,
-            operations,
-            next_command,
-            out,
-        })
+        here.operations = operations;
+        here.next_command = next_command;
+        here.out = out;
+        here.associations.push_back(a)?;
+        Ok(Machine { parts })
     }
 
     /// An association where nothing is done goes last.
-    fn passed_by(self, a: Held) -> Result<Machine, AllocError>
+    fn passed_by(self, a: Association) -> Result<Machine, AllocError>
         requires one { IsIn self.state.id self.state.config self.state.next_command self.out a }
-        ensures run { IfOk result (λ m. m ≡ client.leave self (client.enter self a.here)) }
-        ensures goes { IfOk result (λ m. Goes self m) }
+        ensures { IfOk result (λ m. m ≡ client.leave self (client.enter self a.here)) }
     {
-        let mut machine = self;
-        machine.associations.push_back(a)?;
-        Ok(machine)
+        let Machine { mut parts } = self;
+        parts.associations.push_back(a)?;
+        Ok(Machine { parts })
     }
 
     /// Whether a rule may do anything at an association.
-    fn is_touched<R: Rule>(&self, rule: &R, a: &Held) -> bool
+    fn is_touched<R: Rule>(&self, rule: &R, a: &Association) -> bool
         ensures { result ≡ false → IsIdle (R.run rule.now) self.now.state.operations a.now }
     {
-        rule.touches(a.get(), &self.operations)
+        rule.touches(a, &self.parts.operations)
     }
 
     /// A rule at one association, where it may do anything there; the association goes last.
-    fn at_next<R: Rule>(self, rule: &R, a: Held) -> Result<Machine, AllocError>
+    fn at_next<R: Rule>(self, rule: &R, a: Association) -> Result<Machine, AllocError>
         requires one { IsIn self.state.id self.state.config self.state.next_command self.out a }
         requires ready { R.is_ready rule.now self.state.config a.here ≡ true }
-        ensures run { IfOk result (λ m. m ≡ client.leave self (R.run rule.now (client.enter self a.here))) }
-        ensures goes { IfOk result (λ m. Goes self m) }
+        ensures { IfOk result (λ m. m ≡ client.leave self (R.run rule.now (client.enter self a.here))) }
     {
         if self.is_touched(rule, &a) {
             self.at_one(rule, a)
@@ -111,34 +79,61 @@ impl Machine {
         }
     }
 
+    /// A rule at the first association, which goes last.
+    fn at_first<R: Rule>(self, rule: &R) -> Result<Machine, AllocError>
+        requires { is_first (R.is_ready rule.now self.state.config) self.state.associations ≡ true }
+        ensures { IfOk result (λ m. m ≡ at_first (R.run rule.now) self) }
+    {
+        let Machine { mut parts } = self;
+        let first = parts.associations.pop_front();
+        let machine = Machine { parts };
+        match first {
+            Some(a) => machine.at_next(rule, a),
+            None => Ok(machine),
+        }
+    }
+
+    /// How many associations there are.
+    fn count(&self) -> usize
+        ensures { result ≡ length self.now.state.associations }
+    {
+        self.parts.associations.len()
+    }
+
     /// A rule at each association, in order.
-    #[tactic(auto, unfolding(st_rules::specs::ClientState::at_each, st_rules::specs::ClientState::at_these))]
     pub(crate) fn at_each<R: Rule>(self, rule: &R) -> Result<Machine, AllocError>
         requires { list_all (R.is_ready rule.now self.state.config) self.state.associations ≡ true }
         ensures { IfOk result (λ m. m ≡ client.at_each (R.run rule.now) self) }
     {
-        let Machine {
-            alloc,
-            id,
-            config,
-            mut associations,
-            operations,
-            next_command,
-            out,
-        } = self;
-        let done = VecDeque::with_capacity(alloc, associations.len())?;
-        let mut machine = Machine {
-            alloc,
-            id,
-            config,
-            associations: done,
-            operations,
-            next_command,
-            out,
-        };
-        while let Some(a) = associations.pop_front() {
-            machine = machine.at_next(rule, a)?;
+        let count = self.count();
+        let mut machine = self;
+        for _ in 0..count {
+            machine = machine.at_first(rule)?;
         }
         Ok(machine)
+    }
+
+    /// Whether a rule may do anything at any association.
+    fn is_touched_somewhere<R: Rule>(&self, rule: &R) -> bool
+        ensures { result ≡ false → client.at_each (R.run rule.now) self.now ≡ self.now }
+    {
+        for a in self.parts.associations.iter() {
+            if self.is_touched(rule, a) {
+                return true;
+            }
+        }
+        false
+    }
+
+    /// A rule at each association, in order. Where it does nothing anywhere, they stay as they are.
+    pub(crate) fn at_any<R: Rule>(self, rule: &R) -> Result<Machine, AllocError>
+        requires { list_all (R.is_ready rule.now self.state.config) self.state.associations ≡ true }
+        ensures { IfOk result (λ m. m ≡ client.at_each (R.run rule.now) self) }
+    {
+        if self.is_touched_somewhere(rule) {
+            self.at_each(rule)
+        } else {
+            Ok(self)
+        }
     }
 }

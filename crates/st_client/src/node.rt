@@ -12,7 +12,6 @@ ghost use Rattle.st_rules.specs.World as world;
 
 use crate::ends::LeaseEnds;
 use crate::lives::{are_low, life_among, push_crashed, started};
-use crate::machine::Machine;
 use crate::state::State;
 use st_base::{ClientId, Config, Life, ServerId, Stamp};
 use st_messages::{Outputs, StepFault};
@@ -58,7 +57,7 @@ impl ClientNode {
         requires servers { servers ≤ 4 }
         ensures { IfOk result (λ n. n ≡ client.fresh_node id config.now servers) }
     {
-        let (state, _) = Machine::fresh(alloc, id, config, servers)?.rest();
+        let state = State::fresh(alloc, id, config, servers)?;
         let servers = state.servers()?;
         let mut lives = Vec::with_capacity(alloc, servers.len())?;
         state.tell_lives(&mut lives);
@@ -203,12 +202,12 @@ impl ClientNode {
     }
 
     /// Takes a step of a client that runs.
-    fn step_running(&mut self, now: Stamp, input: ClientInput) -> Result<Outputs, StepFault>
+    fn step_running(&mut self, now: Stamp, input: &ClientInput) -> Result<Outputs, StepFault>
         requires time { now.0 ≤ 2 ^ 62 }
-        requires fits { comes_fit input ≡ true }
+        requires fits { comes_fit input.now ≡ true }
         requires room { HasRoom self.old.state }
         requires running { self.old.running ≡ true }
-        ensures { Runs self.old self.new result (client.node_turn self.old (client.client_step self.old.state now input)) }
+        ensures { Runs self.old self.new result (client.node_turn self.old (client.client_step self.old.state now input.now)) }
     {
         let state = match self.state.take() {
             Some(state) => state,
@@ -241,7 +240,7 @@ impl ClientNode {
         ensures discarding { (s : ServerId) → IsOver s self.old.state now → IfOk result (λ out. Discards s self.old.state input self.new.state out) }
     {
         if self.state.is_some() {
-            self.step_running(now, input)
+            self.step_running(now, &input)
         } else {
             Err(StepFault::Crashed)
         }

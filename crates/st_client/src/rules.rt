@@ -8,7 +8,7 @@ use st_base::{PageBytes, ServerId, Stamp, Tag};
 use st_client_inputs::{finish, lose, take_ask};
 use st_client_passes::passes;
 use st_client_replies::hear;
-use st_messages::{Ask, Body, Header};
+use st_messages::{Ask, Header, Message};
 use st_operations::{Operations, server_of};
 use std::alloc::AllocError;
 
@@ -50,17 +50,17 @@ impl Rule for Lose {
 }
 
 /// The end of a disk command.
-#[derive(Drop)]
-pub struct Finish {
+#[derive(Clone, Copy)]
+pub struct Finish<'a> {
     pub number: u64,
-    pub result: Option<Option<(Tag, PageBytes)>>,
+    pub result: &'a Option<Option<(Tag, PageBytes)>>,
 }
 
-impl Rule for Finish {
+impl<'a> Rule for Finish<'a> {
     ghost use Rattle.std.specs.Prelude.{true};
     ghost use Rattle.st_rules.specs.Client as client;
 
-    ghost run = { λ r t. client.finish r.number r.result t };
+    ghost run = { λ r t. client.finish r.number r.result.now t };
 
     ghost is_ready = { λ r k a. true };
 
@@ -69,33 +69,32 @@ impl Rule for Finish {
     }
 
     fn apply(&self, turn: &mut Turn) -> Result<(), AllocError> {
-        finish(turn, self.number, &self.result)
+        finish(turn, self.number, self.result)
     }
 }
 
 /// A message.
-#[derive(Drop)]
-pub struct Hear {
+#[derive(Clone, Copy)]
+pub struct Hear<'a> {
     pub now: Stamp,
-    pub header: Header,
-    pub body: Body,
+    pub message: &'a Message,
 }
 
-impl Rule for Hear {
+impl<'a> Rule for Hear<'a> {
     ghost use Rattle.std.specs.Prelude.{◌&&◌, ◌^◌, nat_le};
     ghost use Rattle.st_rules.specs.ClientInvariants.{lasts_here};
     ghost use Rattle.st_rules.specs.ClientReplies as replies;
 
-    ghost run = { λ r t. replies.hear r.now r.header r.body t };
+    ghost run = { λ r t. replies.hear r.now r.message.now.header r.message.now.body t };
 
     ghost is_ready = { λ r k a. nat_le r.now.0 (2 ^ 62) && lasts_here k r.now a };
 
     fn touches(&self, a: &Association, _operations: &Operations) -> bool {
-        is_from(&self.header, a.server())
+        is_from(&self.message.header, a.server())
     }
 
     fn apply(&self, turn: &mut Turn) -> Result<(), AllocError> {
-        hear(turn, self.now, self.header, &self.body)
+        hear(turn, self.now, self.message.header, &self.message.body)
     }
 }
 
@@ -126,28 +125,28 @@ impl Rule for Passes {
 }
 
 /// An ask.
-#[derive(Drop)]
-pub struct TakeAsk {
+#[derive(Clone, Copy)]
+pub struct TakeAsk<'a> {
     pub op: u32,
-    pub ask: Ask,
+    pub ask: &'a Ask,
 }
 
-impl Rule for TakeAsk {
+impl<'a> Rule for TakeAsk<'a> {
     ghost use Rattle.st_messages.specs.Fits.{is_ask};
     ghost use Rattle.st_rules.specs.Client as client;
     ghost use Rattle.st_rules.specs.ClientState.{only_at, server_of};
 
-    ghost run = { λ r t. only_at (server_of r.ask) (client.take_ask r.op r.ask) t };
+    ghost run = { λ r t. only_at (server_of r.ask.now) (client.take_ask r.op r.ask.now) t };
 
-    ghost is_ready = { λ r k a. is_ask r.ask };
+    ghost is_ready = { λ r k a. is_ask r.ask.now };
 
     fn touches(&self, a: &Association, _operations: &Operations) -> bool {
-        is_same(a.server(), server_of(&self.ask))
+        is_same(a.server(), server_of(self.ask))
     }
 
     #[tactic(auto, unfolding(st_rules::specs::ClientState::only_at))]
     fn apply(&self, turn: &mut Turn) -> Result<(), AllocError> {
-        if turn.server().0 == server_of(&self.ask).0 {
+        if turn.server().0 == server_of(self.ask).0 {
             take_ask(turn, self.op, self.ask.copy()?)
         } else {
             Ok(())

@@ -13,8 +13,8 @@ ghost use Rattle.st_rules.specs.ClientState.{client_turn};
 ghost use Rattle.st_rules.specs.World as world;
 
 use crate::ends::LeaseEnds;
-use crate::held::Held;
 use crate::machine::Machine;
+use crate::parts::Parts;
 use st_association::Association;
 use st_base::{ClientId, Config, Life, ServerId, Stamp};
 use st_messages::Outputs;
@@ -23,35 +23,24 @@ use st_rules::{ClientInput, LeaseLife, Phase};
 use std::alloc::{AllocError, Global};
 use std::collections::VecDeque;
 use std::marker::Model;
+use std::mem;
 
 /// A client that runs, between its steps. Contracts see the definitions' client.
 #[derive(Drop)]
 pub struct State {
-    pub(crate) alloc: Global,
-    pub(crate) id: ClientId,
-    pub(crate) config: Config,
-    pub(crate) associations: VecDeque<Held>,
-    pub(crate) operations: Operations,
-    pub(crate) next_command: u64,
+    pub(crate) parts: Box<Parts>,
 }
 
 impl Model for State {
-    ghost use Rattle.std.specs.Prelude.{map};
-    ghost use Rattle.st_client.specs.Machines.{here_of};
-    ghost use Rattle.st_client.specs.Nodes.{AreGiven};
+    ghost use Rattle.st_client.specs.Machines.{client_of};
+    ghost use Rattle.st_client.specs.Nodes.{IsResting};
     ghost use Rattle.st_rules.specs.ClientState as shared;
 
     ghost Value = { shared.ClientState };
 
-    ghost view = { λ s. record {
-      id = s.id;
-      config = s.config;
-      associations = map here_of s.associations.items;
-      operations = s.operations;
-      next_command = s.next_command;
-    } };
+    ghost view = { λ s. client_of s.parts.value };
 
-    ghost invariant = { λ s. AreGiven s.id s.config s.next_command s.associations.items };
+    ghost invariant = { λ s. IsResting s.parts.value };
 }
 
 impl State {
@@ -60,31 +49,20 @@ impl State {
         requires { HasRoom self }
         ensures { result ≡ client_turn self [] }
     {
-        let State {
-            alloc,
-            id,
-            config,
-            associations,
-            operations,
-            next_command,
-        } = self;
-        Machine {
-            alloc,
-            id,
-            config,
-            associations,
-            operations,
-            next_command,
-            out: Vec::new(alloc),
-        }
+        let State { parts } = self;
+        Machine { parts }
     }
 
     /// A step: what it leaves, and its outputs.
-    pub(crate) fn step(self, now: Stamp, input: ClientInput) -> Result<(State, Outputs), AllocError>
+    pub(crate) fn step(
+        self,
+        now: Stamp,
+        input: &ClientInput,
+    ) -> Result<(State, Outputs), AllocError>
         requires time { now.0 ≤ 2 ^ 62 }
-        requires fits { comes_fit input ≡ true }
+        requires fits { comes_fit input.now ≡ true }
         requires room { HasRoom self }
-        ensures { IfOk result (λ r. client_turn r.0 r.1 ≡ client.client_step self now input) }
+        ensures { IfOk result (λ r. client_turn r.0 r.1 ≡ client.client_step self now input.now) }
     {
         let machine = self.begin().step(now, input)?;
         Ok(machine.rest())
@@ -94,9 +72,9 @@ impl State {
     pub(crate) fn servers(&self) -> Result<Vec<ServerId>, AllocError>
         ensures { IfOk result (λ v. v.items ≡ map server_at self.now.associations) }
     {
-        let mut servers = Vec::new(self.alloc);
-        for a in self.associations.iter() {
-            servers.push(a.get().server())?;
+        let mut servers = Vec::new(self.parts.alloc);
+        for a in self.parts.associations.iter() {
+            servers.push(a.server())?;
         }
         Ok(servers)
     }
@@ -108,8 +86,8 @@ impl State {
         ensures room { vec_capacity lives.new ≡ vec_capacity lives.old }
     {
         lives.clear();
-        for a in self.associations.iter() {
-            lives.push_reserved(a.get().life());
+        for a in self.parts.associations.iter() {
+            lives.push_reserved(a.life());
         }
     }
 
@@ -118,19 +96,19 @@ impl State {
         ensures { result ≡ has_room self.now }
     {
         let mut each = true;
-        for a in self.associations.iter() {
-            each = each && a.get().has_room();
+        for a in self.parts.associations.iter() {
+            each = each && a.has_room();
         }
-        self.next_command < 4_611_686_018_427_387_904 && each
+        self.parts.next_command < 4_611_686_018_427_387_904 && each
     }
 
     /// The association with a server.
     fn at(&self, server: ServerId) -> Option<&Association>
         ensures { option_copied result ≡ option_map (association_told self.now.id self.now.config) (client.association_with self.now server) }
     {
-        for a in self.associations.iter() {
-            if a.get().server().0 == server.0 {
-                return Some(a.get());
+        for a in self.parts.associations.iter() {
+            if a.server().0 == server.0 {
+                return Some(a);
             }
         }
         None
@@ -195,12 +173,12 @@ impl State {
     pub(crate) fn push_lives(&self, found: &mut Vec<LeaseLife>) -> Result<(), AllocError>
         ensures { OnOk result (found.new.items ≡ found.old.items ++ world.lives_of self.now) }
     {
-        for a in self.associations.iter() {
+        for a in self.parts.associations.iter() {
             found.push(LeaseLife {
-                client: self.id,
-                server: a.get().server(),
-                life: a.get().life(),
-                end: a.get().lease_end(),
+                client: self.parts.id,
+                server: a.server(),
+                life: a.life(),
+                end: a.lease_end(),
                 crashed: false,
             })?;
         }
@@ -208,17 +186,21 @@ impl State {
     }
 
     /// A client without servers.
-    pub(crate) fn new(alloc: Global, id: ClientId, config: &Config) -> State
-        ensures { result ≡ record { id = id; config = config.now; associations = []; operations = []; next_command = 1 } }
+    pub(crate) fn new(alloc: Global, id: ClientId, config: &Config) -> Result<State, AllocError>
+        ensures { IfOk result (λ s. s ≡ record { id = id; config = config.now; associations = []; operations = []; next_command = 1 }) }
     {
-        State {
+        let parts = Parts {
             alloc,
             id,
             config: *config,
             associations: VecDeque::new(alloc),
             operations: Operations::new(alloc),
             next_command: 1,
-        }
+            out: Vec::new(alloc),
+        };
+        Ok(State {
+            parts: Box::new(alloc, parts)?,
+        })
     }
 
     /// One more server, of which the client has nothing in this life.
@@ -227,11 +209,11 @@ impl State {
         requires node { server.0 < 32768 }
         ensures { IfOk result (λ s. s ≡ with_more (client.association_of life server ∷ []) self) }
     {
-        let mut state = self;
-        let a = Association::new(state.alloc, state.id, &state.config, server, life)?;
-        let held = Held::new(state.alloc, a)?;
-        state.associations.push_back(held)?;
-        Ok(state)
+        let State { mut parts } = self;
+        let here: &mut Parts = &mut parts;
+        let a = Association::new(here.alloc, here.id, &here.config, server, life)?;
+        here.associations.push_back(a)?;
+        Ok(State { parts })
     }
 }
 
@@ -240,23 +222,10 @@ impl Machine {
     pub(crate) fn rest(self) -> (State, Outputs)
         ensures { client_turn result.0 result.1 ≡ self }
     {
-        let Machine {
-            alloc,
-            id,
-            config,
-            associations,
-            operations,
-            next_command,
-            out,
-        } = self;
-        let state = State {
-            alloc,
-            id,
-            config,
-            associations,
-            operations,
-            next_command,
-        };
+        let Machine { mut parts } = self;
+        let here: &mut Parts = &mut parts;
+        let out = mem::replace(&mut here.out, Vec::new(here.alloc));
+        let state = State { parts };
         (state, Outputs::from_vec(out))
     }
 }

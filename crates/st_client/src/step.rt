@@ -11,7 +11,7 @@ ghost use Rattle.st_rules.specs.ClientState as each;
 use crate::machine::Machine;
 use crate::rules::{Finish, Hear, Lose, Passes, TakeAsk};
 use st_base::{PageBytes, ServerId, Stamp, Tag};
-use st_messages::{AppAnswer, Ask, Body, Header, Message, Output};
+use st_messages::{AppAnswer, Ask, Header, Message, Output};
 use st_operations::server_of;
 use st_rules::ClientInput;
 use std::alloc::AllocError;
@@ -23,42 +23,37 @@ impl Machine {
         ensures rule { IfOk result (λ m. m ≡ client.losses self now) }
         ensures last { IfOk result (λ m. all_last m.state now ≡ true) }
     {
-        self.at_each(&Lose { now })
+        self.at_any(&Lose { now })
     }
 
     /// A message, at each server.
     #[tactic(auto, unfolding(st_rules::specs::ClientReplies::receive_here))]
-    fn hear_here(self, now: Stamp, header: Header, body: Body) -> Result<Machine, AllocError>
+    fn hear_here(self, now: Stamp, message: &Message) -> Result<Machine, AllocError>
         requires last { all_last self.state now ≡ true }
         requires time { now.0 ≤ 2 ^ 62 }
-        ensures rule { IfOk result (λ t. t ≡ replies.receive_here self now header body) }
+        ensures rule { IfOk result (λ t. t ≡ replies.receive_here self now message.now.header message.now.body) }
         ensures last { IfOk result (λ t. all_last t.state now ≡ true) }
     {
-        self.at_each(&Hear { now, header, body })
+        self.at_each(&Hear { now, message })
     }
 
     /// Whether a message is to this client.
     fn is_to(&self, header: &Header) -> bool
         ensures { result ≡ (header.now.to == self.now.state.id.0) }
     {
-        header.to == self.id.0
+        header.to == self.parts.id.0
     }
 
     /// A message, where it is to this client.
     #[tactic(auto, unfolding(st_rules::specs::ClientReplies::receive))]
-    pub(crate) fn receive(
-        self,
-        now: Stamp,
-        header: Header,
-        body: Body,
-    ) -> Result<Machine, AllocError>
+    pub(crate) fn receive(self, now: Stamp, message: &Message) -> Result<Machine, AllocError>
         requires last { all_last self.state now ≡ true }
         requires time { now.0 ≤ 2 ^ 62 }
-        ensures rule { IfOk result (λ t. t ≡ replies.receive self now header body) }
+        ensures rule { IfOk result (λ t. t ≡ replies.receive self now message.now.header message.now.body) }
         ensures last { IfOk result (λ t. all_last t.state now ≡ true) }
     {
-        if self.is_to(&header) {
-            self.hear_here(now, header, body)
+        if self.is_to(&message.header) {
+            self.hear_here(now, message)
         } else {
             Ok(self)
         }
@@ -70,10 +65,10 @@ impl Machine {
         self,
         now: Stamp,
         number: u64,
-        ended: Option<Option<(Tag, PageBytes)>>,
+        ended: &Option<Option<(Tag, PageBytes)>>,
     ) -> Result<Machine, AllocError>
         requires last { all_last self.state now ≡ true }
-        ensures rule { IfOk result (λ t. t ≡ client.done self number ended) }
+        ensures rule { IfOk result (λ t. t ≡ client.done self number ended.now) }
         ensures last { IfOk result (λ t. all_last t.state now ≡ true) }
     {
         self.at_each(&Finish {
@@ -93,16 +88,16 @@ impl Machine {
         ensures rule { IfOk result (λ t. t ≡ client.answered_at_once self op answer) }
         ensures last { IfOk result (λ t. all_last t.state now ≡ true) }
     {
-        let mut machine = self;
-        machine.out.push(Output::Answer { op, answer })?;
-        Ok(machine)
+        let Machine { mut parts } = self;
+        parts.out.push(Output::Answer { op, answer })?;
+        Ok(Machine { parts })
     }
 
     /// An ask, at its server.
-    pub(crate) fn ask_each(self, now: Stamp, op: u32, ask: Ask) -> Result<Machine, AllocError>
+    pub(crate) fn ask_each(self, now: Stamp, op: u32, ask: &Ask) -> Result<Machine, AllocError>
         requires last { all_last self.state now ≡ true }
-        requires fits { is_ask ask ≡ true }
-        ensures rule { IfOk result (λ t. t ≡ each.at_each (each.only_at (each.server_of ask) (client.take_ask op ask)) self) }
+        requires fits { is_ask ask.now ≡ true }
+        ensures rule { IfOk result (λ t. t ≡ each.at_each (each.only_at (each.server_of ask.now) (client.take_ask op ask.now)) self) }
         ensures last { IfOk result (λ t. all_last t.state now ≡ true) }
     {
         self.at_each(&TakeAsk { op, ask })
@@ -113,8 +108,8 @@ impl Machine {
         ensures { result ≡ client.is_configured self.now.state server }
     {
         let mut found = false;
-        for a in self.associations.iter() {
-            found = found || a.get().server().0 == server.0;
+        for a in self.parts.associations.iter() {
+            found = found || a.server().0 == server.0;
         }
         found
     }
@@ -123,18 +118,18 @@ impl Machine {
     fn is_full(&self) -> bool
         ensures { result ≡ client.is_full self.now.state }
     {
-        self.operations.is_full()
+        self.parts.operations.is_full()
     }
 
     /// An ask for which there is a place.
     #[tactic(auto, unfolding(st_rules::specs::Client::app_known))]
-    fn app_known(self, now: Stamp, op: u32, ask: Ask) -> Result<Machine, AllocError>
+    fn app_known(self, now: Stamp, op: u32, ask: &Ask) -> Result<Machine, AllocError>
         requires last { all_last self.state now ≡ true }
-        requires fits { is_ask ask ≡ true }
-        ensures rule { IfOk result (λ t. t ≡ client.app_known self op ask) }
+        requires fits { is_ask ask.now ≡ true }
+        ensures rule { IfOk result (λ t. t ≡ client.app_known self op ask.now) }
         ensures last { IfOk result (λ t. all_last t.state now ≡ true) }
     {
-        if self.is_configured(server_of(&ask)) {
+        if self.is_configured(server_of(ask)) {
             self.ask_each(now, op, ask)
         } else {
             self.answer_at_once(now, op, AppAnswer::NoFile)
@@ -143,10 +138,10 @@ impl Machine {
 
     /// An ask.
     #[tactic(auto, unfolding(st_rules::specs::Client::app))]
-    fn app(self, now: Stamp, op: u32, ask: Ask) -> Result<Machine, AllocError>
+    fn app(self, now: Stamp, op: u32, ask: &Ask) -> Result<Machine, AllocError>
         requires last { all_last self.state now ≡ true }
-        requires fits { is_ask ask ≡ true }
-        ensures rule { IfOk result (λ t. t ≡ client.app self op ask) }
+        requires fits { is_ask ask.now ≡ true }
+        ensures rule { IfOk result (λ t. t ≡ client.app self op ask.now) }
         ensures last { IfOk result (λ t. all_last t.state now ≡ true) }
     {
         if self.is_full() {
@@ -158,18 +153,18 @@ impl Machine {
 
     /// The rule for the input.
     #[tactic(auto, unfolding(st_rules::specs::Client::take_input))]
-    fn take_input(self, now: Stamp, input: ClientInput) -> Result<Machine, AllocError>
+    fn take_input(self, now: Stamp, input: &ClientInput) -> Result<Machine, AllocError>
         requires last { all_last self.state now ≡ true }
         requires time { now.0 ≤ 2 ^ 62 }
-        requires fits { comes_fit input ≡ true }
-        ensures rule { IfOk result (λ t. t ≡ client.take_input self now input) }
+        requires fits { comes_fit input.now ≡ true }
+        ensures rule { IfOk result (λ t. t ≡ client.take_input self now input.now) }
         ensures last { IfOk result (λ t. all_last t.state now ≡ true) }
     {
         match input {
             ClientInput::Tick => Ok(self),
-            ClientInput::App { op, ask } => self.app(now, op, ask),
-            ClientInput::Control(Message { header, body }) => self.receive(now, header, body),
-            ClientInput::Done { command, result } => self.done(now, command, result),
+            ClientInput::App { op, ask } => self.app(now, *op, ask),
+            ClientInput::Control(message) => self.receive(now, message),
+            ClientInput::Done { command, result } => self.done(now, *command, result),
         }
     }
 
@@ -184,13 +179,13 @@ impl Machine {
 
     /// The losses, the rule for the input, and then the passes at each server in turn.
     #[tactic(auto, unfolding(st_rules::specs::Client::client_step, st_rules::specs::Client::work))]
-    pub(crate) fn step(self, now: Stamp, input: ClientInput) -> Result<Machine, AllocError>
+    pub(crate) fn step(self, now: Stamp, input: &ClientInput) -> Result<Machine, AllocError>
         requires time { now.0 ≤ 2 ^ 62 }
-        requires fits { comes_fit input ≡ true }
+        requires fits { comes_fit input.now ≡ true }
         requires empty { self.out ≡ [] }
-        ensures { IfOk result (λ t. t ≡ client.client_step self.state now input) }
+        ensures { IfOk result (λ t. t ≡ client.client_step self.state now input.now) }
     {
-        let tick = is_tick(&input);
+        let tick = is_tick(input);
         let machine = self.losses(now)?;
         let machine = machine.take_input(now, input)?;
         machine.work(now, tick)

@@ -1,5 +1,5 @@
-use Rattle.std.proofs.Common.{◌≡◌, ◌∙◌, ap, take}
-use Rattle.st_rules.specs.ClientPages.{lost_page, with_lost, with_lost_pages}
+use Rattle.std.proofs.Common.{◌∙◌}
+use Rattle.st_rules.specs.ClientPages.{with_lost}
 use Rattle.st_association.proofs.LostRows.{lost_more}
 use Rattle.st_association.proofs.losing.put_lost.Goals as goal
 

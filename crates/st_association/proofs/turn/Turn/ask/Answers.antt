@@ -3,14 +3,16 @@ use Rattle.std.specs.Prelude.{Option}
 use Rattle.st_client_session.specs.Sessions.{ServerSession}
 use Rattle.st_rules.specs.ClientState.{asking}
 use Rattle.st_association.specs.Turns.{IsTurn}
-use Rattle.st_association.proofs.Kept.{turn_asked}
+use Rattle.st_association.proofs.Kept.{lent, turn_asked}
 use Rattle.st_association.proofs.turn.Turn.ask.Goals as goal
 
 pub invariant_of-self-2 : goal.invariant_of-self-2
 unfolding asking
 invariant_of-self-2 c =
     let x = c.self.inside in
-    let i = subst (λ (s : Option ServerSession). IsTurn x.id x.config x.server x.life s x.store x.next_command x.out.items) c.in-Some.is c.self.invariant in
+    let h = c.deref_mut.result.now in
+    let k = lent x.here.value h x.next_command x.out.items c.deref_mut.ensures.value c.self.invariant in
+    let i = subst (λ (s : Option ServerSession). IsTurn h.id h.config h.server h.life s h.store x.next_command x.out.items) c.in-Some.is k in
     rw (c.push_reserved.ensures.items, c.reserve.ensures.items)
-    (turn_asked x.id x.config x.server x.life c.in-Some.session c.ask.new.self x.store x.next_command x.out.items _ i
+    (turn_asked h.id h.config h.server h.life c.in-Some.session c.ask.new.self h.store x.next_command x.out.items _ i
     (ap (λ s. s.of) c.in_ok-message-in-Some.ensures.left) (ap (λ s. s.session.requests.next) c.in_ok-message-in-Some.ensures.left))

@@ -1,16 +1,21 @@
-use Rattle.st_client.proofs.Growing.{in_goes, ready_goes, run_goes}
+use Rattle.std.proofs.Common.{◌≤◌, arith}
+use Rattle.st_client.proofs.Rotating.{all_left, next_at, none_at, ready_at}
 use Rattle.st_client.proofs.machine.Machine.at_each.Goals as goal
 
-pub loop-a-preserved : goal.loop-a-preserved
-loop-a-preserved g c =
-    record {
-      run =
-          run_goes (g.R.Rule.run c.args.rule.now) (g.R.Rule.is_ready c.args.rule.now) c.loop-a.machine c.in_ok-machine.machine _ c.loop-a.associations.items c.pop_front.new.self.items c.in-Some.a
-          c.in-Some.ensures.items c.in_ok-machine.ensures.run c.loop-a.invariant.run;
-      each =
-          in_goes c.loop-a.machine c.in_ok-machine.machine c.loop-a.associations.items c.pop_front.new.self.items c.in-Some.a c.in-Some.ensures.items c.in_ok-machine.ensures.goes
-          c.loop-a.invariant.each;
-      ready =
-          ready_goes (g.R.Rule.run c.args.rule.now) (g.R.Rule.is_ready c.args.rule.now) c.loop-a.machine c.in_ok-machine.machine c.loop-a.associations.items c.pop_front.new.self.items c.in-Some.a
-          c.in-Some.ensures.items c.in_ok-machine.ensures.goes c.loop-a.invariant.ready;
-    }
+pub loop-init : goal.loop-init
+loop-init g c = all_left (g.R.Rule.run c.args.rule.now) (g.R.Rule.is_ready c.args.rule.now) c.args.self c.count-count.result c.count-count.ensures c.requires
+
+pub at_first-requires : goal.at_first-requires
+at_first-requires g c =
+    ready_at (g.R.Rule.run c.args.rule.now) (g.R.Rule.is_ready c.args.rule.now) c.count-count.result c.loop.counter c.loop.machine _ c.loop-test.true c.loop.invariant
+
+pub loop-preserved : goal.loop-preserved
+loop-preserved g c =
+    next_at (g.R.Rule.run c.args.rule.now) (g.R.Rule.is_ready c.args.rule.now) c.count-count.result c.loop.counter c.loop.machine c.in_ok-machine.machine _ c.loop-test.true c.in_ok-machine.ensures
+    c.loop.invariant
+
+pub returns : goal.returns
+returns g c =
+    let l = c.loop-test.false in
+    let e : c.count-count.result ≤ c.loop.counter = omega (arith, l) in
+    none_at (g.R.Rule.run c.args.rule.now) (g.R.Rule.is_ready c.args.rule.now) c.count-count.result c.loop.counter c.loop.machine _ e c.loop.invariant

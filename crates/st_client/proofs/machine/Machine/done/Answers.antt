@@ -11,5 +11,5 @@ at_each-requires c = all_same true c.args.self.state.associations refl
 
 pub returns-clause-last : goal.returns-clause-last
 returns-clause-last c =
-    ok_by c.at_each.result (λ t. t ≡ at_each (finish c.args.number c.args.ended) c.args.self) (λ t. all_last t.state c.args.now ≡ true)
-    (λ t h. ap (λ (u : ClientTurn). all_last u.state c.args.now) h ∙ done_last c.args.now c.args.number c.args.ended c.args.self c.requires.last) c.at_each.ensures
+    ok_by c.at_each.result (λ t. t ≡ at_each (finish c.args.number c.args.ended.now) c.args.self) (λ t. all_last t.state c.args.now ≡ true)
+    (λ t h. ap (λ (u : ClientTurn). all_last u.state c.args.now) h ∙ done_last c.args.now c.args.number c.args.ended.now c.args.self c.requires.last) c.at_each.ensures

@@ -14,5 +14,5 @@ at_each-requires c = all_both (nat_le c.args.now.0 (2 ^ 62)) (lasts_here c.args.
 
 pub returns-clause-last : goal.returns-clause-last
 returns-clause-last c =
-    ok_by c.at_each.result (λ t. t ≡ at_each (hear c.args.now c.args.header c.args.body) c.args.self) (λ t. all_last t.state c.args.now ≡ true)
-    (λ t h. ap (λ (u : ClientTurn). all_last u.state c.args.now) h ∙ heard_last c.args.now c.args.header c.args.body c.args.self c.requires.last) c.at_each.ensures
+    ok_by c.at_each.result (λ t. t ≡ at_each (hear c.args.now c.args.message.now.header c.args.message.now.body) c.args.self) (λ t. all_last t.state c.args.now ≡ true)
+    (λ t h. ap (λ (u : ClientTurn). all_last u.state c.args.now) h ∙ heard_last c.args.now c.args.message.now.header c.args.message.now.body c.args.self c.requires.last) c.at_each.ensures

@@ -1,11 +1,12 @@
-use Rattle.std.proofs.Common.{[], sym, subst}
+use Rattle.std.proofs.Common.{ap, sym, subst, ◌∙◌}
 use Rattle.st_rules.specs.ClientState.{ClientTurn}
 use Rattle.st_client.proofs.Growing.{machine_last}
-use Rattle.st_client.specs.Machines.{IsIn}
+use Rattle.st_client.specs.Machines.{IsIn, IsMachineOf, turn_of}
 use Rattle.st_client.proofs.machine.Machine.passed_by.Goals as goal
 
-pub invariant_of-machine : goal.invariant_of-machine
-invariant_of-machine c =
-    machine_last (record { state = record { id = c.machine.inside.id; config = c.machine.inside.config; associations = []; operations = []; next_command = c.machine.inside.next_command }; out = c.machine.inside.out.items })
-    c.machine.inside.associations.items c.push_back.new.self.items c.args.a c.in_ok-push_back.ensures.items
-    (subst (λ (t : ClientTurn). IsIn t.state.id t.state.config t.state.next_command t.out c.args.a) (sym c.machine.view_is) c.requires.one) c.machine.invariant
+pub invariant_of-result : goal.invariant_of-result
+invariant_of-result c =
+    let x = c.deref_mut.result.now in
+    let told = sym (ap turn_of c.deref_mut.ensures.value ∙ c.self.view_is) in
+    machine_last x.id x.config x.next_command x.out.items x.associations.items c.push_back.new.self.items c.args.a c.in_ok-push_back.ensures.items
+    (subst (λ (t : ClientTurn). IsIn t.state.id t.state.config t.state.next_command t.out c.args.a) told c.requires.one) (subst IsMachineOf (sym c.deref_mut.ensures.value) c.self.invariant)

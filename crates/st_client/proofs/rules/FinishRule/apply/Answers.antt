@@ -4,4 +4,4 @@ use Rattle.st_client.proofs.Advancing.{advanced}
 use Rattle.st_client.proofs.rules.FinishRule.apply.Goals as goal
 
 pub returns-clause-advances : goal.returns-clause-advances
-returns-clause-advances c = advanced (finish c.args.self.now.number c.args.self.now.result) (finish_grows c.args.self.now.number c.args.self.now.result) c.finish.result c.args.turn.now c.finish.new.t c.finish.ensures
+returns-clause-advances c = advanced (finish c.args.self.now.number c.args.self.now.result.now) (finish_grows c.args.self.now.number c.args.self.now.result.now) c.finish.result c.args.turn.now c.finish.new.t c.finish.ensures

@@ -6,5 +6,5 @@ use Rattle.st_client.proofs.rules.HearRule.touches.Goals as goal
 
 pub returns : goal.returns
 returns c =
-    idle_hear c.args.self.now.now c.args.self.now.header c.args.self.now.body _ c.args.a.now c.is_from.result
-    (c.is_from.ensures ∙ ap (λ s. c.args.self.now.header.from == server_node s) c.server.ensures)
+    idle_hear c.args.self.now.now c.args.self.now.message.now.header c.args.self.now.message.now.body _ c.args.a.now c.is_from.result
+    (c.is_from.ensures ∙ ap (λ s. c.args.self.now.message.now.header.from == server_node s) c.server.ensures)

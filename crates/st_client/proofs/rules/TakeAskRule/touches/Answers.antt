@@ -6,5 +6,5 @@ use Rattle.st_client.proofs.rules.TakeAskRule.touches.Goals as goal
 
 pub returns : goal.returns
 returns c =
-    idle_ask c.args.self.now.op c.args.self.now.ask (server_of c.args.self.now.ask) _ c.args.a.now c.is_same.result
+    idle_ask c.args.self.now.op c.args.self.now.ask.now (server_of c.args.self.now.ask.now) _ c.args.a.now c.is_same.result
     (c.is_same.ensures ∙ ap (λ s. same_server s c.server_of.result) c.server.ensures ∙ ap (same_server c.args.a.now.here.server) c.server_of.ensures)

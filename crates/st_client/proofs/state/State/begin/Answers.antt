@@ -7,6 +7,7 @@ use Rattle.st_client.proofs.state.State.begin.Goals as goal
 
 pub invariant_of-result : goal.invariant_of-result
 invariant_of-result c =
-    begins c.self.inside.id c.self.inside.config c.self.inside.next_command c.self.inside.associations.items c.new.result.items c.new.ensures.items
+    let x = c.self.inside.parts.value in
+    begins x.id x.config x.next_command x.associations.items x.out.items c.self.invariant.empty
     (subst (λ (s : ClientState). s.next_command < 2 ^ 62) (sym c.self.view_is) c.requires.commands)
-    (ap (λ (s : ClientState). list_all has_room_at s.associations) c.self.view_is ∙ c.requires.each) c.self.invariant
+    (ap (λ (s : ClientState). list_all has_room_at s.associations) c.self.view_is ∙ c.requires.each) c.self.invariant.given

@@ -1,13 +1,12 @@
 use Rattle.std.proofs.Common.{◌≡◌, ◌≤◌, ◌-◌, []}
 use Rattle.std.specs.Prelude.{map}
 use Rattle.st_rules.specs.Client.{fresh_association}
-use Rattle.st_rules.specs.ClientState.{client_turn}
 use Rattle.st_rules.specs.Extents.{numbers}
-use Rattle.st_client.proofs.machine.Machine.fresh.Given as goal
+use Rattle.st_client.proofs.state.State.fresh.Given as goal
 
 abbrev pub invariant-loop-server : goal.invariant-loop-server
 invariant-loop-server l = record {
-  is : l.machine ≡ client_turn (record { id = l.fn.id; config = l.config; associations = map fresh_association (numbers 1 l.server); operations = []; next_command = 1 }) [];
+  is : l.state ≡ record { id = l.fn.id; config = l.config; associations = map fresh_association (numbers 1 l.server); operations = []; next_command = 1 };
   most : l.server ≤ l.servers;
 }
 

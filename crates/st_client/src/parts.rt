@@ -1,0 +1,19 @@
+// The parts of a client.
+use st_association::Association;
+use st_base::{ClientId, Config};
+use st_messages::Output;
+use st_operations::Operations;
+use std::alloc::Global;
+use std::collections::VecDeque;
+
+/// The parts of a client. They stay where they are as it goes from hand to hand.
+#[derive(Drop)]
+pub struct Parts {
+    pub(crate) alloc: Global,
+    pub(crate) id: ClientId,
+    pub(crate) config: Config,
+    pub(crate) associations: VecDeque<Association>,
+    pub(crate) operations: Operations,
+    pub(crate) next_command: u64,
+    pub(crate) out: Vec<Output>,
+}
