@@ -14,6 +14,7 @@ pub mod Sends
 pub mod Growing
 pub mod Rotating
 pub mod Idling
+pub mod Ending
 pub mod Advancing
 pub mod HearGrows
 pub mod InputsGrow

@@ -11,7 +11,7 @@ use Rattle.st_messages.specs.declared.ask.Ask.{Ask}
 use Rattle.st_messages.specs.declared.ask.Ask.TheVariants as asks
 use Rattle.st_messages.specs.declared.message.Body.{Body}
 use Rattle.st_messages.specs.declared.message.Header.{Header}
-use Rattle.st_operations.specs.Pending.{asks_sync}
+use Rattle.st_operations.specs.Pending.{may_act}
 use Rattle.st_rules.specs.declared.client.Operation.{Operation}
 use Rattle.st_rules.specs.declared.client.Release.{Release}
 use Rattle.st_rules.specs.declared.client.Request.{Request}
@@ -26,7 +26,7 @@ use Rattle.st_rules.specs.ClientPasses.{ask_by, ask_new, ask_next, asked_by, ask
 use Rattle.st_rules.specs.ClientReplies.{hear, is_heard}
 use Rattle.st_rules.specs.ClientState.{ClientSession, Turn, is_at, is_of, is_serving, is_sync, keep, only_at, with_operations}
 use Rattle.st_rules.specs.Keys.{rising, server_node}
-use Rattle.st_client.specs.Idle.{IsIdle, may_act}
+use Rattle.st_client.specs.Idle.{IsIdle}
 
 or_parts : (a b : Bool) → (a || b) ≡ false → (a ≡ false) × (b ≡ false)
 or_parts true b e = cc
@@ -206,14 +206,6 @@ without_session_idle now tick t h d e =
 no_session : (s : Option ClientSession) → is_some s ≡ false → s ≡ None
 no_session None e = refl
 no_session (Some s) e = cc
-
--- Syncs alone may do anything, and there is none.
-
-pub none_acts : (server : ServerId) (os : List Operation) → list_any asks_sync os ≡ false → list_any (may_act server false) os ≡ false
-none_acts server [] e = refl
-none_acts server (o ∷ os) e =
-    let p = or_parts (is_sync o.ask) (list_any asks_sync os) e in
-    λ i. (p.0 i && is_of server o) || none_acts server os p.1 i
 
 -- The passes, by whether each pending operation of the server may do something.
 

@@ -1,7 +1,5 @@
 // The rules at each server: losses, messages, asks, ends of commands, and the passes.
 ghost use Rattle.std.specs.Prelude.{◌≡◌, ◌==◌, true};
-ghost use Rattle.std.specs.List.{list_any};
-ghost use Rattle.st_client.specs.Idle.{may_act};
 ghost use Rattle.st_rules.specs.Keys.{same_server, server_node};
 
 use crate::rule::Rule;
@@ -11,7 +9,7 @@ use st_client_inputs::{finish, lose, take_ask};
 use st_client_passes::passes;
 use st_client_replies::hear;
 use st_messages::{Ask, Header, Message};
-use st_operations::{Operation, Operations, Test, is_of, is_sync, server_of};
+use st_operations::{Operations, server_of};
 use std::alloc::AllocError;
 
 /// Whether a message is from a server.
@@ -26,30 +24,6 @@ fn is_same(a: ServerId, b: ServerId) -> bool
     ensures { result ≡ same_server a b }
 {
     a.0 == b.0
-}
-
-/// The operations that may do something at a server: each of its own, or its syncs alone.
-#[derive(Clone, Copy)]
-struct MayAct {
-    server: ServerId,
-    all: bool,
-}
-
-impl Test<Operation> for MayAct {
-    ghost use Rattle.st_client.specs.Idle.{may_act};
-
-    ghost passes = { λ t o. may_act t.server t.all o };
-
-    fn test(&self, operation: &Operation) -> bool {
-        (self.all || is_sync(&operation.ask)) && is_of(self.server, operation)
-    }
-}
-
-/// Whether an operation may do something at a server. Where its syncs alone may, and no sync is pending, none is looked at.
-fn any_may_act(operations: &Operations, server: ServerId, all: bool) -> bool
-    ensures { result ≡ list_any (may_act server all) operations.now }
-{
-    (all || operations.has_sync()) && operations.any(&MayAct { server, all })
 }
 
 /// The loss.
@@ -142,7 +116,7 @@ impl Rule for Passes {
     fn touches(&self, a: &Association, operations: &Operations) -> bool {
         let server = a.server();
         let all = a.takes_all(self.now, self.tick);
-        any_may_act(operations, server, all) || a.is_awake(self.now, self.tick)
+        operations.any_may_act(server, all) || a.is_awake(self.now, self.tick)
     }
 
     fn apply(&self, turn: &mut Turn) -> Result<(), AllocError> {

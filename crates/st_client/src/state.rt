@@ -134,19 +134,26 @@ impl State {
         }
     }
 
+    /// How many servers there are.
+    fn count(&self) -> usize
+        ensures { result ≡ length self.now.associations }
+    {
+        self.parts.associations.len()
+    }
+
     /// The ends of the leases at all servers.
     pub(crate) fn lease_ends(&self) -> LeaseEnds
         requires { list_all is_server (map server_at self.now.associations) ≡ true }
         ensures { (s : ServerId) → end_in result s ≡ client.lease_end_with self.now s }
     {
-        LeaseEnds {
-            ends: [
-                self.lease_end(ServerId(1)),
-                self.lease_end(ServerId(2)),
-                self.lease_end(ServerId(3)),
-                self.lease_end(ServerId(4)),
-            ],
+        let mut ends = LeaseEnds::none();
+        let mut i = self.count();
+        while i > 0 {
+            i -= 1;
+            let a = &self.parts.associations[i];
+            ends.put(a.server(), a.lease_end());
         }
+        ends
     }
 
     /// Whether a page of the server is dirty.

@@ -19,10 +19,6 @@ put_back o stays t = if stays then keep o t else t
 abbrev pub lease_frame : Turn → Config × Option ClientLease
 lease_frame t = (t.config, option_map lease_of_session t.here.session)
 
--- an operation for which the pass may do something: each of the server, or its syncs alone
-abbrev pub may_act : ServerId → Bool → Operation → Bool
-may_act server all o = (all || is_sync o.ask) && is_of server o
-
 -- a sync of this server, or an unsent cut or name
 abbrev pub wants_writes : ServerId → Operation → Bool
 wants_writes s o = is_of s o && (is_sync o.ask || (is_cut_or_name o.ask && not (is_sent o)))

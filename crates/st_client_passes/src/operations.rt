@@ -9,28 +9,11 @@ ghost use Rattle.st_client_passes.specs.Passing.{is_serving_at, put_back};
 use crate::changing::{answer, patch, write};
 use crate::reading::read;
 use st_association::Turn;
-use st_base::{FileId, ServerId, Stamp};
+use st_base::{FileId, Stamp};
 use st_messages::{AppAnswer, Ask};
-use st_operations::{Operations, Test, file_of, is_of, is_sent, is_sync};
+use st_operations::{Operations, file_of, is_of, is_sent};
 use st_rules::Operation;
 use std::alloc::AllocError;
-
-/// The operations of a server for which the pass may do something: with a session all of them, and without one the syncs.
-#[derive(Clone, Copy)]
-struct MayAct {
-    server: ServerId,
-    all: bool,
-}
-
-impl Test<Operation> for MayAct {
-    ghost use Rattle.st_client_passes.specs.Passing.{may_act};
-
-    ghost passes = { λ t o. may_act t.server t.all o };
-
-    fn test(&self, operation: &Operation) -> bool {
-        (self.all || is_sync(&operation.ask)) && is_of(self.server, operation)
-    }
-}
 
 /// A sync is hard where its file has no dirty page and no outstanding write.
 #[tactic(auto, unfolding(st_rules::specs::ClientPasses::sync))]
@@ -227,15 +210,11 @@ fn operate_all(t: &mut Turn, now: Stamp) -> Result<(), AllocError>
     Ok(())
 }
 
-/// Operations. Where the pass does nothing for any that is pending, all stay.
+/// Operations. Where none of this server is pending, or only others than syncs without a session, all stay.
 pub fn operations(t: &mut Turn, now: Stamp) -> Result<(), AllocError>
     ensures { OnOk result (t.new ≡ passes.operations now t.old) }
 {
-    let acting = MayAct {
-        server: t.server(),
-        all: t.has_session(),
-    };
-    if t.operations().any(&acting) {
+    if t.operations().any_may_act(t.server(), t.has_session()) {
         operate_all(t, now)
     } else {
         Ok(())

@@ -5,8 +5,10 @@ use Rattle.std.specs.Option.{option_copied, option_to_list}
 use Rattle.std.specs.List.{list_all, list_any, position, position_or_len}
 use Rattle.std.proofs.lemmas.Bool.{and_parts, le-ltb, lt-ltb}
 use denote.Ref.{Bor}
+use Rattle.st_base.specs.declared.ids.ServerId.{ServerId}
 use Rattle.st_rules.specs.declared.client.Operation.{Operation}
-use Rattle.st_operations.specs.Pending.{AreCounted, AreFit, KeepsFirst, asks_sync, count_syncs, is_fit, marked}
+use Rattle.st_rules.specs.ClientState.{is_of}
+use Rattle.st_operations.specs.Pending.{AreCounted, AreFit, KeepsFirst, asks_sync, count_syncs, is_fit, marked, may_act}
 
 -- the next one is passed over, as the one at a place is to be marked
 pub marked_more : (i n : ℕ) (kept now all old rest : List Operation) → i < n → kept ++ marked (n - i) old ≡ all → KeepsFirst kept old now rest → now ++ marked (n - (i + 1)) rest ≡ all
@@ -147,3 +149,12 @@ any_counted (x ∷ xs) = by (asks_sync x) (any_counted xs)
 
 pub any_sync : (os : List Operation) (n : ℕ) → AreCounted os n → nat_lt 0 n ≡ list_any asks_sync os
 any_sync os n h = ap (nat_lt 0) h.count ∙ any_counted os
+
+-- syncs alone may do anything, and there is none
+pub none_acts : (server : ServerId) (os : List Operation) → list_any asks_sync os ≡ false → list_any (may_act server false) os ≡ false
+none_acts server [] e = refl
+none_acts server (o ∷ os) e = by (asks_sync o) (is_of server o) e (none_acts server os)
+  where
+    by : (b c : Bool) → (b || list_any asks_sync os) ≡ false → (list_any asks_sync os ≡ false → list_any (may_act server false) os ≡ false) → ((b && c) || list_any (may_act server false) os) ≡ false
+    by true c e h = absurd (true≢false e)
+    by false c e h = h e

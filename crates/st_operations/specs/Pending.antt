@@ -1,11 +1,11 @@
 -- Pending operations: what is left where the first one is taken, and the operations after one was sent or is stuck.
-use Rattle.std.specs.Prelude.{◌≡◌, ℕ, zero, suc, ◌+◌, if◌then◌else◌, Bool, true, List, [], ◌∷◌, ◌++◌, Option, Some, None}
+use Rattle.std.specs.Prelude.{◌≡◌, ℕ, zero, suc, ◌+◌, if◌then◌else◌, Bool, true, ◌&&◌, ◌||◌, List, [], ◌∷◌, ◌++◌, Option, Some, None}
 use Rattle.std.specs.List.{list_all}
 use Rattle.st_base.specs.declared.ids.ServerId.{ServerId}
 use Rattle.st_messages.specs.Fits.{is_ask}
 use Rattle.st_rules.specs.declared.client.Operation.{Operation}
 use Rattle.st_rules.specs.declared.client.Stage.TheVariants.{Sent, Stuck}
-use Rattle.st_rules.specs.ClientState.{at_stage, is_asked, is_sync}
+use Rattle.st_rules.specs.ClientState.{at_stage, is_asked, is_of, is_sync}
 
 -- the fields of the ask are in their ranges
 abbrev pub is_fit : Operation → Bool
@@ -18,6 +18,10 @@ AreFit os = list_all is_fit os ≡ true
 -- the operation is a sync
 abbrev pub asks_sync : Operation → Bool
 asks_sync o = is_sync o.ask
+
+-- an operation that may do something at the server: each of its own, or its syncs alone
+abbrev pub may_act : ServerId → Bool → Operation → Bool
+may_act server all o = (all || asks_sync o) && is_of server o
 
 -- how many operations are syncs
 abbrev pub count_syncs : List Operation → ℕ

@@ -3,9 +3,10 @@ ghost use Rattle.std.specs.List.{list_any};
 ghost use Rattle.std.specs.Option.{option_copied, option_to_list};
 ghost use Rattle.st_messages.specs.Fits.{is_ask};
 ghost use Rattle.st_rules.specs.ClientState as client_state;
-ghost use Rattle.st_operations.specs.Pending.{AreFit, KeepsFirst, TakesFirst, asks_sync, count_syncs, is_fit, marked, stuck};
+ghost use Rattle.st_operations.specs.Pending.{AreFit, KeepsFirst, TakesFirst, asks_sync, count_syncs, is_fit, marked, may_act, stuck};
 
 use crate::asks::{is_asked, is_sent, is_sync};
+use crate::picks::MayAct;
 use st_base::ServerId;
 use st_messages::{AppAnswer, Ask, Output};
 use st_rules::{Operation, Stage};
@@ -163,6 +164,14 @@ impl Operations {
         ensures { result ≡ list_any (T.passes test.now) self.now }
     {
         self.rows.place(test).is_some()
+    }
+
+    /// Whether a pending operation may do something at a server: each of its own, or its syncs alone. Where only syncs may, and
+    /// none is pending, it looks at no operation.
+    pub fn any_may_act(&self, server: ServerId, all: bool) -> bool
+        ensures { result ≡ list_any (may_act server all) self.now }
+    {
+        (all || self.has_sync()) && self.any(&MayAct { server, all })
     }
 
     /// Takes out all operations. It does not allocate.

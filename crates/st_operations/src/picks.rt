@@ -22,6 +22,23 @@ impl Test<Operation> for OfServer {
     }
 }
 
+/// The operations that may do something at a server: each of its own, or its syncs alone.
+#[derive(Clone, Copy)]
+pub struct MayAct {
+    pub server: ServerId,
+    pub all: bool,
+}
+
+impl Test<Operation> for MayAct {
+    ghost use Rattle.st_operations.specs.Pending.{may_act};
+
+    ghost passes = { λ t o. may_act t.server t.all o };
+
+    fn test(&self, operation: &Operation) -> bool {
+        (self.all || is_sync(&operation.ask)) && is_of(self.server, operation)
+    }
+}
+
 /// The operation of the server's outstanding request.
 #[derive(Clone, Copy)]
 pub struct Asked {
