@@ -12,6 +12,7 @@ use st_base::Config;
 use st_clock::Drift;
 use st_rules::LeaseLife;
 use std::alloc::AllocError;
+use std::mem;
 
 /// Adds the present lives of all clients.
 #[tactic(auto, unfolding(st_rules::specs::Events::present_lives))]
@@ -38,17 +39,20 @@ fn raise(drift: &mut Drift, steps: &[u64], config: &Config)
 impl Machine {
     /// Adds the lives whose lease ends an advance reaches.
     #[tactic(auto, unfolding(st_rules::specs::Events::lives_reached), using(crate::proofs::Reached::reached_is))]
-    fn reached(&self, steps: &[u64]) -> Result<Vec<LeaseLife>, AllocError>
-        requires clocks { list_all (is_at_most (2 ^ 62)) self.now.world.clocks ≡ true }
+    fn reached(&mut self, steps: &[u64]) -> Result<Vec<LeaseLife>, AllocError>
+        requires clocks { list_all (is_at_most (2 ^ 62)) self.old.world.clocks ≡ true }
         requires steps { list_all is_step steps.now ≡ true }
-        ensures { IfOk result (λ found. found.items ≡ events.lives_reached self.now.world steps.now) }
+        ensures found { IfOk result (λ found. found.items ≡ events.lives_reached self.old.world steps.now) }
+        ensures same { self.new ≡ self.old }
     {
-        let mut present = Vec::with_capacity(self.alloc, 16)?;
+        let mut present = mem::replace(&mut self.present, Vec::new(self.alloc));
+        present.clear();
         push_present(&self.clients, &mut present)?;
         let mut found = Vec::new(self.alloc);
         self.lives
             .reached_among(steps, present.as_slice(), &mut found)?;
         self.lives.reached(steps, &mut found)?;
+        self.present = present;
         Ok(found)
     }
 

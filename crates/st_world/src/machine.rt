@@ -12,7 +12,7 @@ use st_commands::Commands;
 use st_lives::Lives;
 use st_model::FlatLog;
 use st_network::Network;
-use st_rules::{FlushStep, Observation};
+use st_rules::{FlushStep, LeaseLife, Observation};
 use st_server::ServerNode;
 use std::alloc::{AllocError, Global};
 use std::marker::Model;
@@ -35,6 +35,8 @@ pub struct Machine {
     pub(crate) reads: u64,
     pub(crate) stolen: u64,
     pub(crate) seen: Vec<Observation>,
+    /// A list whose room an advance uses for the present lives.
+    pub(crate) present: Vec<LeaseLife>,
 }
 
 impl Model for Machine {

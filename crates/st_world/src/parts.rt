@@ -87,6 +87,7 @@ fn fresh(alloc: Global, config: Config, counts: &Counts, form: u8) -> Result<Mac
         reads: 0,
         stolen: 0,
         seen: Vec::new(alloc),
+        present: Vec::new(alloc),
     })
 }
 
