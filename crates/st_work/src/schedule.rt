@@ -31,7 +31,8 @@ fn put_next(
 {
     let event = choose(draws, &*world, alloc)?;
     put_event(alloc, text, &event)?;
-    run_event(world, &event)
+    let mut seen = Vec::new(alloc);
+    run_event(alloc, world, &event, &mut seen)
 }
 
 /// Chooses the next event, appends its line and runs it, and writes the text where it is long.

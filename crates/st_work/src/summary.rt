@@ -24,8 +24,9 @@ fn run_events(alloc: Global, world: &mut World, draws: &mut Draws, n: u32) -> Re
     requires room { world.old.tally.events + n ≤ 2 ^ 29 }
     ensures { OnOk result (world.new ≡ (run (generator.generated n world.old draws.old) world.old).world) }
 {
+    let mut seen = Vec::new(alloc);
     for _i in 0..n {
-        advance(alloc, world, draws)?;
+        advance(alloc, world, draws, &mut seen)?;
     }
     Ok(())
 }

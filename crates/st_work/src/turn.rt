@@ -9,8 +9,10 @@ ghost use Rattle.st_work.specs.Turns.{IsReady, IsTurn, Leads};
 use st_base::Config;
 use st_candidates::{Draws, choose};
 use st_messages::{Counts, Event};
+use st_rules::Observation;
 use st_world::{World, WorldFault};
 use std::alloc::{AllocError, Global};
+use std::mem;
 
 /// The settings of a generated schedule.
 fn settings() -> Config
@@ -49,8 +51,13 @@ pub(crate) fn fresh(alloc: Global) -> Result<World, AllocError>
     World::new(alloc, settings(), counts(), 1)
 }
 
-/// Runs an event that is admissible.
-pub(crate) fn run_event(world: &mut World, event: &Event) -> Result<(), AllocError>
+/// Runs an event that is admissible. What was observed of the one before makes room for what is observed of this one.
+pub(crate) fn run_event(
+    alloc: Global,
+    world: &mut World,
+    event: &Event,
+    seen: &mut Vec<Observation>,
+) -> Result<(), AllocError>
     requires event { is_event (length world.old.clocks) event.now ≡ true }
     requires room { world.old.tally.events < 2 ^ 29 }
     requires admissible { refusal world.old event.now ≡ None }
@@ -58,15 +65,24 @@ pub(crate) fn run_event(world: &mut World, event: &Event) -> Result<(), AllocErr
     ensures events { OnOk result (world.new.tally.events ≡ world.old.tally.events + 1) }
     ensures clocks { OnOk result (length world.new.clocks ≡ length world.old.clocks) }
 {
-    match world.run(event) {
-        Ok(_seen) => Ok(()),
+    let spare = mem::replace(seen, Vec::new(alloc));
+    match world.run(event, spare) {
+        Ok(observed) => {
+            *seen = observed;
+            Ok(())
+        }
         Err(WorldFault::Refused(_)) => unreachable!(),
         Err(WorldFault::Memory) => Err(AllocError),
     }
 }
 
 /// Chooses the next event and runs it.
-pub(crate) fn advance(alloc: Global, world: &mut World, draws: &mut Draws) -> Result<(), AllocError>
+pub(crate) fn advance(
+    alloc: Global,
+    world: &mut World,
+    draws: &mut Draws,
+    seen: &mut Vec<Observation>,
+) -> Result<(), AllocError>
     requires ready { IsReady world.old }
     requires room { world.old.tally.events < 2 ^ 29 }
     ensures turn { OnOk result (IsTurn world.old draws.old world.new draws.new) }
@@ -74,5 +90,5 @@ pub(crate) fn advance(alloc: Global, world: &mut World, draws: &mut Draws) -> Re
     ensures events { OnOk result (world.new.tally.events ≡ world.old.tally.events + 1) }
 {
     let event = choose(draws, &*world, alloc)?;
-    run_event(world, &event)
+    run_event(alloc, world, &event, seen)
 }

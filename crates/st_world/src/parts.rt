@@ -125,7 +125,11 @@ impl Parts {
 
     /// Runs one event that is not refused, and returns what is observed of it, in order. Where memory runs out nothing is known of
     /// the world, and every later step returns `Memory`: discard it.
-    pub(crate) fn run(&mut self, event: &Event) -> Result<Vec<Observation>, WorldFault>
+    pub(crate) fn run(
+        &mut self,
+        event: &Event,
+        spare: Vec<Observation>,
+    ) -> Result<Vec<Observation>, WorldFault>
         requires event { is_event (length self.old.clocks) event.now ≡ true }
         requires room { self.old.tally.events < 2 ^ 29 }
         requires admissible { refusal self.old event.now ≡ None }
@@ -137,7 +141,7 @@ impl Parts {
             return Err(WorldFault::Memory);
         }
         runs_go_on_in_parts();
-        match self.machine.step_admitted(event) {
+        match self.machine.step_admitted(event, spare) {
             Ok(seen) => Ok(seen),
             Err(WorldFault::Refused(refusal)) => Err(WorldFault::Refused(refusal)),
             Err(WorldFault::Memory) => {
@@ -163,7 +167,7 @@ impl Parts {
         }
         match self.refusal(event) {
             Some(refusal) => Err(WorldFault::Refused(refusal)),
-            None => self.run(event),
+            None => self.run(event, Vec::new(self.machine.alloc)),
         }
     }
 

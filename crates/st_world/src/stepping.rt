@@ -15,15 +15,21 @@ use st_rules::Observation;
 use std::mem;
 
 impl Machine {
-    fn take_seen(&mut self) -> Vec<Observation>
+    /// Takes out what was observed, and puts the room of this list in its place.
+    fn take_seen(&mut self, mut spare: Vec<Observation>) -> Vec<Observation>
         ensures seen { result.items ≡ self.old.seen }
         ensures rest { self.new ≡ events.quiet self.old.world }
     {
-        mem::replace(&mut self.seen, Vec::new(self.alloc))
+        spare.clear();
+        mem::replace(&mut self.seen, spare)
     }
 
     /// An event that is not refused happens.
-    fn run(&mut self, event: &Event) -> Result<Vec<Observation>, WorldFault>
+    fn run(
+        &mut self,
+        event: &Event,
+        spare: Vec<Observation>,
+    ) -> Result<Vec<Observation>, WorldFault>
         requires begins { self.old.seen ≡ [] }
         requires laid { IsLaid self.old.world }
         requires ready { IsReady self.old.world }
@@ -36,7 +42,7 @@ impl Machine {
     {
         self.count_event();
         let happened = self.happen(event);
-        let seen = self.take_seen();
+        let seen = self.take_seen(spare);
         match happened {
             Err(_) => Err(WorldFault::Memory),
             Ok(()) => Ok(seen),
@@ -51,7 +57,11 @@ impl Machine {
     }
 
     /// Runs one event, where its counts have room.
-    fn run_counted(&mut self, event: &Event) -> Result<Vec<Observation>, WorldFault>
+    fn run_counted(
+        &mut self,
+        event: &Event,
+        spare: Vec<Observation>,
+    ) -> Result<Vec<Observation>, WorldFault>
         requires begins { self.old.seen ≡ [] }
         requires laid { IsLaid self.old.world }
         requires event { is_event (length self.old.world.clocks) event.now ≡ true }
@@ -62,15 +72,19 @@ impl Machine {
         ensures ends { self.new.seen ≡ [] }
     {
         if self.may_count() {
-            self.run(event)
+            self.run(event, spare)
         } else {
             Err(WorldFault::Memory)
         }
     }
 
-    /// Runs one event that is not refused, and returns what is observed of it. Where a count of reads or thefts is at its end, it returns
-    /// `Memory`.
-    pub(crate) fn step_admitted(&mut self, event: &Event) -> Result<Vec<Observation>, WorldFault>
+    /// Runs one event that is not refused, and returns what is observed of it. The room of the spare list is used for what is observed
+    /// next. Where a count of reads or thefts is at its end, it returns `Memory`.
+    pub(crate) fn step_admitted(
+        &mut self,
+        event: &Event,
+        spare: Vec<Observation>,
+    ) -> Result<Vec<Observation>, WorldFault>
         requires begins { self.old.seen ≡ [] }
         requires laid { IsLaid self.old.world }
         requires event { is_event (length self.old.world.clocks) event.now ≡ true }
@@ -79,6 +93,6 @@ impl Machine {
         ensures machine { StepsAs (λ seen. seen.items) self.old.world self.new.world result (events.world_step self.old.world event.now) }
         ensures ends { self.new.seen ≡ [] }
     {
-        self.run_counted(event)
+        self.run_counted(event, spare)
     }
 }

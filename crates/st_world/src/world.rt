@@ -69,8 +69,13 @@ impl World {
         stepped
     }
 
-    /// Runs one event that is admissible, as `step` does, which asks first whether it is.
-    pub fn run(&mut self, event: &Event) -> Result<Vec<Observation>, WorldFault>
+    /// Runs one event that is admissible, as `step` does, which asks first whether it is. The spare list is emptied, and its room is
+    /// used for what is observed of the next event: a caller that gives back what it got needs no memory for observations.
+    pub fn run(
+        &mut self,
+        event: &Event,
+        spare: Vec<Observation>,
+    ) -> Result<Vec<Observation>, WorldFault>
         requires event { is_event (length self.old.clocks) event.now ≡ true }
         requires room { self.old.tally.events < 2 ^ 29 }
         requires admissible { refusal self.old event.now ≡ None }
@@ -82,7 +87,7 @@ impl World {
     {
         let parts: &mut Parts = &mut self.of;
         parts.runs_on_are_safe(event);
-        let stepped = parts.run(event);
+        let stepped = parts.run(event, spare);
         parts.runs_here_are_safe();
         stepped
     }
