@@ -1,0 +1,21 @@
+import glob,subprocess,re,sys,os
+top='/work/hC/crates'
+for c in sys.argv[1:]:
+    os.chdir(f'{top}/{c}')
+    for e in sorted(glob.glob(f'{top}/{c}/must-fail/*.edit')):
+        t=open(e).read(); f=re.search(r'^file: (.*)$',t,re.M)[1]
+        pairs=[]; old=None
+        for l in t.splitlines():
+            if l.startswith('old: '): old=l[5:]
+            if l.startswith('new: '): pairs.append((old,l[5:]))
+        s=open(f).read(); n=s
+        for a,b in pairs:
+            assert n.count(a)==1,(e,a); n=n.replace(a,b)
+        mod=os.path.basename(f)[:-3]
+        open(f,'w').write(n)
+        try: r=subprocess.run(['/work/helpers/bin/rtm','check','--jobs','1','--only',f'{c}::{mod}'],capture_output=True,text=True)
+        finally: open(f,'w').write(s)
+        out=r.stdout+r.stderr
+        open(f'/work/helpers/edit.{c}.{os.path.basename(e)}.log','w').write(out)
+        bad=[l for l in out.splitlines() if re.search(r'no proof|not proved|error',l)]
+        print(c,os.path.basename(e),f,r.returncode,[b[:150] for b in bad[:2]],flush=True)
