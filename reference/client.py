@@ -1,0 +1,96 @@
+"""The client. Chapter "The client"."""
+
+from . import wire
+from .client_inputs import Inputs
+from .client_parts import Association
+from .client_passes import Passes
+from .clocks import FLUSH, lease_end
+from .wire import Message
+
+
+class Client(Inputs, Passes):
+    """A client node: its machine and whether it runs. Chapter "The client"."""
+
+    def __init__(self, number, settings, servers):
+        self.number, self.settings = number, settings
+        self.running = True
+        self.begin([1] * servers)
+
+    def begin(self, lives):
+        """A client with these lives and nothing else. Chapter "The client"."""
+        self.associations = [Association(server, life) for server, life in enumerate(lives, 1)]
+        self.operations = []
+        self.next_command = 1
+
+    def crash(self):
+        """A crash keeps the lives alone. Section "Crash and start". Chapter "The client"."""
+        self.running = False
+        self.begin([association.life for association in self.associations])
+
+    def start(self):
+        """A start raises each life by 1. Section "Crash and start". Chapter "The client"."""
+        self.running = True
+        self.begin([association.life + 1 for association in self.associations])
+
+    def association(self, server):
+        """The association with a configured server, or None. Chapter "The client"."""
+        return self.associations[server - 1] if 1 <= server <= len(self.associations) else None
+
+    def step(self, now, taken):
+        """A step: losses, the rule for the input, and five passes at each server. Its outputs. Chapter "The client"."""
+        self.now, self.outputs = now, []
+        self.losses()
+        kind = taken[0]
+        if kind == "ask":
+            self.asked(*taken[1:])
+        elif kind == "message":
+            self.receive(taken[1])
+        elif kind == "end":
+            self.ended(*taken[1:])
+        for association in self.associations:
+            self.passes(association, kind == "tick")
+        return self.outputs
+
+    # What rules say
+
+    def operations_of(self, association):
+        """The pending operations of a server, in order. Chapter "The client"."""
+        return [operation for operation in self.operations if operation.server == association.server]
+
+    def is_busy(self, association, ino):
+        """A file is busy while a cut or a remove of it was sent and not answered. Chapter "The client"."""
+        return any(operation.sent and operation.ino == ino and operation.is_cut() for operation in self.operations_of(association))
+
+    def is_open(self, association, ino):
+        """A file is open where it is neither demanded nor busy. Chapter "The client"."""
+        return ino not in association.session.demands and not self.is_busy(association, ino)
+
+    def answer(self, operation, answer):
+        """Every answer ends its operation. Chapter "The client"."""
+        self.operations.remove(operation)
+        self.say(operation.number, answer)
+
+    def say(self, number, answer):
+        """An answer goes out. Chapter "The client"."""
+        self.outputs.append(("answer", number, answer))
+
+    def note(self, *note):
+        """A note goes out. Chapter "The client"."""
+        self.outputs.append(note)
+
+    def send_from(self, association, kind, epoch, number, stamp, body):
+        """A message to the server, of the life there. Chapter "The client"."""
+        receiver = wire.SERVER_BASE + association.server
+        self.outputs.append(("send", Message(kind, self.number, receiver, association.life, epoch, number, stamp, body)))
+
+    # What the world looks at
+
+    def lease_end_at(self, server):
+        """The lease end at a server, or None without a lease. Chapter "The client"."""
+        session = self.associations[server - 1].session
+        return None if session is None else lease_end(self.settings, session.date)
+
+    def is_in_flush(self, server):
+        """Whether the client's lease at a server is in flush. Chapter "The client"."""
+        session = self.associations[server - 1].session
+        return session is not None and self.phase_of(session) == FLUSH
