@@ -1,5 +1,10 @@
+pub mod CutRequests
+pub mod DiskReads
+pub mod EveryRun
+pub mod ExtentReplies
+pub mod FrozenCuts
 pub mod Known
-pub mod Lies
-pub mod Law
-pub mod Told
-pub mod Current
+pub mod LockedRequests
+pub mod ReadPlaces
+pub mod Samples
+pub mod Submits

@@ -1,8 +1,4 @@
-pub mod Law
-pub mod World
-pub mod Events
-pub mod Clear
-pub mod Left
-pub mod Runs
-pub mod Carry
-pub mod Settled
+pub mod AllClients
+pub mod Copies
+pub mod FrozenLives
+pub mod OpenWrites

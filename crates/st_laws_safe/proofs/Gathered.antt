@@ -1,9 +1,9 @@
 -- The promises over every run, gathered from the crates that prove them.
 use Rattle.st_rules.specs.Safety.{EveryRunIsSafe, IsAllPromised}
-use Rattle.st_laws.proofs.Kept.{most_promised}
-use Rattle.st_laws_cuts.proofs.Law as cuts
-use Rattle.st_laws_order.proofs.Grants.{order_law}
-use Rattle.st_laws_whole.proofs.Law as whole
+use Rattle.st_laws_leases.proofs.Sides.Kept.{most_promised}
+use Rattle.st_laws_requests.proofs.Cuts.Law as cuts
+use Rattle.st_laws_leases.proofs.Order.Grants.{order_law}
+use Rattle.st_laws_extents.proofs.EveryRun.Law as whole
 
 pub every_run : EveryRunIsSafe
 every_run k clients servers disks blocks form es head events =

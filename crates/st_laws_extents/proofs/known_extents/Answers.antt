@@ -1,4 +1,4 @@
-use Rattle.st_laws_extents.proofs.Law.{known, submits}
+use Rattle.st_laws_extents.proofs.Known.Law.{known, submits}
 use Rattle.st_laws_extents.proofs.known_extents.Goals as goal
 
 pub returns-clause-known : goal.returns-clause-known

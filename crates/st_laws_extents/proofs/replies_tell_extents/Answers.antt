@@ -1,4 +1,4 @@
-use Rattle.st_laws_extents.proofs.Told.{law}
+use Rattle.st_laws_extents.proofs.Known.Told.{law}
 use Rattle.st_laws_extents.proofs.replies_tell_extents.Goals as goal
 
 pub returns : goal.returns

@@ -1,5 +1,5 @@
-use Rattle.st_laws_pages.proofs.CutLaw.{law}
-use Rattle.st_laws_pages.proofs.Whole.{cuts_law}
+use Rattle.st_laws_pages.proofs.LockedCuts.CutLaw.{law}
+use Rattle.st_laws_pages.proofs.Disks.Whole.{cuts_law}
 use Rattle.st_laws_pages.proofs.cuts_are_locked.Goals as goal
 
 pub returns-clause-steps : goal.returns-clause-steps

@@ -1,4 +1,4 @@
-use Rattle.st_laws_pages.proofs.Data.{unmapped_law, block_law, hard_law}
+use Rattle.st_laws_pages.proofs.Disks.Data.{unmapped_law, block_law, hard_law}
 use Rattle.st_laws_pages.proofs.disks_give_the_content.Goals as goal
 
 pub returns-clause-unmapped : goal.returns-clause-unmapped

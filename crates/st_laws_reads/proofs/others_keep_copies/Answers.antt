@@ -1,4 +1,4 @@
-use Rattle.st_laws_reads.proofs.Others.{law}
+use Rattle.st_laws_reads.proofs.AllClients.Others.{law}
 use Rattle.st_laws_reads.proofs.others_keep_copies.Goals as goal
 
 pub returns : goal.returns

@@ -1,5 +1,0 @@
-pub mod Kept
-pub mod Sending
-pub mod LostRows
-pub mod Done
-pub mod Emptiness

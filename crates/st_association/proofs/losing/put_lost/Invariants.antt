@@ -1,6 +1,0 @@
-use Rattle.std.proofs.Common.{◌≡◌, take}
-use Rattle.st_rules.specs.ClientPages.{with_lost_pages}
-use Rattle.st_association.proofs.losing.put_lost.Given as goal
-
-abbrev pub invariant-loop-i : goal.invariant-loop-i
-invariant-loop-i l = l.lost ≡ with_lost_pages l.store.store.commands (take l.i l.store.store.pages.dirty) l.initial.lost

@@ -1,0 +1,15 @@
+pub mod Answering
+pub mod Asking
+pub mod Clients
+pub mod Events
+pub mod Hearing
+pub mod Law
+pub mod Passing
+pub mod Reading
+pub mod Robbing
+pub mod Servers
+pub mod Stables
+pub mod Stepping
+pub mod Tallies
+pub mod Thefts
+pub mod Weights

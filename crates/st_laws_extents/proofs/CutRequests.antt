@@ -1,0 +1,15 @@
+pub mod Asked
+pub mod Cutting
+pub mod EndedLives
+pub mod Fresh
+pub mod Going
+pub mod Hearing
+pub mod Law
+pub mod Named
+pub mod New
+pub mod Requesting
+pub mod Seen
+pub mod Standing
+pub mod Step
+pub mod Walking
+pub mod World

@@ -1,0 +1,224 @@
+-- Who cuts: each cut that an event logs is of a server that runs, because of a message of the world.
+use Rattle.std.proofs.Common.{◌≡◌, ℕ, ◌+◌, ◌⊎◌, Bool, true, false, List, [], ◌∷◌, ◌++◌, Option, Some, None, Ok, Err, refl, sym, ap, ◌∙◌, subst, inl, inr, if◌then◌else◌}
+use Rattle.std.specs.Prelude.{Result, length}
+use Rattle.st_base.specs.declared.ids.ClientId.{ClientId}
+use Rattle.st_base.specs.declared.ids.ServerId.{ServerId}
+use Rattle.st_base.specs.declared.ids.NodeId.{NodeId}
+use Rattle.st_base.specs.declared.ids.NodeId.TheVariants as nodes
+use Rattle.st_messages.specs.declared.message.Message.{Message}
+use Rattle.st_messages.specs.declared.event.Event.{Event}
+use Rattle.st_messages.specs.declared.event.Event.TheVariants as events
+use Rattle.st_messages.specs.declared.output.Note.{Note}
+use Rattle.st_messages.specs.declared.output.Note.TheVariants as notes
+use Rattle.st_messages.specs.declared.output.Output.{Output}
+use Rattle.st_messages.specs.declared.output.Output.TheVariants as outputs
+use Rattle.st_rules.specs.declared.input.ServerInput.{ServerInput}
+use Rattle.st_rules.specs.declared.input.ServerInput.TheVariants as serving
+use Rattle.st_rules.specs.declared.client.ClientInput.{ClientInput}
+use Rattle.st_rules.specs.declared.log.Fate.{Fate}
+use Rattle.st_rules.specs.declared.log.Fate.TheVariants as fates
+use Rattle.st_rules.specs.declared.log.LogEntry.{LogEntry}
+use Rattle.st_rules.specs.declared.node.StepRefusal.{StepRefusal}
+use Rattle.st_rules.specs.declared.node.StepRefusal.TheVariants.{Crashed}
+use Rattle.st_rules.specs.declared.observation.Observation.{Observation}
+use Rattle.st_rules.specs.declared.world.IssuedCommand.{IssuedCommand}
+use Rattle.st_rules.specs.declared.world.SentMessage.{SentMessage}
+use Rattle.st_rules.specs.Disks as disks
+use Rattle.st_rules.specs.Client as cl
+use Rattle.st_rules.specs.ClientState.{ClientState}
+use Rattle.st_rules.specs.Server as server
+use Rattle.st_rules.specs.Server.{ServerNode}
+use Rattle.st_rules.specs.World as world
+use Rattle.st_rules.specs.World.{World, ClientSite, site_of, node_of, issued_of, clock_of}
+use Rattle.st_rules.specs.Events as ev
+use Rattle.st_rules.specs.Events.{WorldTurn}
+use Rattle.st_lemmas.specs.Lists.{Has}
+use Rattle.st_lemmas.proofs.Steps.{step_happens}
+use Rattle.st_base.specs.declared.ids.FileId.{FileId}
+use Rattle.st_base.specs.declared.ids.PageNo.{PageNo}
+use Rattle.st_rules.specs.declared.observation.Observation.TheVariants as seen
+use Rattle.st_lemmas.proofs.Numbers.{numbered_has}
+use Rattle.st_lemmas.proofs.Tables.{has_append, has_map_in}
+use Rattle.st_rules.specs.Server.{server_step}
+use Rattle.st_rules.specs.Events.{world_step}
+use Rattle.st_laws_leases.specs.Dates.Dates.{message_in, messages}
+use Rattle.st_laws_refine.proofs.Server.Delivery.{all_parts}
+use Rattle.st_laws_extents.specs.CutRequests.Cut.{CutIn, Unmoved}
+use Rattle.st_laws_extents.proofs.CutRequests.Cutting.{step_cuts, tick_cuts}
+
+-- what is observed of cuts
+abbrev Known : (FileId → PageNo → Type 0) → List Observation → Type 0
+Known P os = (index : ℕ) (f : FileId) (p : PageNo) → Has (seen.CutAt index f p) os → P f p
+
+none : (P : FileId → PageNo → Type 0) → Known P []
+none P index f p h = absurd h
+
+one_more : (P : FileId → PageNo → Type 0) (os : List Observation) (o : Observation) → ((index : ℕ) (f : FileId) (p : PageNo) → seen.CutAt index f p ≡ o → P f p) → Known P os → Known P (os ++ o ∷ [])
+one_more P os o k h index f p i = go (has_append os (o ∷ []) (seen.CutAt index f p) i)
+  where
+    go : Has (seen.CutAt index f p) os ⊎ Has (seen.CutAt index f p) (o ∷ []) → P f p
+    go (inl j) = h index f p j
+    go (inr (inl e)) = k index f p e
+    go (inr (inr j)) = absurd j
+
+module _ (P : FileId → PageNo → Type 0) where
+  abbrev pub K : WorldTurn → Type 0
+  K sc = Known P sc.seen
+
+  -- Nothing that a client does is a cut.
+  client_one : (c : ClientId) (before : ClientState) (o : Output) (sc : WorldTurn) → K sc → K (ev.client_says sc c before o)
+  unfolding ev.client_says ev.sends ev.submits ev.answers_with ev.client_notes ev.accepts ev.patches ev.loses
+  client_one c before (outputs.Send m) sc h = one_more P sc.seen _ (λ i f p e. cc e) h
+  client_one c before (outputs.Answer op a) sc h = one_more P sc.seen _ (λ i f p e. cc e) h
+  client_one c before (outputs.Submit number at what) sc h = go (site_of sc.world c)
+    where
+      go : (o : Option ClientSite) → K (ev.submits sc c o number at what)
+      go None = h
+      go (Some site) = one_more P sc.seen _ (λ i f p e. cc e) h
+  client_one c before (outputs.Note n) sc h = note n
+    where
+      note : (n : Note) → K (ev.client_notes sc c before n)
+      note (notes.Leased s end) = one_more P sc.seen _ (λ i f p e. cc e) h
+      note (notes.Lost s life) = one_more P sc.seen _ (λ i f p e. cc e) h
+      note (notes.Accepted f p bytes) = one_more P sc.seen _ (λ i f p e. cc e) h
+      note (notes.Patched f p at bytes) = one_more P sc.seen _ (λ i f p e. cc e) h
+      note n = h
+
+  client_all : (c : ClientId) (before : ClientState) (os : List Output) (sc : WorldTurn) → K sc → K (ev.client_says_all c before os sc)
+  unfolding ev.client_says_all
+  client_all c before [] sc h = h
+  client_all c before (o ∷ os) sc h = client_all c before os (ev.client_says sc c before o) (client_one c before o sc h)
+
+  -- marks of the log
+  marks : (n : ℕ) (es fs : List LogEntry) → Known P (ev.fates_from n es fs)
+  unfolding ev.fates_from
+  marks n [] fs = none P
+  marks n (e ∷ es) [] = none P
+  marks n (e ∷ es) (f ∷ fs) = go e.fate f.fate (marks (n + 1) es fs)
+    where
+      cons : (o : Observation) → ((index : ℕ) (f : FileId) (p : PageNo) → seen.CutAt index f p ≡ o → P f p) → Known P (ev.fates_from (n + 1) es fs) → Known P (o ∷ ev.fates_from (n + 1) es fs)
+      cons o k r index f p (inl e) = k index f p e
+      cons o k r index f p (inr i) = r index f p i
+
+      go : (x y : Fate) → Known P (ev.fates_from (n + 1) es fs) → Known P (ev.fate_seen n x y ++ ev.fates_from (n + 1) es fs)
+      go fates.Pending fates.Hard r = cons _ (λ i f p e. cc e) r
+      go fates.Pending (fates.Gone cause) r = cons _ (λ i f p e. cc e) r
+      go fates.Pending fates.Pending r = r
+      go fates.Hard y r = r
+      go (fates.Gone cause) y r = r
+
+  quiet : (v : World) → K (ev.quiet v)
+  quiet v = none P
+
+  client_takes : (w : World) (c : ClientId) (input : ClientInput) (site : ClientSite) → K (ev.client_takes w c input site)
+  unfolding ev.client_takes ev.client_took
+  client_takes w c input site = go (cl.node_step site.node (clock_of w (nodes.Client c)) input)
+    where
+      go : (r : Result cl.NodeTurn StepRefusal) → K (ev.client_took w c site r)
+      go (Err r) = quiet w
+      go (Ok t) = client_all c site.node.state t.out (ev.quiet (ev.with_site c (ev.at_node t.node site) w)) (none P)
+
+  at_client : (w : World) (c : ClientId) (input : ClientInput) (o : Option ClientSite) → K (ev.at_client w c input o)
+  unfolding ev.at_client
+  at_client w c input None = quiet w
+  at_client w c input (Some site) = client_takes w c input site
+
+  -- A server's step.
+  server_one : (s : ServerId) (o : Output) (sc : WorldTurn) → ((f : FileId) (p : PageNo) → outputs.Note (notes.CutDone f p) ≡ o → P f p) → K sc → K (ev.server_says sc s o)
+  unfolding ev.server_says ev.server_notes ev.cuts ev.sends
+  server_one s (outputs.Send m) sc c h = one_more P sc.seen _ (λ i f p e. cc e) h
+  server_one s (outputs.Note x) sc c h = note x c
+    where
+      note : (x : Note) → ((f : FileId) (p : PageNo) → outputs.Note (notes.CutDone f p) ≡ outputs.Note x → P f p) → K (ev.server_notes sc s x)
+      note (notes.Suspected d start) c = one_more P sc.seen _ (λ i f p e. cc e) h
+      note (notes.Stolen d life) c = one_more P sc.seen _ (λ i f p e. cc e) h
+      note (notes.CutDone g q) c = one_more P sc.seen _ (λ i f p e. c f p (same i (length sc.world.log + 1) f g p q e)) h
+        where
+          same : (i j : ℕ) (f g : FileId) (p q : PageNo) → seen.CutAt i f p ≡ seen.CutAt j g q → ◌≡◌ {A = Output} (outputs.Note (notes.CutDone f p)) (outputs.Note (notes.CutDone g q))
+          same i j f g p q e = cc
+      note x c = h
+  server_one s o sc c h = h
+
+  server_all : (s : ServerId) (os : List Output) (sc : WorldTurn) → ((f : FileId) (p : PageNo) → Has (outputs.Note (notes.CutDone f p)) os → P f p) → K sc → K (ev.server_says_all s os sc)
+  unfolding ev.server_says_all
+  server_all s [] sc c h = h
+  server_all s (o ∷ os) sc c h = server_all s os (ev.server_says sc s o) (λ f p i. c f p (inr i)) (server_one s o sc (λ f p e. c f p (inl e)) h)
+
+-- each cut that is observed is of a server, in a step that leaves the clients and the clocks
+abbrev CutThere : World → WorldTurn → Type 0
+CutThere w sc = Known (λ f p. CutIn w f p × Unmoved w sc.world) sc.seen
+
+-- Every event.
+module _ (w : World) where
+  at_server : (s : ServerId) (input : ServerInput) (o : Option ServerNode) → node_of w s ≡ o →
+      ((n : ServerNode) → o ≡ Some n → n.running ≡ true → (f : FileId) (p : PageNo) → Has (outputs.Note (notes.CutDone f p)) (server_step n.state (clock_of w (nodes.Server s)) input).out → CutIn w f p) → CutThere w (ev.at_server w s input o)
+  unfolding ev.at_server ev.server_takes ev.server_took server.node_step
+  at_server s input None e k = quiet _ w
+  at_server s input (Some node) e k = go node.running refl
+    where
+      t : server.Turn
+      t = server.server_step node.state (clock_of w (nodes.Server s)) input
+
+      go : (x : Bool) → node.running ≡ x → CutThere w (ev.server_took w s (if x then Ok (server.node_turn node t) else Err Crashed))
+      go false r = quiet _ w
+      go true r = server_all (λ f p. CutIn w f p × Unmoved w (ev.server_says_all s t.out (ev.quiet (ev.with_node s (server.node_turn node t).node w))).world) s t.out (ev.quiet (ev.with_node s (server.node_turn node t).node w))
+          (λ f p h. (k node refl r f p h, let y = all_parts s t.out (ev.quiet (ev.with_node s (server.node_turn node t).node w)) in record { clients = y.clients; clocks = y.clocks })) (none _)
+
+  module _ (ids : (s : ServerId) (n : ServerNode) → node_of w s ≡ Some n → n.state.id ≡ s) where
+    by_message : (s : ServerId) (m : Message) → Has m (messages w) → (n : ServerNode) → node_of w s ≡ Some n → n.running ≡ true → (f : FileId) (p : PageNo) →
+        Has (outputs.Note (notes.CutDone f p)) (server_step n.state (clock_of w (nodes.Server s)) (serving.Control m)).out → CutIn w f p
+    by_message s m among n at run f p h =
+        let c = step_cuts n.state (clock_of w (nodes.Server s)) m f p h in
+        record { node = n; there = ap (node_of w) (c.server ∙ ids s n at) ∙ at; running = run; message = m; among = among; by = c }
+
+    happens : (e : Event) → CutThere w (ev.happens w e)
+    unfolding ev.happens ev.ticks ev.asks_at ev.delivers ev.delivers_to ev.loses_message ev.advances ev.marks ev.effects ev.reports_of ev.tells ev.tells_client ev.tells_site ev.crashes ev.crashes_client ev.crashes_server ev.starts ev.starts_client ev.starts_server
+    happens (events.Tick (nodes.Client c)) = at_client _ w c _ (site_of w c)
+    happens (events.Tick (nodes.Server s)) = at_server s serving.Tick (node_of w s) refl (λ n e run f p h. absurd (tick_cuts n.state (clock_of w (nodes.Server s)) f p h))
+    happens (events.App c ask) = go (site_of w c)
+      where
+        go : (x : Option ClientSite) → CutThere w (ev.asks_at w c ask x)
+        go None = quiet _ w
+        go (Some site) = client_takes _ w c _ (ev.asked_once_more site)
+    happens (events.Deliver k) = go (world.message_of w k) refl
+      where
+        to : (m : Message) → Has m (messages w) → (n : NodeId) → CutThere w (ev.delivers_to w m n)
+        to m h (nodes.Client c) = at_client _ w c _ (site_of w c)
+        to m h (nodes.Server s) = at_server s (serving.Control m) (node_of w s) refl (λ n e. by_message s m h n e)
+
+        go : (m : Option SentMessage) → world.message_of w k ≡ m → CutThere w (ev.delivers w m)
+        go None q = quiet _ w
+        go (Some m) q = to m.message (has_map_in message_in w.net.messages m (numbered_has w.net.messages k m q)) (world.receiver_of m)
+    happens (events.Lose k) = quiet _ (ev.loses_message w k (world.message_of w k))
+    happens (events.Cut from to) = quiet _ (ev.with_cut from to w)
+    happens (events.Heal from to) = quiet _ (ev.without_cut from to w)
+    happens (events.Advance steps) = marks _ 1 w.log _
+    happens (events.Effect k) = marks _ 1 w.log _
+    happens (events.Report k ok) = go (issued_of w k)
+      where
+        v : World
+        v = ev.with_disks (ev.disks_after w.disks (disks.done w.disks k ok)) w
+
+        same : (x : IssuedCommand) (site : ClientSite) (b : Bool) → CutThere w (if b then ev.client_takes v x.client (ev.end_told v k ok x) site else ev.quiet v)
+        same x site true = client_takes _ v x.client (ev.end_told v k ok x) site
+        same x site false = quiet _ v
+
+        told : (x : IssuedCommand) (s : Option ClientSite) → CutThere w (ev.tells_client v k ok x s)
+        told x None = quiet _ v
+        told x (Some site) = same x site (ev.is_same_instance x site)
+
+        go : (x : Option IssuedCommand) → CutThere w (ev.tells v k ok x)
+        go None = quiet _ v
+        go (Some x) = told x (site_of v x.client)
+    happens (events.Crash (nodes.Client c)) = go (site_of w c)
+      where
+        go : (x : Option ClientSite) → CutThere w (ev.crashes_client w c x)
+        go None = quiet _ w
+        go (Some site) = marks _ 1 w.log (ev.log_crashed w c)
+    happens (events.Crash (nodes.Server s)) = quiet _ (ev.crashes_server w s (node_of w s))
+    happens (events.Start (nodes.Client c)) = quiet _ (ev.starts_client w c (site_of w c))
+    happens (events.Start (nodes.Server s)) = quiet _ (ev.starts_server w s (node_of w s))
+
+-- Each cut that a step logs is of a server because of a message.
+pub cuts_known : (w : World) (e : Event) (sc : WorldTurn) → ((s : ServerId) (n : ServerNode) → node_of w s ≡ Some n → n.state.id ≡ s) → world_step w e ≡ Ok sc → (index : ℕ) (f : FileId) (p : PageNo) → Has (seen.CutAt index f p) sc.seen → CutIn (ev.counted w) f p × Unmoved (ev.counted w) sc.world
+cuts_known w e sc ids h index f p i = let z = step_happens w e sc h in subst (λ (x : WorldTurn). CutThere (ev.counted w) x) (sym z.1) (happens (ev.counted w) ids e) index f p i

@@ -1,0 +1,402 @@
+-- Every event keeps what stands of the requests of all sessions.
+use Rattle.std.proofs.Common.{◌≡◌, ◌≢◌, ℕ, ◌+◌, ◌≤◌, ◌⊎◌, Bool, true, false, List, [], Option, Some, None, Ok, Err, refl, sym, ap, ◌∙◌, subst, inl, inr, arith, if◌then◌else◌}
+use Rattle.std.specs.Prelude.{map}
+use Rattle.st_base.specs.declared.ids.ClientId.{ClientId}
+use Rattle.st_base.specs.declared.ids.ServerId.{ServerId}
+use Rattle.st_base.specs.declared.ids.Stamp.{Stamp}
+use Rattle.st_base.specs.declared.ids.NodeId.{NodeId}
+use Rattle.st_base.specs.declared.ids.NodeId.TheVariants as nodes
+use Rattle.st_messages.specs.declared.ask.Ask.{Ask}
+use Rattle.st_messages.specs.declared.message.Message.{Message}
+use Rattle.st_messages.specs.declared.event.Event.{Event}
+use Rattle.st_messages.specs.declared.event.Event.TheVariants as events
+use Rattle.st_rules.specs.declared.client.ClientInput.{ClientInput}
+use Rattle.st_rules.specs.declared.client.ClientInput.TheVariants as inputs
+use Rattle.st_rules.specs.declared.input.ServerInput.{ServerInput}
+use Rattle.st_rules.specs.declared.input.ServerInput.TheVariants as serving
+use Rattle.st_rules.specs.declared.node.StepRefusal.TheVariants.{Crashed}
+use Rattle.st_rules.specs.declared.world.IssuedCommand.{IssuedCommand}
+use Rattle.st_rules.specs.declared.world.SentMessage.{SentMessage}
+use Rattle.st_rules.specs.Keys.{client, server_node}
+use Rattle.st_rules.specs.Client as cl
+use Rattle.st_rules.specs.ClientState.{ClientTurn}
+use Rattle.st_rules.specs.Events as ev
+use Rattle.st_rules.specs.Events.{WorldTurn, world_step, client_says_all, server_says_all}
+use Rattle.st_rules.specs.History.{Traced}
+use Rattle.st_rules.specs.Sessions as sessions
+use Rattle.st_rules.specs.Server as server
+use Rattle.st_rules.specs.Server.{ServerNode}
+use Rattle.st_rules.specs.World as world
+use Rattle.st_rules.specs.World.{World, ClientSite, site_of, node_of, numbered, with_numbered, clock_of}
+use Rattle.st_rules.specs.Safety.{Step, steps}
+use Rattle.st_lemmas.specs.Lists.{Has}
+use Rattle.st_lemmas.proofs.Lookups.{some_is}
+use Rattle.st_lemmas.proofs.Numbers.{numbered_below, numbered_has, numbered_other, numbered_own}
+use Rattle.st_lemmas.proofs.Tables.{has_map, has_map_in, same_or_not}
+use Rattle.st_laws_leases.specs.Dates.Dates.{message_in, messages}
+use Rattle.st_laws_leases.proofs.Dates.Said.{Alike, Said, client_said, flushed, server_said}
+use Rattle.st_lemmas.proofs.Steps.{step_happens}
+use Rattle.st_laws_requests.specs.Replies.Reached.{AtMessage, AtReceiver, AtServer, Ends, InputNew, IsBehind, NewOwed, Refusal, Says}
+use Rattle.st_laws_requests.proofs.Replies.Replies.{RepliesHold}
+use Rattle.st_laws_requests.specs.Cuts.Cuts.{CutsHold, Numbers, Numbered, SameBody, view}
+use Rattle.st_laws_extents.specs.CutRequests.Asks.{AsksBehind, AsksStand, Of, Tells}
+use Rattle.st_laws_extents.specs.CutRequests.World.{AllAsk, AllAsked, Gifts, IsServed, ServedTo}
+use Rattle.st_laws_extents.proofs.CutRequests.Requesting.{stays_at}
+use Rattle.st_laws_extents.proofs.CutRequests.Step.{TellsEach, step_stands}
+use Rattle.st_rules.specs.ClientState.{Association, ClientSession, ClientState, is_refusal, is_request_of, fits, reasserts}
+use Rattle.st_rules.specs.ClientReplies.{refuses_reassertion}
+use Rattle.st_messages.specs.declared.message.Body.TheVariants as bodies
+use Rattle.st_rules.specs.declared.client.Request.{Request}
+use Rattle.std.proofs.lemmas.Bool.{eqb-true}
+use Rattle.st_lemmas.proofs.Tables.{and_both, and_true}
+use Rattle.st_base.specs.declared.ids.GrantNo.{GrantNo}
+use Rattle.st_laws_requests.proofs.Replies.Served.{Served, served}
+
+set_cases : {A : Type 0} (xs : List A) (n m : ℕ) (y z x : A) → numbered xs n ≡ Some y → numbered (with_numbered n z xs) m ≡ Some x → ((m ≡ n) × (x ≡ z)) ⊎ ((m ≢ n) × (numbered xs m ≡ Some x))
+set_cases {A} xs n m y z x at h = go (same_or_not m n)
+  where
+    go : (m ≡ n) ⊎ (m ≢ n) → ((m ≡ n) × (x ≡ z)) ⊎ ((m ≢ n) × (numbered xs m ≡ Some x))
+    go (inl q) = inl (q, some_is (sym h ∙ ap (numbered (with_numbered n z xs)) q ∙ numbered_own xs n z y at))
+    go (inr q) = inr (q, sym (numbered_other xs n m z (numbered_below xs n y at).0 q) ∙ h)
+
+clash : {A : Type 0} {b : Bool} → b ≡ true → b ≡ false → A
+clash x y = cc
+
+-- what was served is served in another way, too
+behind_more : (B C : ServerId → ℕ → ℕ → ℕ → Type 0) (G : ServerId → ℕ → GrantNo → Type 0) → ((server : ServerId) (life epoch n : ℕ) → B server life epoch n → C server life epoch n) →
+    (server : ServerId) (life : ℕ) (o : Option ClientSession) → AsksBehind B G server life o → AsksBehind C G server life o
+behind_more B C G f server life None h = tt
+behind_more B C G f server life (Some s) h = record { last = h.last; first = h.first; served = f server life s.epoch.0 _ h.served; cut = h.cut; remove = h.remove }
+
+module _ (past : List Step) (t : Traced) (d : CutsHold past t) (r : RepliesHold past t) (G : Gifts) (asks : AllAsk G t.world) where
+  w : World
+  w = ev.counted t.world
+
+  more : (C : ServerId → ℕ → ℕ → ℕ → Type 0) (c : ClientId) (site : ClientSite) → site_of t.world c ≡ Some site → ((server : ServerId) (life epoch n : ℕ) → IsServed t.world c server life epoch n → C server life epoch n) →
+      (a : Association) → Has a site.node.state.associations → AsksBehind C (G c) a.server a.life.0 a.session
+  more C c site at f a i = behind_more (IsServed t.world c) C (G c) f a.server a.life.0 a.session (stays_at (IsServed t.world c) (G c) a.server a.life.0 a.session (asks c site at a i))
+
+  -- Clients that are as they were.
+  carried : (v : World) → v.clients ≡ t.world.clients → ((c : ClientId) (server : ServerId) (life epoch n : ℕ) → IsServed t.world c server life epoch n → IsServed v c server life epoch n) → AllAsked G v
+  carried v e f c site at a i = more (IsServed v c) c site (ap (λ xs. numbered xs c.0) (sym e) ∙ at) (f c) a i
+
+  served_same : (v : World) → v.servers ≡ t.world.servers → (c : ClientId) (server : ServerId) (life epoch n : ℕ) → IsServed t.world c server life epoch n → IsServed v c server life epoch n
+  served_same v e c server life epoch n h node q = h node (ap (λ xs. numbered xs server.0) (sym e) ∙ q)
+
+  still : (v : World) → v.clients ≡ t.world.clients → v.servers ≡ t.world.servers → AllAsked G v
+  still v cs ss = carried v cs (served_same v ss)
+
+  -- A server at its place is another one.
+  placed : (s : ServerId) (old new : ServerNode) (v : World) → node_of t.world s ≡ Some old → v.clients ≡ t.world.clients → v.servers ≡ with_numbered s.0 new t.world.servers →
+      ((c : ClientId) (life epoch n : ℕ) → ServedTo c old life epoch n → ServedTo c new life epoch n) → AllAsked G v
+  placed s old new v at cs ss k = carried v cs (λ c server life epoch n h node q number pos is. it c server life epoch n h node number pos is (set_cases t.world.servers s.0 server.0 old new node at (ap (λ xs. numbered xs server.0) (sym ss) ∙ q)))
+    where
+      it : (c : ClientId) (server : ServerId) (life epoch n : ℕ) → IsServed t.world c server life epoch n → (node : ServerNode) (number : ℕ) → 1 ≤ number → number + 1 ≡ n →
+          ((server.0 ≡ s.0) × (node ≡ new)) ⊎ ((server.0 ≢ s.0) × (node_of t.world server ≡ Some node)) → ServedTo c node life epoch number
+      it c server life epoch n h node number pos is (inl z) =
+          subst (λ y. ServedTo c y life epoch number) (sym z.1) (k c life epoch number (h old (ap (λ y. numbered t.world.servers y) z.0 ∙ at) number pos is))
+      it c server life epoch n h node number pos is (inr z) = h node z.1 number pos is
+
+  -- A message that comes to a client tells how far its requests were served.
+  module _ (c : ClientId) (old : ClientSite) (there : site_of t.world c ≡ Some old) (runs : old.node.running ≡ true) (m : Message) (among : Has m (messages t.world)) (to : m.header.to ≡ c.0) where
+    no_refusal : (a : Association) (x : ClientSession) (q : Request) → Numbers (λ m. Has m (messages t.world)) c a.server a.life.0 (view (Some x)) → AsksStand (IsServed t.world c) (G c) a.server a.life.0 x.epoch.0 x.requests x.cutting x.due →
+        x.requests.asked ≡ Some q → m.header.life ≡ a.life.0 → m.header.epoch ≡ x.epoch.0 → m.header.number ≡ q.number → 1 ≤ m.header.number → refuses_reassertion m.body q.body ≡ false → Refusal (messages t.world) a.server m → ⊥
+    no_refusal a x q numbers stands asked life epoch number pos fine z = go z.beyond
+      where
+        n : Numbered x.epoch.0 x.requests z.by
+        n = numbers.placed z.by z.among (z.from ∙ to, z.there) (z.of_life ∙ life) (let y = z.under in omega (arith, y, pos))
+
+        body : bodies.Reassert z.rows ≡ q.body
+        body = sym z.asks ∙ subst (λ o. SameBody o z.by) asked (n.same (z.of_epoch ∙ epoch)) (z.under ∙ number)
+
+        reassert : reasserts q.body ≡ true
+        reassert = ap reasserts (sym body)
+
+        first : q.number ≡ 1
+        first = stands.first.first q asked reassert
+
+        go : (2 ≤ m.header.number) ⊎ (is_refusal m.body ≡ true) → ⊥
+        go (inl y) = omega (arith, y, first, number)
+        go (inr y) = clash (and_both (is_refusal m.body) (reasserts q.body) y reassert) fine
+
+    tells : (a : Association) → Has a old.node.state.associations → (o : Option ClientSession) → a.session ≡ o → Of (Tells (IsServed t.world c) m.header m.body) a.server a.life.0 o
+    tells a i None e = tt
+    tells a i (Some x) e = λ q asked from life epoch ends counts fine node at k pos is. served q asked from life epoch ends counts fine node at k pos is
+      where
+        numbers : Numbers (λ m. Has m (messages t.world)) c a.server a.life.0 (view (Some x))
+        numbers = subst (λ o. Numbers (λ m. Has m (messages t.world)) c a.server a.life.0 (view o)) e ((d.clients c old there).all runs a i).numbers
+
+        stands : AsksStand (IsServed t.world c) (G c) a.server a.life.0 x.epoch.0 x.requests x.cutting x.due
+        stands = subst (Of (AsksStand (IsServed t.world c) (G c)) a.server a.life.0) e (asks c old there a i)
+
+        served : (q : Request) → x.requests.asked ≡ Some q → m.header.from ≡ server_node a.server → m.header.life ≡ a.life.0 → m.header.epoch ≡ x.epoch.0 → Ends m.body →
+            Rattle.st_rules.specs.ClientReplies.is_counting m.header.number m.body q ≡ true → refuses_reassertion m.body q.body ≡ false →
+            (node : ServerNode) → node_of t.world a.server ≡ Some node → (k : ℕ) → 1 ≤ k → k + 1 ≡ q.number + 1 → ServedTo c node a.life.0 x.epoch.0 k
+        served q asked from life epoch ends counts fine node at k pos is =
+            record {
+              up_to = let y = says.up_to in omega (arith, y, epoch);
+              behind = λ run e2. go (says.behind run (epoch ∙ e2) ends more_than);
+            }
+          where
+            number : m.header.number ≡ q.number
+            number = sym (eqb-true q.number m.header.number (and_true (is_request_of m.header.number q) (fits m.body q.body) counts).0)
+
+            more_than : 1 ≤ m.header.number
+            more_than = omega (arith, number, pos, is)
+
+            says : Says (messages t.world) a.server node m
+            says = r.replies a.server node at m among from
+
+            same : m.header.number ≡ k
+            same = omega (arith, number, is)
+
+            go : IsBehind (sessions.session_of node.state.sessions (client m.header.to)) m.header.life m.header.number ⊎ Refusal (messages t.world) a.server m → IsBehind (sessions.session_of node.state.sessions c) a.life.0 k
+            go (inl h) = subst (IsBehind (sessions.session_of node.state.sessions c) a.life.0) same (subst (λ l. IsBehind (sessions.session_of node.state.sessions c) l m.header.number) life (subst (λ y. IsBehind (sessions.session_of node.state.sessions (client y)) m.header.life m.header.number) to h))
+            go (inr z) = absurd (no_refusal a x q numbers stands asked life epoch number more_than fine z)
+
+  -- A step of a client.
+  Comes : ClientInput → Type 0
+  Comes (inputs.Control m) = Has m (messages t.world)
+  Comes i = Unit {0}
+
+  start : (v : World) (c : ClientId) (server : ServerId) (life epoch : ℕ) → IsServed v c server life epoch 1
+  start v c server life epoch n at k pos e = absurd (omega (arith, pos, e))
+
+  client_step : (v : World) → v.clients ≡ t.world.clients → v.servers ≡ t.world.servers → (c : ClientId) (i : ClientInput) (site old : ClientSite) → site.node ≡ old.node → site_of t.world c ≡ Some old → Comes i →
+      AllAsked G (ev.client_takes v c i site).world
+  unfolding ev.client_takes ev.client_took cl.node_step Comes
+  client_step v ps ss c i site old same at k = go site.node.running refl
+    where
+      now : Stamp
+      now = clock_of v (nodes.Client c)
+
+      u : ClientTurn
+      u = cl.client_step site.node.state now i
+
+      node : cl.ClientNode
+      node = record site.node { state = u.state }
+
+      after : ClientSite
+      after = ev.at_node node site
+
+      a : WorldTurn
+      a = ev.quiet (ev.with_site c after v)
+
+      b : WorldTurn
+      b = ev.client_says_all c site.node.state u.out a
+
+      said : Said a b u.out
+      said = client_said c site.node.state u.out a
+
+      last : World
+      last = ev.flushes c node.state (world.all_servers b.world) b.world
+
+      f : Alike b.world last
+      f = flushed c node.state (world.all_servers b.world) b.world
+
+      serving_same : last.servers ≡ t.world.servers
+      serving_same = f.servers ∙ said.servers ∙ ss
+
+      here : ClientState
+      here = site.node.state
+
+      tells_each : site.node.running ≡ true → (i : ClientInput) → Comes i → TellsEach (IsServed t.world c) (G c) (start t.world c) here i
+      tells_each run (inputs.Control m) k = λ e x j. tells c old at (ap (λ (n : cl.ClientNode). n.running) (sym same) ∙ run) m k (e ∙ id) x (subst (λ (n : cl.ClientNode). Has x n.state.associations) same j) x.session refl
+        where
+          id : here.id.0 ≡ c.0
+          id = ap (λ (n : cl.ClientNode). n.state.id.0) same ∙ ap (λ (y : ClientId). y.0) (r.dated.clients c old at).id
+      tells_each run inputs.Tick k = tt
+      tells_each run (inputs.App op ask) k = tt
+      tells_each run (inputs.Done number result) k = tt
+
+      own : site.node.running ≡ true → (x : Association) → Has x u.state.associations → AsksBehind (IsServed t.world c) (G c) x.server x.life.0 x.session
+      own run = step_stands (IsServed t.world c) (G c) (start t.world c) here now i (tells_each run i k)
+          (λ x j. asks c old at x (subst (λ (n : cl.ClientNode). Has x n.state.associations) same j))
+
+      taken : site.node.running ≡ true → AllAsked G last
+      taken run e x q y j = it (set_cases v.clients c.0 e.0 old after x (ap (λ xs. numbered xs c.0) ps ∙ at) (ap (λ xs. numbered xs e.0) (sym (f.clients ∙ said.clients)) ∙ q))
+        where
+          it : ((e.0 ≡ c.0) × (x ≡ after)) ⊎ ((e.0 ≢ c.0) × (site_of v e ≡ Some x)) → AsksBehind (IsServed last e) (G e) y.server y.life.0 y.session
+          it (inl z) =
+              subst (λ z. AsksBehind (IsServed last z) (G z) y.server y.life.0 y.session) (ap (λ (n : ℕ). client n) (sym z.0))
+              (behind_more (IsServed t.world c) (IsServed last c) (G c) (served_same last serving_same c) y.server y.life.0 y.session (own run y (subst (λ (s : ClientSite). Has y s.node.state.associations) z.1 j)))
+          it (inr z) = more (IsServed last e) e x (ap (λ xs. numbered xs e.0) (sym ps) ∙ z.1) (served_same last serving_same e) y j
+
+      go : (b : Bool) → site.node.running ≡ b → AllAsked G (ev.client_took v c site (if b then Ok (cl.node_turn site.node u) else Err Crashed)).world
+      go true run = taken run
+      go false run = still v ps ss
+
+  -- A step of a server.
+  server_step : (s : ServerId) (i : ServerInput) (node : ServerNode) → node_of t.world s ≡ Some node →
+      InputNew (server.thefts (server.turn node.state []) (clock_of w (nodes.Server s))) (clock_of w (nodes.Server s)) i → AllAsked G (ev.server_takes w s i node).world
+  unfolding ev.server_takes ev.server_took server.node_step w
+  server_step s i node at owed = go node.running
+    where
+      now : Stamp
+      now = clock_of w (nodes.Server s)
+
+      u : server.Turn
+      u = server.server_step node.state now i
+
+      next : ServerNode
+      next = record node { state = u.state }
+
+      a : WorldTurn
+      a = ev.quiet (ev.with_node s next w)
+
+      sc : WorldTurn
+      sc = ev.server_says_all s u.out a
+
+      said : Said a sc u.out
+      said = server_said s u.out a
+
+      k : Served s node.state.stable.epoch i node.state.sessions u
+      k = served s node.state.stable.epoch i node.state.sessions node.state now owed (record { id = (r.dated.servers s node at).id; epoch = refl; goes = λ c life n h. h; sent = λ y h. absurd h })
+
+      same : u.state.stable.epoch.0 ≡ node.state.stable.epoch.0
+      same = ap (λ (y : Rattle.st_base.specs.declared.ids.Epoch.Epoch). y.0) k.epoch
+
+      go : (b : Bool) → AllAsked G (ev.server_took w s (if b then Ok (server.node_turn node u) else Err Crashed)).world
+      go true = placed s node next sc.world at said.clients said.servers (λ c life epoch n z. record { up_to = let y = z.up_to in omega (arith, y, same); behind = λ run e. k.goes c life n (z.behind run (e ∙ same)) })
+      go false = still w refl refl
+
+  -- Every event.
+  at_client : (c : ClientId) (i : ClientInput) → Comes i → AllAsked G (ev.at_client w c i (site_of w c)).world
+  unfolding ev.at_client w
+  at_client c i k = go (site_of w c) refl
+    where
+      go : (o : Option ClientSite) → site_of w c ≡ o → AllAsked G (ev.at_client w c i o).world
+      go None q = still w refl refl
+      go (Some site) q = client_step w refl refl c i site site refl q k
+
+  at_server : (s : ServerId) (i : ServerInput) → ((node : ServerNode) → node_of w s ≡ Some node → InputNew (server.thefts (server.turn node.state []) (clock_of w (nodes.Server s))) (clock_of w (nodes.Server s)) i) → AllAsked G (ev.at_server w s i (node_of w s)).world
+  unfolding ev.at_server w
+  at_server s i owed = go (node_of w s) refl
+    where
+      go : (o : Option ServerNode) → node_of w s ≡ o → AllAsked G (ev.at_server w s i o).world
+      go None q = still w refl refl
+      go (Some node) q = server_step s i node q (owed node q)
+
+  asks_happen : (c : ClientId) (ask : Ask) → AllAsked G (ev.asks_at w c ask (site_of w c)).world
+  unfolding ev.asks_at w Comes
+  asks_happen c ask = go (site_of w c) refl
+    where
+      go : (o : Option ClientSite) → site_of w c ≡ o → AllAsked G (ev.asks_at w c ask o).world
+      go None q = still w refl refl
+      go (Some site) q = client_step w refl refl c (inputs.App (site.asks + 1) ask) (ev.asked_once_more site) site refl q tt
+
+  delivers : (k : ℕ) → AtMessage w (world.message_of w k) → AllAsked G (ev.delivers w (world.message_of w k)).world
+  unfolding ev.delivers ev.delivers_to w Comes
+  delivers k = go (world.message_of w k) refl
+    where
+      to : (m : Message) (n : NodeId) → Has m (messages t.world) → AtReceiver w m n → AllAsked G (ev.delivers_to w m n).world
+      to m (nodes.Client c) h f = at_client c (inputs.Control m) h
+      to m (nodes.Server s) h f = at_server s (serving.Control m) (λ node q. subst (AtServer w m s) q f)
+
+      go : (o : Option SentMessage) → world.message_of w k ≡ o → AtMessage w o → AllAsked G (ev.delivers w o).world
+      go None q f = still w refl refl
+      go (Some m) q f = to m.message (world.receiver_of m) (has_map_in message_in t.world.net.messages m (numbered_has t.world.net.messages k m q)) f
+
+  loses : (k : ℕ) → AllAsked G (ev.loses_message w k (world.message_of w k))
+  unfolding ev.loses_message w
+  loses k = go (world.message_of w k)
+    where
+      go : (o : Option SentMessage) → AllAsked G (ev.loses_message w k o)
+      go None = still w refl refl
+      go (Some m) = still (ev.with_lost k m w) refl refl
+
+  reports : (k : ℕ) (ok : Bool) → AllAsked G (ev.reports_of w k ok).world
+  unfolding ev.reports_of ev.tells ev.tells_client ev.tells_site w Comes
+  reports k ok = go (world.issued_of w k)
+    where
+      v : World
+      v = ev.with_disks (ev.disks_after w.disks (Rattle.st_rules.specs.Disks.done w.disks k ok)) w
+
+      none : AllAsked G v
+      none = still v refl refl
+
+      comes : (x : IssuedCommand) → Comes (ev.end_told v k ok x)
+      comes x = tt
+
+      same : (x : IssuedCommand) (site : ClientSite) → site_of w x.client ≡ Some site → (b : Bool) → AllAsked G (if b then ev.client_takes v x.client (ev.end_told v k ok x) site else ev.quiet v).world
+      same x site q true = client_step v refl refl x.client (ev.end_told v k ok x) site site refl q (comes x)
+      same x site q false = none
+
+      at : (x : IssuedCommand) (o : Option ClientSite) → site_of w x.client ≡ o → AllAsked G (ev.tells_client v k ok x o).world
+      at x None q = none
+      at x (Some site) q = same x site q (ev.is_same_instance x site)
+
+      go : (o : Option IssuedCommand) → AllAsked G (ev.tells v k ok o).world
+      go None = none
+      go (Some x) = at x (site_of w x.client) refl
+
+  -- a client without sessions
+  emptied : (v : World) (c : ClientId) (old new : ClientSite) → site_of t.world c ≡ Some old → v.clients ≡ with_numbered c.0 new t.world.clients → v.servers ≡ t.world.servers →
+      ((a : Association) → Has a new.node.state.associations → a.session ≡ None) → AllAsked G v
+  emptied v c old new there cs ss n e x q a i = go (set_cases t.world.clients c.0 e.0 old new x there (ap (λ xs. numbered xs e.0) (sym cs) ∙ q))
+    where
+      go : ((e.0 ≡ c.0) × (x ≡ new)) ⊎ ((e.0 ≢ c.0) × (site_of t.world e ≡ Some x)) → AsksBehind (IsServed v e) (G e) a.server a.life.0 a.session
+      go (inl z) = subst (AsksBehind (IsServed v e) (G e) a.server a.life.0) (sym (n a (subst (λ (s : ClientSite). Has a s.node.state.associations) z.1 i))) tt
+      go (inr z) = more (IsServed v e) e x z.1 (served_same v ss e) a i
+
+  none_of : (f : Association → Association) → ((x : Association) → (f x).session ≡ None) → (xs : List Association) → (a : Association) → Has a (map f xs) → a.session ≡ None
+  none_of f n xs a i = let z = has_map f xs a i in ap (λ (y : Association). y.session) z.2 ∙ n z.0
+
+  crashes_client : (c : ClientId) → AllAsked G (ev.crashes_client w c (site_of w c)).world
+  unfolding ev.crashes_client ev.marks w cl.crash
+  crashes_client c = go (site_of w c) refl
+    where
+      go : (o : Option ClientSite) → site_of w c ≡ o → AllAsked G (ev.crashes_client w c o).world
+      go None q = still w refl refl
+      go (Some site) q = emptied (ev.crashes_client w c (Some site)).world c site (ev.stopped_site site) q refl refl (none_of cl.crashed_association (λ a. refl) site.node.state.associations)
+
+  starts_client : (c : ClientId) → AllAsked G (ev.starts_client w c (site_of w c))
+  unfolding ev.starts_client w cl.start
+  starts_client c = go (site_of w c) refl
+    where
+      go : (o : Option ClientSite) → site_of w c ≡ o → AllAsked G (ev.starts_client w c o)
+      go None q = still w refl refl
+      go (Some site) q = emptied (ev.starts_client w c (Some site)) c site (ev.started_site site) q refl refl (none_of cl.started_association (λ a. refl) site.node.state.associations)
+
+  crashes_server : (s : ServerId) → AllAsked G (ev.crashes_server w s (node_of w s))
+  unfolding ev.crashes_server server.crash w
+  crashes_server s = go (node_of w s) refl
+    where
+      off : {A : Type 0} → false ≡ true → A
+      off e = cc
+
+      go : (o : Option ServerNode) → node_of w s ≡ o → AllAsked G (ev.crashes_server w s o)
+      go None q = still w refl refl
+      go (Some node) q = placed s node (server.crash_node node) (ev.crashes_server w s (Some node)) q refl refl (λ c life epoch n z. record { up_to = z.up_to; behind = λ run. off run })
+
+  starts_server : (s : ServerId) → AllAsked G (ev.starts_server w s (node_of w s))
+  unfolding ev.starts_server server.start server.begin_epoch w
+  starts_server s = go (node_of w s) refl
+    where
+      go : (o : Option ServerNode) → node_of w s ≡ o → AllAsked G (ev.starts_server w s o)
+      go None q = still w refl refl
+      go (Some node) q =
+          placed s node (server.start_node node (clock_of w (nodes.Server s))) (ev.starts_server w s (Some node)) q refl refl
+          (λ c life epoch n z. record { up_to = let y = z.up_to in omega (arith, y); behind = λ run e. let y = z.up_to in absurd (omega (arith, y, e)) })
+
+  happens : (e : Event) → NewOwed w e → AllAsked G (ev.happens w e).world
+  unfolding ev.happens ev.ticks ev.crashes ev.starts ev.advances ev.effects ev.marks w Comes
+  happens (events.Tick (nodes.Client c)) f = at_client c inputs.Tick tt
+  happens (events.Tick (nodes.Server s)) f = at_server s serving.Tick (λ node q. tt)
+  happens (events.App c ask) f = asks_happen c ask
+  happens (events.Deliver k) f = delivers k f
+  happens (events.Lose k) f = loses k
+  happens (events.Cut from to) f = still (ev.happens w (events.Cut from to)).world refl refl
+  happens (events.Heal from to) f = still (ev.happens w (events.Heal from to)).world refl refl
+  happens (events.Advance steps) f = still (ev.happens w (events.Advance steps)).world refl refl
+  happens (events.Effect k) f = still (ev.happens w (events.Effect k)).world refl refl
+  happens (events.Report k ok) f = reports k ok
+  happens (events.Crash (nodes.Client c)) f = crashes_client c
+  happens (events.Crash (nodes.Server s)) f = crashes_server s
+  happens (events.Start (nodes.Client c)) f = starts_client c
+  happens (events.Start (nodes.Server s)) f = starts_server s
+
+  -- an event of a run
+  pub stand_again : (e : Event) (sc : WorldTurn) → NewOwed (ev.counted t.world) e → world_step t.world e ≡ Ok sc → AllAsked G sc.world
+  unfolding w
+  stand_again e sc f h = let z = step_happens t.world e sc h in subst (λ (x : WorldTurn). AllAsked G x.world) (sym z.1) (happens e f)

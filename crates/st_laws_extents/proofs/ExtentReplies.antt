@@ -1,0 +1,9 @@
+pub mod Events
+pub mod Heard
+pub mod Held
+pub mod Law
+pub mod Rule
+pub mod Serving
+pub mod Sessions
+pub mod Step
+pub mod Walk

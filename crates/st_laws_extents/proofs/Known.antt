@@ -1,0 +1,11 @@
+pub mod Current
+pub mod Hearing
+pub mod Held
+pub mod Knowing
+pub mod Law
+pub mod Locked
+pub mod Locks
+pub mod Moved
+pub mod Step
+pub mod Told
+pub mod World

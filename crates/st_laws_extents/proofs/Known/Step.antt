@@ -1,0 +1,143 @@
+-- A client's step, at all its servers: what is known, and where its writes go.
+use Rattle.std.proofs.Common.{◌⊎◌, ℕ, Bool, true, false, ◌==◌, List, [], ◌∷◌, Option, Some, None, refl, sym, subst, inl, inr, if◌then◌else◌}
+use Rattle.st_base.specs.declared.ids.Stamp.{Stamp}
+use Rattle.st_messages.specs.declared.answer.AppAnswer.{AppAnswer}
+use Rattle.st_messages.specs.declared.answer.AppAnswer.TheVariants as answers
+use Rattle.st_messages.specs.declared.output.Output.{Output}
+use Rattle.st_messages.specs.declared.output.Output.TheVariants as outputs
+use Rattle.st_rules.specs.declared.client.ClientInput.{ClientInput}
+use Rattle.st_rules.specs.declared.client.ClientInput.TheVariants as inputs
+use Rattle.st_rules.specs.Client as cl
+use Rattle.st_rules.specs.ClientPasses as cp
+use Rattle.st_rules.specs.ClientReplies as cr
+use Rattle.st_rules.specs.ClientState.{Association, ClientSession, ClientState, ClientTurn, Turn, at_each, at_these, client_turn, enter, leave, only_at, server_of, with_associations}
+use Rattle.st_lemmas.specs.Lists.{Has}
+use Rattle.st_lemmas.proofs.Tables.{has_append}
+use Rattle.st_laws_reads.specs.AllClients.Clear.{Cleared}
+use Rattle.st_laws_reads.proofs.AllClients.Clearing as clearing
+use Rattle.st_laws_extents.specs.Known.Known.{Fact, Knows, OutputAs, OutputsAs, Tells}
+use Rattle.st_laws_extents.proofs.Known.Hearing.{k_hear}
+use Rattle.st_laws_extents.proofs.Known.Knowing as walk
+
+-- of each association
+abbrev pub Each : (Association → Type 0) → List Association → Type 0
+Each P xs = (a : Association) → Has a xs → P a
+
+-- a fact of each association that a rule keeps
+keep_these : (P : Association → Type 0) (rule : Turn → Turn) → ((t : Turn) → P t.here → P (rule t).here) → (al : List Association) (t : ClientTurn) → Each P t.state.associations → Each P al → Each P (at_these rule al t).state.associations
+unfolding at_these
+keep_these P rule k [] t h g = h
+keep_these P rule k (a ∷ al) t h g = keep_these P rule k al (leave t (rule (enter t a))) (λ b i. one b (has_append t.state.associations ((rule (enter t a)).here ∷ []) b i)) (λ b i. g b (inr i))
+  where
+    one : (b : Association) → Has b t.state.associations ⊎ Has b ((rule (enter t a)).here ∷ []) → P b
+    one b (inl i) = h b i
+    one b (inr (inl e)) = subst P (sym e) (k (enter t a) (g a (inl refl)))
+    one b (inr (inr i)) = absurd i
+
+keep_each : (P : Association → Type 0) (rule : Turn → Turn) → ((t : Turn) → P t.here → P (rule t).here) → (t : ClientTurn) → Each P t.state.associations → Each P (at_each rule t).state.associations
+unfolding at_each
+keep_each P rule k t h = keep_these P rule k t.state.associations (with_associations [] t) (λ a i. absurd i) h
+
+-- what is clear stays clear through losses
+pub lost_clear : (s : ClientState) (now : Stamp) → Each Cleared s.associations → Each Cleared (cl.losses (client_turn s []) now).state.associations
+unfolding cl.losses
+lost_clear s now h = keep_each Cleared (cl.lose now) (clearing.k_lose now) (client_turn s []) h
+
+module _ (R : Fact) where
+  -- What stands of a step so far.
+  pub record Fine (t : ClientTurn) : Type 0 where
+    pub knows : Each (Knows R) t.state.associations
+    pub said : OutputsAs R t.out
+
+  these : (P : Association → Type 0) (rule : Turn → Turn) → ((t : Turn) → P t.here → walk.At R t → walk.At R (rule t)) → (al : List Association) (t : ClientTurn) → Fine t → Each (λ a. Knows R a × P a) al → Fine (at_these rule al t)
+  unfolding at_these
+  these P rule k [] t h g = h
+  these P rule k (a ∷ al) t h g =
+      these P rule k al (leave t r) (record { knows = λ b i. one b (has_append t.state.associations (r.here ∷ []) b i); said = z.said }) (λ b i. g b (inr i))
+    where
+      r : Turn
+      r = rule (enter t a)
+
+      z : walk.At R r
+      z = let y = g a (inl refl) in k (enter t a) y.1 (record { known = y.0; said = h.said })
+
+      one : (b : Association) → Has b t.state.associations ⊎ Has b (r.here ∷ []) → Knows R b
+      one b (inl i) = h.knows b i
+      one b (inr (inl e)) = subst (Knows R) (sym e) z.known
+      one b (inr (inr i)) = absurd i
+
+  each : (P : Association → Type 0) (rule : Turn → Turn) → ((t : Turn) → P t.here → walk.At R t → walk.At R (rule t)) → (t : ClientTurn) → Fine t → Each P t.state.associations → Fine (at_each rule t)
+  unfolding at_each
+  each P rule k t h g = these P rule k t.state.associations (with_associations [] t) (record { knows = λ a i. absurd i; said = h.said }) (λ a i. (h.knows a i, g a i))
+
+  -- nothing more
+  abbrev Any : Association → Type 0
+  Any a = Unit {0}
+
+  -- what a message tells
+  abbrev pub Told : List Association → ClientInput → Type 0
+  Told xs (inputs.Control m) = Each (λ a. Tells R a m.header m.body) xs
+  Told xs input = Unit {0}
+
+  at_once : (t : ClientTurn) (op : ℕ) (a : AppAnswer) → Fine t → Fine (cl.answered_at_once t op a)
+  at_once t op a h = record { knows = h.knows; said = λ y i. go y (has_append t.out (outputs.Answer op a ∷ []) y i) }
+    where
+      go : (y : Output) → Has y t.out ⊎ Has y (outputs.Answer op a ∷ []) → OutputAs R y
+      go y (inl i) = h.said y i
+      go y (inr (inl e)) = subst (OutputAs R) (sym e) tt
+      go y (inr (inr i)) = absurd i
+
+  input_fine : (t : ClientTurn) (now : Stamp) (input : ClientInput) → Each Cleared t.state.associations → Told t.state.associations input → Fine t → Fine (cl.take_input t now input)
+  unfolding cl.take_input cl.app cl.app_known cl.done cr.receive cr.receive_here
+  input_fine t now inputs.Tick c k h = h
+  input_fine t now (inputs.App op ask) c k h = full (cl.is_full t.state)
+    where
+      known : (b : Bool) → Fine (if b then at_each (only_at (server_of ask) (cl.take_ask op ask)) t else cl.answered_at_once t op answers.NoFile)
+      known true = each Any (only_at (server_of ask) (cl.take_ask op ask)) (λ u p. walk.k_take R (server_of ask) op ask u) t h (λ a i. tt)
+      known false = at_once t op answers.NoFile h
+
+      full : (b : Bool) → Fine (if b then cl.answered_at_once t op answers.OpsFull else cl.app_known t op ask)
+      full true = at_once t op answers.OpsFull h
+      full false = known (cl.is_configured t.state (server_of ask))
+  input_fine t now (inputs.Control m) c k h = go (m.header.to == t.state.id.0)
+    where
+      go : (b : Bool) → Fine (if b then at_each (cr.receive_at now m.header m.body) t else t)
+      go true = each (λ a. Cleared a × Tells R a m.header m.body) (cr.receive_at now m.header m.body) (λ u p. k_hear R m.header m.body now u p.0 p.1) t h (λ a i. (c a i, k a i))
+      go false = h
+  input_fine t now (inputs.Done number result) c k h = each Any (cl.finish number result) (λ u p. walk.k_finish R number result u) t h (λ a i. tt)
+
+  -- what is lost says no write
+  lose_said : (now : Stamp) (t : Turn) → OutputsAs R t.out → OutputsAs R (cl.lose now t).out
+  unfolding cl.lose cl.lose_by cl.lose_over cl.lose_session cl.end_operations
+  lose_said now t h = go t.here.session
+    where
+      over : (s : ClientSession) (b : Bool) → OutputsAs R (if b then cl.lose_session t s else t).out
+      over s true = walk.said_each R s _ _ (walk.say1 R t.here.server None [] t.out _ tt (record { known = λ e i. absurd i; said = h })).said
+      over s false = h
+
+      go : (o : Option ClientSession) → OutputsAs R (cl.lose_by t now o).out
+      go None = h
+      go (Some s) = over s (cl.is_over t s now)
+
+  lost_said_at : (now : Stamp) (al : List Association) (t : ClientTurn) → OutputsAs R t.out → OutputsAs R (at_these (cl.lose now) al t).out
+  unfolding at_these
+  lost_said_at now [] t h = h
+  lost_said_at now (a ∷ al) t h = lost_said_at now al (leave t (cl.lose now (enter t a))) (lose_said now (enter t a) h)
+
+  lost_said : (s : ClientState) (now : Stamp) → OutputsAs R (cl.losses (client_turn s []) now).out
+  unfolding cl.losses at_each
+  lost_said s now = lost_said_at now s.associations (with_associations [] (client_turn s [])) (λ y i. absurd i)
+
+  -- what is known stays so through losses
+  pub lost_knows : (s : ClientState) (now : Stamp) → Each (Knows R) s.associations → Each (Knows R) (cl.losses (client_turn s []) now).state.associations
+  unfolding cl.losses
+  lost_knows s now h = (each Any (cl.lose now) (λ u p. walk.k_lose R now u) (client_turn s []) (record { knows = h; said = λ y i. absurd i }) (λ a i. tt)).knows
+
+  -- The step, from what stands behind its losses.
+  pub step_fine : (s : ClientState) (now : Stamp) (input : ClientInput) → Each Cleared s.associations → Told (cl.losses (client_turn s []) now).state.associations input →
+      Each (Knows R) (cl.losses (client_turn s []) now).state.associations → Fine (cl.client_step s now input)
+  unfolding cl.client_step cl.work
+  step_fine s now input c k h =
+      let t = cl.losses (client_turn s []) now in
+      each Any (cp.passes now (cl.is_tick input)) (λ u p. walk.k_passes R now (cl.is_tick input) u) (cl.take_input t now input)
+      (input_fine t now input (lost_clear s now c) k (record { knows = h; said = lost_said s now })) (λ a i. tt)

@@ -1,0 +1,9 @@
+pub mod Hearing
+pub mod Keys
+pub mod Law
+pub mod Requesting
+pub mod Seen
+pub mod Step
+pub mod Taking
+pub mod Walking
+pub mod World

@@ -1,0 +1,5 @@
+pub mod Calm
+pub mod Lies
+pub mod Rules
+pub mod Run
+pub mod Step

@@ -1,0 +1,11 @@
+pub mod Client
+pub mod Cutting
+pub mod Last
+pub mod Others
+pub mod Owing
+pub mod Rows
+pub mod Run
+pub mod Step
+pub mod Taking
+pub mod Walk
+pub mod Zeros

@@ -1,0 +1,168 @@
+-- A cut finds no write that may have its effect.
+use Rattle.std.proofs.Common.{◌≡◌, ◌≢◌, ℕ, ◌≤◌, ◌⊎◌, Bool, true, false, ◌&&◌, List, [], ◌∷◌, ◌++◌, Option, Some, None, Ok, Err, refl, sym, ap, ◌∙◌, subst, inl, inr, arith, if◌then◌else◌}
+use Rattle.std.specs.Prelude.{Result, nat_le}
+use Rattle.std.proofs.lemmas.Bool.{eqb-true}
+use Rattle.st_base.specs.declared.ids.FileId.{FileId}
+use Rattle.st_base.specs.declared.ids.NodeId.{NodeId}
+use Rattle.st_base.specs.declared.ids.NodeId.TheVariants as nodes
+use Rattle.st_base.specs.declared.ids.PageNo.{PageNo}
+use Rattle.st_base.specs.declared.ids.ServerId.{ServerId}
+use Rattle.st_messages.specs.declared.ask.Ask.{Ask}
+use Rattle.st_messages.specs.declared.event.Event.{Event}
+use Rattle.st_messages.specs.declared.event.Event.TheVariants as events
+use Rattle.st_messages.specs.declared.message.Message.{Message}
+use Rattle.st_messages.specs.declared.output.Note.{Note}
+use Rattle.st_messages.specs.declared.output.Note.TheVariants as notes
+use Rattle.st_messages.specs.declared.output.Output.{Output}
+use Rattle.st_messages.specs.declared.output.Output.TheVariants as outputs
+use Rattle.st_rules.specs.declared.input.ServerInput.{ServerInput}
+use Rattle.st_rules.specs.declared.input.ServerInput.TheVariants as serving
+use Rattle.st_rules.specs.declared.node.StepRefusal.{StepRefusal}
+use Rattle.st_rules.specs.declared.observation.Observation.{Observation}
+use Rattle.st_rules.specs.declared.observation.Observation.TheVariants as seen
+use Rattle.st_rules.specs.declared.world.SentMessage.{SentMessage}
+use Rattle.st_rules.specs.ClientPages as pages
+use Rattle.st_rules.specs.Events as ev
+use Rattle.st_rules.specs.Events.{WorldTurn, counted, happens}
+use Rattle.st_rules.specs.FlatLog.{hard_cut, touches}
+use Rattle.st_rules.specs.Keys.{same_file}
+use Rattle.st_rules.specs.Server as server
+use Rattle.st_rules.specs.Server.{ServerNode}
+use Rattle.st_rules.specs.World as world
+use Rattle.st_rules.specs.World.{World, clock_of, message_of, node_of, receiver_of}
+use Rattle.st_protocol.specs.Assoc.{Config}
+use Rattle.st_lemmas.specs.Lists.{Has}
+use Rattle.st_lemmas.proofs.Tables.{and_true}
+use Rattle.st_laws_pages.specs.Flush.Flush.{file_at}
+use Rattle.st_laws_pages.specs.Disks.Owed.{AtServer, ServerNodeOwes}
+use Rattle.st_laws_pages.specs.Disks.Pages.{CarriedRight}
+use Rattle.st_laws_pages.specs.Disks.World.{CutQuiet, OneCut, PagesHold, mapped_at}
+use Rattle.st_laws_pages.proofs.Lives.Lasting.{no_option}
+use Rattle.st_laws_reads.specs.Copies.World.{hearing, hearing_of, taken}
+use Rattle.st_laws_reads.specs.AllClients.Events.{CutFree, MessageFree, OthersOwed, ReceiverFree, ServerFree, TurnFree}
+use Rattle.st_laws_reads.specs.AllClients.World.{CopiesHold}
+use Rattle.st_laws_pages.specs.Writes.Writes.{OpenHold}
+use Rattle.st_laws_reads.specs.OpenWrites.Living.{WritesHold}
+use Rattle.st_laws_reads.proofs.OpenWrites.Cases.{CrashedWrite, PresentWrite, living_is}
+use Rattle.st_laws_extents.specs.Submits.Left.{NoFrozenWrites}
+use Rattle.st_laws_extents.proofs.Submits.Others.{cut_apart}
+use Rattle.st_laws_extents.proofs.Submits.Taking.{MessageGives, ReceiverGives, ServerGives}
+
+has_cut : (f : FileId) (p : PageNo) (os : List Output) → OneCut f p os → Has (outputs.Note (notes.CutDone f p)) os
+has_cut f p [] h = absurd h
+has_cut f p (o ∷ os) (inl x) = inl (sym x.here)
+has_cut f p (o ∷ os) (inr x) = inr (has_cut f p os x.rest)
+
+-- a cut that is noted is seen
+abbrev Seen : FileId → PageNo → WorldTurn → Type 0
+Seen f p sc = (index : ℕ) × Has (seen.CutAt index f p) sc.seen
+
+has_more : (os : List Observation) (o x : Observation) → Has x os → Has x (os ++ o ∷ [])
+has_more [] o x i = absurd i
+has_more (y ∷ os) o x (inl e) = inl e
+has_more (y ∷ os) o x (inr i) = inr (has_more os o x i)
+
+has_last : (os : List Observation) (o : Observation) → Has o (os ++ o ∷ [])
+has_last [] o = inl refl
+has_last (y ∷ os) o = inr (has_last os o)
+
+seen_one : (f : FileId) (p : PageNo) (s : ServerId) (o : Output) (sc : WorldTurn) → Seen f p sc → Seen f p (ev.server_says sc s o)
+unfolding ev.server_says ev.server_notes ev.cuts ev.sends
+seen_one f p s (outputs.Send m) sc h = (h.0, has_more sc.seen _ _ h.1)
+seen_one f p s (outputs.Note n) sc h = note n
+  where
+    note : (n : Note) → Seen f p (ev.server_notes sc s n)
+    note (notes.Suspected c start) = (h.0, has_more sc.seen _ _ h.1)
+    note (notes.Stolen c life) = (h.0, has_more sc.seen _ _ h.1)
+    note (notes.CutDone g q) = (h.0, has_more sc.seen _ _ h.1)
+    note n = h
+seen_one f p s o sc h = h
+
+seen_new : (f : FileId) (p : PageNo) (s : ServerId) (o : Output) (sc : WorldTurn) → outputs.Note (notes.CutDone f p) ≡ o → Seen f p (ev.server_says sc s o)
+unfolding ev.server_says ev.server_notes ev.cuts
+seen_new f p s o sc e = subst (λ (x : Output). Seen f p (ev.server_says sc s x)) e (_, has_last sc.seen _)
+
+seen_all : (f : FileId) (p : PageNo) (s : ServerId) (os : List Output) (sc : WorldTurn) → Seen f p sc ⊎ Has (outputs.Note (notes.CutDone f p)) os → Seen f p (ev.server_says_all s os sc)
+unfolding ev.server_says_all
+seen_all f p s [] sc (inl h) = h
+seen_all f p s [] sc (inr h) = absurd h
+seen_all f p s (o ∷ os) sc (inl h) = seen_all f p s os (ev.server_says sc s o) (inl (seen_one f p s o sc h))
+seen_all f p s (o ∷ os) sc (inr (inl e)) = seen_all f p s os (ev.server_says sc s o) (inl (seen_new f p s o sc e))
+seen_all f p s (o ∷ os) sc (inr (inr h)) = seen_all f p s os (ev.server_says sc s o) (inr h)
+
+module _ (asks : ℕ → ℕ → Option Ask) (k : Config) (count : ℕ) (w : World) (h : WritesHold k count w) (open_ : OpenHold w) (copies : CopiesHold asks w) (pages_ : PagesHold w) where
+  quiet : (f : FileId) (p : PageNo) → CutFree w f p → NoFrozenWrites w f → CutQuiet w f p
+  quiet f p free uncut n y at tag bytes l = go (touches tag.file tag.page (hard_cut f p)) refl
+    where
+      r : CarriedRight w.log (mapped_at tag.file tag.page (node_of w tag.file.server)) y at tag bytes
+      r = pages_.pages.carry n y at tag bytes l
+
+      there : (node : ServerNode) × (node_of w (world.server y.server.0) ≡ Some node)
+      there = by (node_of w tag.file.server) refl r.is
+        where
+          by : (o : Option ServerNode) → node_of w tag.file.server ≡ o → mapped_at tag.file tag.page o ≡ Some r.extent → (node : ServerNode) × (node_of w (world.server y.server.0) ≡ Some node)
+          by None q z = absurd (no_option r.extent z)
+          by (Some node) q z = (node, ap (λ (v : ServerId). node_of w v) r.server ∙ q)
+
+      same : touches tag.file tag.page (hard_cut f p) ≡ true → f ≡ tag.file
+      same t =
+          let x = and_true (same_file f tag.file) (nat_le p.0 tag.page.0) t in
+          let z = and_true (Rattle.st_rules.specs.Keys.same_server f.server tag.file.server) _ x.0 in
+          ap (λ s. record { server = s; ino = f.ino }) (ap (λ n. record { 0 = n }) (eqb-true f.server.0 tag.file.server.0 z.0)) ∙ ap (λ i. record { server = tag.file.server; ino = i }) (eqb-true f.ino tag.file.ino z.1)
+
+      of_present : touches tag.file tag.page (hard_cut f p) ≡ true → PresentWrite w y tag → ⊥
+      of_present t z =
+          cut_apart asks w copies f p free y.client.0 z.site z.running z.a z.here z.lasts z.listed.listed.command.ino z.listed.listed.command.page z.listed.listed.dirty z.listed.listed.dirty_is
+          (subst (λ q. touches (file_at z.a z.listed.listed.command.ino) q (hard_cut f p) ≡ true) (sym z.listed.listed.page)
+          (subst (λ g. touches g tag.page (hard_cut f p) ≡ true) (ap (λ s. record { server = s; ino = tag.file.ino }) z.listed.listed.server ∙ ap (λ i. record { server = z.a.server; ino = i }) (sym z.listed.listed.ino)) t))
+
+      none : touches tag.file tag.page (hard_cut f p) ≡ true → PresentWrite w y tag ⊎ CrashedWrite k count w h.all y tag → ⊥
+      none t (inl z) = of_present t z
+      none t (inr z) = uncut n y at tag bytes l (sym (same t)) z.row z.is z.crashed
+
+      go : (b : Bool) → touches tag.file tag.page (hard_cut f p) ≡ b → touches tag.file tag.page (hard_cut f p) ≡ false
+      go false t = t
+      go true t = absurd (none t (living_is k count w h open_ n y at tag bytes l there))
+
+  counted_free : (f : FileId) (p : PageNo) → CutFree (counted w) f p → CutFree w f p
+  counted_free f p g d site run = g d site (record { there = run.there; runs = run.runs })
+
+  -- a server's step
+  at_server : (s : ServerId) (input : ServerInput) (o : Option ServerNode) → ServerFree (counted w) s input o → ((f : FileId) (p : PageNo) → Seen f p (ev.at_server (counted w) s input o) → NoFrozenWrites w f) → AtServer (counted w) s input o
+  unfolding ev.at_server ev.server_takes ev.server_took
+  at_server s input None free uncut = tt
+  at_server s input (Some node) free uncut = go (server.node_step node (clock_of (counted w) (nodes.Server s)) input) free uncut
+    where
+      go : (r : Result server.NodeTurn StepRefusal) → TurnFree (counted w) r → ((f : FileId) (p : PageNo) → Seen f p (ev.server_took (counted w) s r) → NoFrozenWrites w f) → ServerNodeOwes (counted w) s r
+      go (Err e) free uncut = tt
+      go (Ok t) free uncut =
+          record {
+            quiet = λ f p one.
+                let i = has_cut f p t.out one in
+                quiet f p (counted_free f p (free f p i)) (uncut f p (seen_all f p s t.out (ev.quiet (ev.with_node s t.node (counted w))) (inr i)));
+          }
+
+  to_receiver : (m : Message) (n : NodeId) → (hearing (counted w) m n ≡ None → ReceiverFree (counted w) m n) → ((f : FileId) (p : PageNo) → Seen f p (ev.delivers_to (counted w) m n) → NoFrozenWrites w f) → ReceiverGives (counted w) m n
+  unfolding ev.delivers_to
+  to_receiver m (nodes.Client c) free uncut = tt
+  to_receiver m (nodes.Server s) free uncut = at_server s (serving.Control m) (node_of w s) (free refl) uncut
+
+  to_message : (o : Option SentMessage) → (hearing_of (counted w) o ≡ None → MessageFree (counted w) o) → ((f : FileId) (p : PageNo) → Seen f p (ev.delivers (counted w) o) → NoFrozenWrites w f) → MessageGives (counted w) o
+  unfolding ev.delivers
+  to_message None free uncut = tt
+  to_message (Some m) free uncut = to_receiver m.message (receiver_of m) free uncut
+
+  pub server_gives : (e : Event) → (taken (counted w) e ≡ None → OthersOwed (counted w) e) → ((f : FileId) (p : PageNo) → Seen f p (happens (counted w) e) → NoFrozenWrites w f) → ServerGives (counted w) e
+  unfolding ev.happens ev.ticks
+  server_gives (events.Tick (nodes.Server s)) free uncut = at_server s serving.Tick (node_of w s) (free refl) uncut
+  server_gives (events.Deliver n) free uncut = to_message (message_of w n) free uncut
+  server_gives (events.Tick (nodes.Client c)) free uncut = tt
+  server_gives (events.App c ask) free uncut = tt
+  server_gives (events.Lose n) free uncut = tt
+  server_gives (events.Cut x y) free uncut = tt
+  server_gives (events.Heal x y) free uncut = tt
+  server_gives (events.Advance steps) free uncut = tt
+  server_gives (events.Effect n) free uncut = tt
+  server_gives (events.Report n ok) free uncut = tt
+  server_gives (events.Crash n) free uncut = tt
+  server_gives (events.Start n) free uncut = tt

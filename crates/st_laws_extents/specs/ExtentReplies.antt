@@ -1,0 +1,5 @@
+pub mod Events
+pub mod Law
+pub mod Maps
+pub mod Steps
+pub mod Told

@@ -1,0 +1,4 @@
+pub mod Left
+pub mod Lies
+pub mod Rest
+pub mod Submits

@@ -1,0 +1,9 @@
+pub mod Dates
+pub mod Grants
+pub mod Law
+pub mod Leasing
+pub mod Lives
+pub mod Replies
+pub mod RepliesLaw
+pub mod Sent
+pub mod Step

@@ -1,0 +1,4 @@
+pub mod Dates
+pub mod History
+pub mod Order
+pub mod Sides

@@ -1,0 +1,500 @@
+-- Where a client answers `diskfault`: only at the end of a command that failed. The rules of a client, walked for their outputs alone.
+use Rattle.std.proofs.Common.{◌≡◌, ℕ, ◌⊎◌, Bool, true, false, ◌==◌, List, [], ◌∷◌, ◌++◌, Option, Some, None, Ok, Err, refl, sym, subst, inl, inr, if◌then◌else◌}
+use Rattle.std.specs.Prelude.{Result, filter, map}
+use Rattle.std.proofs.lemmas.Bool.{eqb-true}
+use Rattle.st_base.specs.declared.disk.Tag.{Tag}
+use Rattle.st_base.specs.declared.ids.Epoch.{Epoch}
+use Rattle.st_base.specs.declared.ids.FileId.{FileId}
+use Rattle.st_base.specs.declared.ids.GrantNo.{GrantNo}
+use Rattle.st_base.specs.declared.ids.PageNo.{PageNo}
+use Rattle.st_base.specs.declared.ids.Stamp.{Stamp}
+use Rattle.st_base.specs.declared.mode.Mode.{Mode}
+use Rattle.st_base.specs.declared.mode.Mode.TheVariants as modes
+use Rattle.st_messages.specs.declared.answer.AppAnswer.{AppAnswer}
+use Rattle.st_messages.specs.declared.answer.AppAnswer.TheVariants as answers
+use Rattle.st_messages.specs.declared.ask.Ask.{Ask}
+use Rattle.st_messages.specs.declared.ask.Ask.TheVariants as asks
+use Rattle.st_messages.specs.declared.message.Body.{Body}
+use Rattle.st_messages.specs.declared.message.Body.TheVariants as bodies
+use Rattle.st_messages.specs.declared.message.Header.{Header}
+use Rattle.st_messages.specs.declared.message.NameReply.{NameReply}
+use Rattle.st_messages.specs.declared.message.NameReply.TheVariants as replies
+use Rattle.st_messages.specs.declared.message.Why.{Why}
+use Rattle.st_messages.specs.declared.message.Why.TheVariants as why
+use Rattle.st_messages.specs.declared.output.Note.{Note}
+use Rattle.st_messages.specs.declared.output.Output.{Output}
+use Rattle.st_messages.specs.declared.output.Output.TheVariants as outputs
+use Rattle.st_rules.specs.declared.client.Asked.{Asked}
+use Rattle.st_rules.specs.declared.client.Asked.TheVariants as demands
+use Rattle.st_rules.specs.declared.client.ClientInput.{ClientInput}
+use Rattle.st_rules.specs.declared.client.ClientInput.TheVariants as inputs
+use Rattle.st_rules.specs.declared.client.Ended.{Ended}
+use Rattle.st_rules.specs.declared.client.Ended.TheVariants as ends
+use Rattle.st_rules.specs.declared.client.HeldLock.{HeldLock}
+use Rattle.st_rules.specs.declared.client.IoKind.{IoKind}
+use Rattle.st_rules.specs.declared.client.IoKind.TheVariants as io
+use Rattle.st_rules.specs.declared.client.KnownExtent.{KnownExtent}
+use Rattle.st_rules.specs.declared.client.MappedBlock.{MappedBlock}
+use Rattle.st_rules.specs.declared.client.Operation.{Operation}
+use Rattle.st_rules.specs.declared.client.PageCommand.{PageCommand}
+use Rattle.st_rules.specs.declared.client.Release.{Release}
+use Rattle.st_rules.specs.declared.client.Request.{Request}
+use Rattle.st_rules.specs.declared.client.WriteRefusal.{WriteRefusal}
+use Rattle.st_rules.specs.declared.pages.DirtyPage.{DirtyPage}
+use Rattle.st_rules.specs.Client as cl
+use Rattle.st_rules.specs.ClientLease as lease
+use Rattle.st_rules.specs.ClientLocks as locks
+use Rattle.st_rules.specs.ClientPages as pages
+use Rattle.st_rules.specs.ClientPages.{Pages}
+use Rattle.st_rules.specs.ClientPasses as cp
+use Rattle.st_rules.specs.ClientReplies as cr
+use Rattle.st_rules.specs.ClientState as cs
+use Rattle.st_rules.specs.ClientState.{Association, ClientSession, ClientState, ClientTurn, Turn, answer_to, at_each, at_these, client_turn, enter, leave, only_at, say, with_session, with_store, with_operations}
+use Rattle.st_lemmas.specs.Lists.{Has}
+use Rattle.st_lemmas.proofs.Tables.{found_at, has_append, has_map}
+
+-- an output that answers no fault, but of a command that failed
+abbrev pub Fault_free : (ℕ → Type 0) → AppAnswer → Type 0
+Fault_free Failed (answers.DiskFault number) = Failed number
+Fault_free Failed a = Unit {0}
+
+-- an output
+abbrev pub Free : (ℕ → Type 0) → Output → Type 0
+Free Failed (outputs.Answer op a) = Fault_free Failed a
+Free Failed o = Unit {0}
+
+-- all of these
+abbrev pub All_free : (ℕ → Type 0) → List Output → Type 0
+All_free Failed os = (o : Output) → Has o os → Free Failed o
+
+module _ (Failed : ℕ → Type 0) where
+  abbrev F : Turn → Type 0
+  F t = All_free Failed t.out
+
+  more : (os ps : List Output) → All_free Failed os → All_free Failed ps → All_free Failed (os ++ ps)
+  more os ps a b o h = go (has_append os ps o h)
+    where
+      go : Has o os ⊎ Has o ps → Free Failed o
+      go (inl i) = a o i
+      go (inr i) = b o i
+
+  single : (o : Output) → Free Failed o → All_free Failed (o ∷ [])
+  single o f x (inl e) = subst (Free Failed) (sym e) f
+  single o f x (inr h) = absurd h
+
+  last : (os : List Output) (o : Output) → Free Failed o → All_free Failed os → All_free Failed (os ++ o ∷ [])
+  last os o f w = more os (o ∷ []) w (single o f)
+
+  said : (t : Turn) (o : Output) → Free Failed o → F t → F (say t o)
+  said t o f w = last t.out o f w
+
+  either : (b : Bool) (t u : Turn) → F t → F u → F (if b then t else u)
+  either true t u x y = x
+  either false t u x y = y
+
+  sent : (t : Turn) (epoch number stamp : ℕ) (b : Body) → F t → F (cs.send t epoch number stamp b)
+  unfolding cs.send
+  sent t epoch number stamp b w = said t _ tt w
+
+  each_answered : (t : Turn) (picked : Operation → Bool) (a : AppAnswer) → Fault_free Failed a → F t → F (cs.answer_each picked a t)
+  unfolding cs.answer_each
+  each_answered t picked a f w = more t.out (map (answer_to a) (filter picked t.operations)) w (λ o h. let x = has_map (answer_to a) (filter picked t.operations) o h in subst (Free Failed) (sym x.2) f)
+
+  -- Replies.
+  begins : (t : Turn) (epoch : Epoch) (stamp : Stamp) → F t → F (cr.begin_session t epoch stamp)
+  unfolding cr.begin_session cr.note_lease
+  begins t epoch stamp w = last t.out _ tt w
+
+  without : (t : Turn) (now : Stamp) (h : Header) (b : Body) → F t → F (cr.without_session t now h b)
+  unfolding cr.without_session cr.welcome
+  without t now h bodies.Welcome w = either _ _ t (begins t _ _ w) w
+  without t now h b w = w
+
+  of_other : (t : Turn) (s : ClientSession) (epoch : Epoch) (b : Body) → F t → F (cr.of_other_epoch t s epoch b)
+  unfolding cr.of_other_epoch cr.newer_epoch cr.follow_epoch
+  of_other t s epoch (bodies.Nack why.OtherEpoch x y) w = either (cr.is_newer s epoch) _ t (each_answered _ _ _ tt w) w
+  of_other t s epoch (bodies.Nack z x y) w = w
+  of_other t s epoch b w = w
+
+  removed : (t : Turn) (s : ClientSession) (file : Option ℕ) → F t → F (cr.removed t s file)
+  unfolding cr.removed cr.drop_held cr.drop_lock
+  removed t s None w = w
+  removed t s (Some ino) w = go (locks.lock_of s.locks ino)
+    where
+      go : (o : Option HeldLock) → F (cr.drop_held t s ino o)
+      go None = w
+      go (Some l) = w
+
+  named : (t : Turn) (s : ClientSession) (file : Option ℕ) (r : NameReply) → F t → F (cr.named t s file r)
+  unfolding cr.named cr.named_as
+  named t s file (replies.Ino ino) w = removed _ s file (each_answered t _ _ tt w)
+  named t s file (replies.Listed rows) w = each_answered t _ _ tt w
+  named t s file (replies.Refused code) w = each_answered t _ _ tt w
+
+  refuse_file : (t : Turn) (a : AppAnswer) (file : Option ℕ) → Fault_free Failed a → F t → F (cr.refuse_file t a file)
+  unfolding cr.refuse_file
+  refuse_file t a None p w = w
+  refuse_file t a (Some ino) p w = each_answered t _ a p w
+
+  refuse_page : (t : Turn) (a : AppAnswer) (file : Option ℕ) (page : Option PageNo) → Fault_free Failed a → F t → F (cr.refuse_page t a file page)
+  unfolding cr.refuse_page
+  refuse_page t a (Some ino) (Some p) u w = each_answered t _ a u w
+  refuse_page t a (Some ino) None u w = w
+  refuse_page t a None page u w = w
+
+  refuse_as : (t : Turn) (y : Why) (a b : ℕ) (file : Option ℕ) (asked : Body) → F t → F (cr.refuse_as t y a b file asked)
+  unfolding cr.refuse_as cr.refuse_holder
+  refuse_as t why.NoFile a b file asked w = refuse_file t _ file tt w
+  refuse_as t why.TooManyLocks a b file asked w = refuse_file t _ file tt w
+  refuse_as t why.NoSpace a b file asked w = refuse_page t _ file _ tt w
+  refuse_as t why.NotHolder a b file asked w = either (cs.asks_cut_or_remove asked) _ t (each_answered t _ _ tt w) w
+  refuse_as t y a b file asked w = w
+
+  effect : (t : Turn) (s : ClientSession) (now : Stamp) (b : Body) (file : Option ℕ) (asked : Body) → F t → F (cr.effect t s now b file asked)
+  unfolding cr.effect cr.granted cr.queued cr.extents cr.learn cr.acknowledged cr.reasserted cr.refused cr.leave_stuck
+  effect t s now (bodies.Granted ino g mode) file asked w = w
+  effect t s now (bodies.Queued ino mode) file asked w = w
+  effect t s now (bodies.Extents ino rows) file asked w = either (cr.is_current s.locks asked) _ t w w
+  effect t s now bodies.Ack file asked w = each_answered t _ _ tt w
+  effect t s now (bodies.Named reply) file asked w = named t s file reply w
+  effect t s now bodies.Reasserted file asked w = w
+  effect t s now (bodies.Nack y a b) file asked w = refuse_as t y a b file asked w
+  effect t s now b file asked w = w
+
+  renewal : (t : Turn) (s : ClientSession) (stamp : Stamp) → F t → F (cr.note_renewal t s stamp)
+  unfolding cr.note_renewal cr.note_lease
+  renewal t s stamp w = either (lease.is_renewal stamp s.lease) _ t (said t _ tt w) w
+
+  replied : (t : Turn) (s : ClientSession) (now : Stamp) (h : Header) (b : Body) → F t → F (cr.reply_of t s now h b)
+  unfolding cr.reply_of cr.counted cr.by_request cr.count_reply cr.condemn cr.reply_to cr.end_request
+  replied t s now h b w = go s.requests.asked
+    where
+      stamp : Stamp
+      stamp = record { 0 = h.stamp }
+
+      go : (r : Option Request) → F (cr.counted t s now h.number stamp b r)
+      go None = w
+      go (Some r) =
+          either (cr.is_counting h.number b r) (cr.count_reply t s now stamp b r.body) t
+          (either (cr.refuses_reassertion b r.body) (cr.condemn t s) (cr.reply_to t s now stamp b r.body) w (effect _ _ now b _ r.body (renewal t s stamp w))) w
+
+  nacked : (t : Turn) (s : ClientSession) (now : Stamp) (h : Header) (y : Why) (a b : ℕ) → F t → F (cr.nack t s now h y a b)
+  unfolding cr.condemn
+  nacked t s now h why.Suspect a b w = w
+  nacked t s now h why.NoSession a b w = w
+  nacked t s now h why.OtherEpoch a b w = w
+  nacked t s now h why.Grace a b w = w
+  nacked t s now h why.GraceOver a b w = w
+  nacked t s now h why.Conflict a b w = w
+  nacked t s now h y a b w = replied t s now h (bodies.Nack y a b) w
+
+  demanded : (t : Turn) (s : ClientSession) (ino : ℕ) (g : GrantNo) (to : Mode) → F t → F (cr.demand t s ino g to)
+  unfolding cr.demand cr.demand_by cr.demand_as cr.see_demand
+  demanded t s ino g to w = go (locks.demand s.locks ino g to)
+    where
+      by : (l : ClientSession) (a : Asked) → F (cr.demand_as t l ino g a)
+      by l demands.Reduce = sent _ _ _ _ _ w
+      by l demands.NotHeld = w
+      by l demands.Stale = w
+
+      go : (d : locks.Demanding) → F (cr.demand_by t s ino g d)
+      go d = by (cs.with_cache d.locks s) d.asked
+
+  of_epoch : (t : Turn) (s : ClientSession) (now : Stamp) (h : Header) (b : Body) → F t → F (cr.of_epoch t s now h b)
+  unfolding cr.of_epoch cr.grant_or_reply cr.granted
+  of_epoch t s now h (bodies.Nack y a b) w = nacked t s now h y a b w
+  of_epoch t s now h (bodies.Granted ino g mode) w = either (h.number == 0) _ _ w (replied t s now h (bodies.Granted ino g mode) w)
+  of_epoch t s now h (bodies.Demand ino g to) w = demanded t s ino g to w
+  of_epoch t s now h b w = replied t s now h b w
+
+  heard : (now : Stamp) (h : Header) (b : Body) (t : Turn) → F t → F (cr.receive_at now h b t)
+  unfolding cr.receive_at cr.by_session cr.with_a_session
+  heard now h b t w = either (cr.is_heard t now h) _ t (by t.here.session) w
+    where
+      by : (x : Option ClientSession) → F (cr.by_session t now h b x)
+      by None = without t now h b w
+      by (Some s) = either (h.epoch == s.epoch.0) _ _ (of_epoch t s now h b w) (of_other t s _ b w)
+
+  -- Losses.
+  ended : (t : Turn) (s : ClientSession) (o : Operation) → F t → F (cl.end_operation t s o)
+  unfolding cl.end_operation cl.end_unsent cl.end_sync cl.tell_lost
+  ended t s o w = either (cs.is_sent o) _ _ (said t _ tt w) (by o.ask)
+    where
+      by : (a : Ask) → F (cl.end_unsent t o a)
+      by (asks.Sync f) = either (pages.has_lost t.here.lost f.ino) _ _ (last t.out _ tt w) (said t _ tt w)
+      by a = said t _ tt w
+
+  all_ended : (s : ClientSession) (os : List Operation) (t : Turn) → F t → F (cl.end_each s os t)
+  unfolding cl.end_each
+  all_ended s [] t w = w
+  all_ended s (o ∷ os) t w = all_ended s os (cl.end_operation t s o) (ended t s o w)
+
+  lost : (now : Stamp) (t : Turn) → F t → F (cl.lose now t)
+  unfolding cl.lose cl.lose_by cl.lose_over cl.lose_session cl.end_operations
+  lost now t w = go t.here.session
+    where
+      go : (o : Option ClientSession) → F (cl.lose_by t now o)
+      go None = w
+      go (Some s) = either (cl.is_over t s now) _ t (all_ended s _ _ (said t _ tt w)) w
+
+  -- Asks.
+  taken : (op : ℕ) (ask : Ask) (t : Turn) → F t → F (cl.take_ask op ask t)
+  unfolding cl.take_ask cl.take_by cl.take_sync cl.enqueue cl.tell_lost
+  taken op ask t w = by ask
+    where
+      by : (a : Ask) → F (cl.take_by t op ask a)
+      by (asks.Sync f) = either (pages.has_lost t.here.lost f.ino) _ _ (last t.out _ tt w) w
+      by a = w
+
+  -- Ends of commands: only where the command failed a fault is answered.
+  faulted : (t : Turn) (x : PageCommand) (kind : IoKind) → Failed x.number → F t → F (cl.failed_as t x kind)
+  unfolding cl.failed_as cl.mark_failed
+  faulted t x io.Read f w = each_answered t _ _ f w
+  faulted t x (io.Write v) f w = each_answered _ _ _ f (either (cl.is_present t x v) _ t w w)
+
+  finished_as : (t : Turn) (x : PageCommand) (block : Option (Tag × List ℕ)) (e : Ended) → (e ≡ ends.Failed → Failed x.number) → F t → F (cl.finish_as t x block e)
+  unfolding cl.finish_as cl.filled_by cl.hardened
+  finished_as t x block ends.Unknown f w = w
+  finished_as t x None ends.Filled f w = w
+  finished_as t x (Some b) ends.Filled f w = w
+  finished_as t x block ends.Hard f w = w
+  finished_as t x block ends.Redirty f w = w
+  finished_as t x block ends.Failed f w = faulted t x x.kind (f refl) w
+
+  -- a command that is done has not failed
+  done_fine : (k : IoKind) (version : ℕ) → pages.done_as k version ≡ ends.Failed → ⊥
+  done_fine io.Read version e = cc
+  done_fine (io.Write v) version e = go (v == version) e
+    where
+      go : (b : Bool) → (if b then ends.Hard else ends.Redirty) ≡ ends.Failed → ⊥
+      go true e = cc
+      go false e = cc
+
+  ended_fine : (x : PageCommand) (ok : Bool) (version : ℕ) → pages.ended_as x ok version ≡ ends.Failed → ok ≡ false
+  ended_fine x true version e = absurd (done_fine x.kind version e)
+  ended_fine x false version e = refl
+
+  end_fine : (xs : List PageCommand) (number : ℕ) (ok : Bool) (version : ℕ) → (pages.end_command xs number ok version).ended ≡ ends.Failed → ok ≡ false
+  unfolding pages.end_command pages.end_at
+  end_fine xs number ok version e = go (pages.command_of xs number) e
+    where
+      go : (o : Option PageCommand) → (pages.end_at xs number ok version o).ended ≡ ends.Failed → ok ≡ false
+      go None e = cc
+      go (Some x) e = ended_fine x ok version e
+
+  finished_command : (t : Turn) (x : PageCommand) (ok : Bool) (block : Option (Tag × List ℕ)) → (ok ≡ false → Failed x.number) → F t → F (cl.finish_command t x ok block)
+  unfolding cl.finish_command cl.ended_by
+  finished_command t x ok block f w = finished_as _ x block _ (λ e. f (end_fine t.here.store.commands x.number ok _ e)) w
+
+  finished_by : (t : Turn) (x : PageCommand) (r : Option (Option (Tag × List ℕ))) → (r ≡ None → Failed x.number) → F t → F (cl.finish_by t x r)
+  unfolding cl.finish_by cl.done_by
+  finished_by t x None f w = finished_command t x false None (λ e. f refl) w
+  finished_by t x (Some b) f w = either (cl.is_result_of x.kind b) _ t (finished_command t x true b (λ e. cc) w) w
+
+  finished : (number : ℕ) (r : Option (Option (Tag × List ℕ))) → (r ≡ None → Failed number) → (t : Turn) → F t → F (cl.finish number r t)
+  unfolding cl.finish cl.finish_at
+  finished number r f t w = go (pages.command_of t.here.store.commands number) refl
+    where
+      go : (o : Option PageCommand) → pages.command_of t.here.store.commands number ≡ o → F (cl.finish_at t o r)
+      go None e = w
+      go (Some x) e = finished_by t x r (λ q. subst Failed (sym (eqb-true x.number number (found_at (pages.is_numbered number) t.here.store.commands x e).0)) (f q)) w
+
+  -- Operations.
+  changed : (t : Turn) (o : Operation) (f : FileId) (p : PageNo) (bytes : List ℕ) (n : Note) → F t → F (cp.change_page t o f p bytes n)
+  unfolding cp.change_page cp.change_by cp.change
+  changed t o f p bytes n w = go (pages.write t.here.store.pages f.ino p bytes)
+    where
+      go : (r : Result Pages WriteRefusal) → F (cp.change_by t o f p n r)
+      go (Ok ps) = last (t.out ++ outputs.Note n ∷ []) (outputs.Answer o.op answers.Written) tt (last t.out (outputs.Note n) tt w)
+      go (Err r) = said t _ tt w
+
+  submitted : (t : Turn) (ino : ℕ) (p : PageNo) (m : MappedBlock) → F t → F (cp.submit_read t ino p m)
+  unfolding cp.submit_read cp.submit_command
+  submitted t ino p m w = last t.out _ tt w
+
+  fetched : (t : Turn) (o : Operation) (f : FileId) (p : PageNo) → F t → F (cp.fetch t o f p)
+  unfolding cp.fetch cp.fetch_at cp.fetch_mapped
+  fetched t o f p w = go (pages.mapping_of t.here.store.extents f.ino p)
+    where
+      go : (m : Option MappedBlock) → F (cp.fetch_at t f p m)
+      go None = w
+      go (Some m) = either (pages.is_being_read t.here.store.commands f.ino p) t _ w (submitted t f.ino p m w)
+
+  written : (t : Turn) (s : ClientSession) (o : Operation) (f : FileId) (p : PageNo) (bytes : List ℕ) → F t → F (cp.write t s o f p bytes)
+  unfolding cp.write
+  written t s o f p bytes w = either (cp.may_write t s f p) _ _ (changed t o f p bytes _ w) w
+
+  patched : (t : Turn) (s : ClientSession) (o : Operation) (f : FileId) (p : PageNo) (at : ℕ) (bytes : List ℕ) → F t → F (cp.patch t s o f p at bytes)
+  unfolding cp.patch cp.patch_at cp.patch_bytes
+  patched t s o f p at bytes w = either (cp.may_write t s f p) _ _ (go (pages.cached t.here.store.pages f.ino p)) w
+    where
+      go : (x : Option (List ℕ)) → F (cp.patch_at t o f p at bytes x)
+      go None = fetched t o f p w
+      go (Some old) = changed t o f p _ _ w
+
+  reading : (t : Turn) (s : ClientSession) (o : Operation) (f : FileId) (p : PageNo) → F t → F (cp.read t s o f p)
+  unfolding cp.read cp.read_at cp.read_uncached cp.read_known cp.read_cached
+  reading t s o f p w = either (cp.holds s modes.S f) _ _ (cached (pages.cached t.here.store.pages f.ino p)) w
+    where
+      known : (x : Option KnownExtent) → F (cp.read_uncached t o f p x)
+      known None = w
+      known (Some e) = mapped e.mapping
+        where
+          mapped : (m : Option MappedBlock) → F (cp.read_known t o f p e m)
+          mapped None = said t _ tt w
+          mapped (Some m) = fetched t o f p w
+
+      cached : (x : Option (List ℕ)) → F (cp.read_at t o f p x)
+      cached None = known (pages.known_of t.here.store.extents f.ino p)
+      cached (Some bytes) = last t.out _ tt w
+
+  served : (all : List Operation) (t : Turn) (s : ClientSession) (o : Operation) → F t → F (cp.serve all t s o)
+  unfolding cp.serve cp.serve_open
+  served all t s o w = either _ _ _ (go o.ask) w
+    where
+      go : (a : Ask) → F (cp.serve_open t s o a)
+      go (asks.Write f p bytes) = written t s o f p bytes w
+      go (asks.Patch f p at bytes) = patched t s o f p at bytes w
+      go (asks.Read f p) = reading t s o f p w
+      go a = w
+
+  operated : (all : List Operation) (t : Turn) (now : Stamp) (o : Operation) → F t → F (cp.operate all t now o)
+  unfolding cp.operate cp.operate_on cp.operate_by cp.operate_under cp.quiesce cp.sync
+  operated all t now o w = either (cs.is_of t.here.server o) _ _ (on o.ask) w
+    where
+      by : (x : Option ClientSession) → F (cp.operate_by all t now o x)
+      by None = w
+      by (Some s) = either (cs.is_serving t.config s now) _ _ (served all t s o w) (either (cs.is_sent o) _ _ w (said t _ tt w))
+
+      on : (a : Ask) → F (cp.operate_on all t now o a)
+      on (asks.Sync f) = either (pages.is_hard t.here.store f.ino) _ _ (said t _ tt w) w
+      on a = by t.here.session
+
+  operated_each : (all : List Operation) (now : Stamp) (os : List Operation) (t : Turn) → F t → F (cp.operate_each all now os t)
+  unfolding cp.operate_each
+  operated_each all now [] t w = w
+  operated_each all now (o ∷ os) t w = operated_each all now os _ (operated all t now o w)
+
+  -- Reductions.
+  reduced : (t : Turn) (ino : ℕ) (o : Option ClientSession) → F t → F (cp.reduce t ino o)
+  unfolding cp.reduce cp.reduce_idle cp.reduce_by cp.reduce_given cp.reduce_to
+  reduced t ino None w = w
+  reduced t ino (Some s) w = either (cp.may_reduce t s ino) _ t (go (locks.reduce s.locks ino)) w
+    where
+      given : (x : ClientSession) (o : Option (GrantNo × Mode)) → F (cp.reduce_given t x ino o)
+      given x None = w
+      given x (Some g) = w
+
+      go : (r : locks.Reduced) → F (cp.reduce_by t s ino r)
+      go r = given (cs.with_cache r.locks s) r.given
+
+  reduced_each : (inos : List ℕ) (t : Turn) → F t → F (cp.reduce_each inos t)
+  unfolding cp.reduce_each
+  reduced_each [] t w = w
+  reduced_each (ino ∷ inos) t w = reduced_each inos _ (reduced t ino t.here.session w)
+
+  -- Writes.
+  page_written : (t : Turn) (s : ClientSession) (now : Stamp) (tick : Bool) (o : Option DirtyPage) → F t → F (cp.write_page t s now tick o)
+  unfolding cp.write_page cp.write_due cp.write_out cp.write_out_at cp.submit_write cp.submit_command
+  page_written t s now tick None w = w
+  page_written t s now tick (Some d) w = either (cp.is_writable t s now tick d) _ t (go (pages.mapping_of t.here.store.extents d.ino d.page)) w
+    where
+      go : (m : Option MappedBlock) → F (cp.write_out_at t d m)
+      go None = w
+      go (Some m) = last t.out _ tt w
+
+  pages_written : (s : ClientSession) (now : Stamp) (tick : Bool) (xs : List (ℕ × PageNo)) (t : Turn) → F t → F (cp.write_each s now tick xs t)
+  unfolding cp.write_each
+  pages_written s now tick [] t w = w
+  pages_written s now tick (x ∷ xs) t w = pages_written s now tick xs _ (page_written t s now tick _ w)
+
+  wrote : (now : Stamp) (tick : Bool) (t : Turn) → F t → F (cp.writes now tick t)
+  unfolding cp.writes cp.writes_by
+  wrote now tick t w = go t.here.session
+    where
+      go : (o : Option ClientSession) → F (cp.writes_by t now tick o)
+      go None = w
+      go (Some s) = pages_written s now tick _ t w
+
+  greeted : (now : Stamp) (tick : Bool) (t : Turn) → F t → F (cp.greeting now tick t)
+  unfolding cp.greeting cp.greeting_by cp.greet cp.hello
+  greeted now tick t w = go t.here.session
+    where
+      go : (o : Option ClientSession) → F (cp.greeting_by t now tick o)
+      go None = either (cp.must_greet t now tick) _ t (sent _ _ _ _ _ w) w
+      go (Some s) = w
+
+  -- Requests.
+  asked : (t : Turn) (s : ClientSession) (now : Stamp) (b : Body) (cutting : Option ℕ) → F t → F (cp.ask t s now b cutting)
+  unfolding cp.ask
+  asked t s now b cutting w = sent _ _ _ _ _ w
+
+  kept_alive : (t : Turn) (s : ClientSession) (now : Stamp) → F t → F (cp.keep_alive t s now)
+  unfolding cp.keep_alive
+  kept_alive t s now w = either _ _ t (asked t s now _ _ w) w
+
+  asked_next : (t : Turn) (s : ClientSession) (now : Stamp) → F t → F (cp.ask_next t s now)
+  unfolding cp.ask_next cp.ask_for_or cp.ask_for
+  asked_next t s now w = either (cs.is_serving t.config s now) _ _ (go (cp.first_asking t s now t.operations)) (kept_alive t s now w)
+    where
+      go : (o : Option cp.Asking) → F (cp.ask_for_or t s now o)
+      go None = kept_alive t s now w
+      go (Some a) = asked _ s now _ _ w
+
+  asked_by : (t : Turn) (s : ClientSession) (now : Stamp) (rs : List Release) → F t → F (cp.ask_by t s now rs)
+  unfolding cp.ask_by cp.ask_release
+  asked_by t s now [] w = asked_next t s now w
+  asked_by t s now (r ∷ rs) w = asked t _ now _ _ w
+
+  requested : (now : Stamp) (tick : Bool) (t : Turn) → F t → F (cp.requests now tick t)
+  unfolding cp.requests cp.requests_by cp.requests_under cp.requests_at cp.ask_new cp.reassert cp.repeat cp.ask_again
+  requested now tick t w = go t.here.session
+    where
+      at : (s : ClientSession) (o : Option Request) → F (cp.requests_at t s now tick o)
+      at s None = either s.due _ _ (asked t s now _ _ w) (asked_by t s now s.releases w)
+      at s (Some r) = either _ _ t (sent _ _ _ _ _ w) w
+
+      go : (o : Option ClientSession) → F (cp.requests_by t now tick o)
+      go None = w
+      go (Some s) = either s.lease.condemned t _ w (at s s.requests.asked)
+
+  passed : (now : Stamp) (tick : Bool) (t : Turn) → F t → F (cp.passes now tick t)
+  unfolding cp.passes cp.operations cp.reductions
+  passed now tick t w = requested now tick _ (greeted now tick _ (wrote now tick _ (reduced_each _ _ (operated_each t.operations now t.operations _ w))))
+
+  -- A rule at each server in turn.
+  these : (rule : Turn → Turn) → ((t : Turn) → F t → F (rule t)) → (al : List Association) (t : ClientTurn) → All_free Failed t.out → All_free Failed (at_these rule al t).out
+  unfolding at_these
+  these rule one [] t w = w
+  these rule one (a ∷ al) t w = these rule one al (leave t (rule (enter t a))) (one (enter t a) w)
+
+  each : (rule : Turn → Turn) → ((t : Turn) → F t → F (rule t)) → (t : ClientTurn) → All_free Failed t.out → All_free Failed (at_each rule t).out
+  unfolding at_each
+  each rule one t w = these rule one t.state.associations _ w
+
+  -- an input in which a command fails only as said
+  abbrev pub Fails_as : ClientInput → Type 0
+  Fails_as (inputs.Done number r) = r ≡ None → Failed number
+  Fails_as i = Unit {0}
+
+  any_either : (b : Bool) (t u : ClientTurn) → All_free Failed t.out → All_free Failed u.out → All_free Failed (if b then t else u).out
+  any_either true t u x y = x
+  any_either false t u x y = y
+
+  only : (s : _) (op : ℕ) (ask : Ask) (t : Turn) → F t → F (only_at s (cl.take_ask op ask) t)
+  unfolding only_at
+  only s op ask t w = either (cs.is_at s t.here) _ t (taken op ask t w) w
+
+  input_taken : (t : ClientTurn) (now : Stamp) (i : ClientInput) → Fails_as i → All_free Failed t.out → All_free Failed (cl.take_input t now i).out
+  unfolding cl.take_input cl.app cl.app_known cl.done cr.receive cr.receive_here
+  input_taken t now inputs.Tick f w = w
+  input_taken t now (inputs.App op ask) f w =
+      any_either (cl.is_full t.state) _ _ (more t.out _ w (single _ tt))
+      (any_either (cl.is_configured t.state (cs.server_of ask)) _ _ (each _ (only (cs.server_of ask) op ask) t w) (more t.out _ w (single _ tt)))
+  input_taken t now (inputs.Control m) f w = any_either _ _ t (each _ (heard now m.header m.body) t w) w
+  input_taken t now (inputs.Done number r) f w = each _ (finished number r f) t w
+
+  -- the whole step
+  pub stepped : (s : ClientState) (now : Stamp) (i : ClientInput) → Fails_as i → All_free Failed (cl.client_step s now i).out
+  unfolding cl.client_step cl.work cl.losses
+  stepped s now i f = each _ (passed now (cl.is_tick i)) _ (input_taken _ now i f (each _ (lost now) (client_turn s []) (λ o h. absurd h)))

@@ -1,0 +1,7 @@
+pub mod Growing
+pub mod Counting
+pub mod Log
+pub mod Law
+pub mod Answering
+pub mod Faults
+pub mod Held

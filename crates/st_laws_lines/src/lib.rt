@@ -1,0 +1,25 @@
+//! Laws of the lines of a report, over the definitions alone: what they count, what stands on the disks, and why a fault is answered.
+#![tactic(auto)]
+
+ghost use Rattle.std.specs.Prelude.{List};
+ghost use Rattle.st_laws_pages.specs.Asks.Law.{InEveryRun};
+ghost use Rattle.st_laws_pages.specs.Disks.Runs.{PagesAfter};
+ghost use Rattle.st_rules.specs.Safety.{Step, Throughout};
+ghost use Rattle.st_laws_lines.specs.Counted.{TheCountsAreTrue};
+ghost use Rattle.st_laws_lines.specs.Held.{DisksHoldWhatIsHard};
+ghost use Rattle.st_laws_lines.specs.Caused.{FaultsHaveACause};
+
+/// In every run the counts are true: each message and each command has its line, and the last line counts what the lines before it have.
+pub fn counts_are_true()
+    ensures { InEveryRun TheCountsAreTrue }
+{}
+
+/// In every run a fault has its cause: `diskfault` is answered where the command that it names is reported failed, and nowhere else.
+pub fn faults_have_a_cause()
+    ensures { InEveryRun FaultsHaveACause }
+{}
+
+/// Where the pages hold behind every step, the disks hold what is hard.
+pub fn disks_hold_what_is_hard()
+    ensures { (past xs : List Step) → Throughout PagesAfter past xs → Throughout DisksHoldWhatIsHard past xs }
+{}

@@ -1,0 +1,201 @@
+-- A whole step of a client: which syncs it answers hard, and which operations it leaves.
+use Rattle.std.proofs.Common.{◌≡◌, ℕ, Bool, true, false, ◌==◌, ◌⊎◌, List, [], ◌∷◌, ◌++◌, Option, Some, sym, subst, inl, inr, if◌then◌else◌}
+use Rattle.std.specs.Prelude.{length, map}
+use Rattle.st_base.specs.declared.ids.ClientId.{ClientId}
+use Rattle.st_base.specs.declared.ids.FileId.{FileId}
+use Rattle.st_base.specs.declared.ids.Stamp.{Stamp}
+use Rattle.st_messages.specs.declared.answer.AppAnswer.TheVariants as answers
+use Rattle.st_messages.specs.declared.ask.Ask.{Ask}
+use Rattle.st_messages.specs.declared.ask.Ask.TheVariants as asks
+use Rattle.st_messages.specs.declared.output.Output.TheVariants as outputs
+use Rattle.st_rules.specs.declared.client.ClientInput.{ClientInput}
+use Rattle.st_rules.specs.declared.client.ClientInput.TheVariants as inputs
+use Rattle.st_rules.specs.declared.client.Operation.{Operation}
+use Rattle.st_rules.specs.Client as cl
+use Rattle.st_rules.specs.ClientPages as pages
+use Rattle.st_rules.specs.ClientPasses as cp
+use Rattle.st_rules.specs.ClientReplies as cr
+use Rattle.st_rules.specs.ClientState.{Association, ClientState, ClientTurn, Turn, at_each, at_these, client_turn, enter, is_at, leave, only_at, server_of, with_associations}
+use Rattle.st_rules.specs.Events as ev
+use Rattle.st_rules.specs.Events.{WorldTurn}
+use Rattle.st_rules.specs.Safety.{Step}
+use Rattle.st_rules.specs.World.{World, ClientSite, life_with, site_of}
+use Rattle.st_lemmas.specs.Lists.{Has}
+use Rattle.st_laws_pages.specs.Fates.Fates.{GoneAll}
+use Rattle.st_laws_pages.specs.Flush.Flush.{NodeCared}
+use Rattle.st_laws_steps.specs.Lives.Lives.{LivesHold}
+use Rattle.st_laws_steps.specs.Client.Losses.{Fit}
+use Rattle.st_laws_pages.proofs.Flush.Flushing.{InputTold}
+use Rattle.st_laws_pages.proofs.Asks.Client.{key}
+use Rattle.st_laws_pages.proofs.Asks.Places.{Knows}
+use Rattle.st_laws_pages.specs.Causes.Stands.{CommandsStand, LatestOwn}
+use Rattle.st_laws_pages.proofs.Causes.Hardly.{Hards, Ungone, each_said_at, quiet_hards}
+use Rattle.st_laws_pages.proofs.Causes.Placed.{AllPlaced, From, InputTells, Placed, Since, each_from, each_place, finish_places, hear_places, input_places, lose_places, only_left, passes_place, since_none, since_one, since_then}
+use Rattle.st_laws_pages.proofs.Causes.Saying.{placed_grown}
+use Rattle.st_laws_pages.proofs.Causes.Stepping.{fit_t, fit_u, input_all, work_grows}
+use Rattle.st_laws_pages.proofs.Causes.Unhard.{H, Unhard, h_ask, h_finish, h_hear, h_lose}
+
+-- A rule at each server in turn answers no sync hard.
+these_unhard : (rule : Turn → Turn) → ((t : Turn) → H t (rule t)) → (al : List Association) (t : ClientTurn) → Since Unhard t.out (at_these rule al t).out
+unfolding at_these
+these_unhard rule one [] t = since_none Unhard t.out
+these_unhard rule one (a ∷ al) t = since_then Unhard t.out (rule (enter t a)).out (at_these rule al (leave t (rule (enter t a)))).out (one (enter t a)) (these_unhard rule one al (leave t (rule (enter t a))))
+
+each_unhard : (rule : Turn → Turn) → ((t : Turn) → H t (rule t)) → (t : ClientTurn) → Since Unhard t.out (at_each rule t).out
+unfolding at_each
+each_unhard rule one t = these_unhard rule one t.state.associations (with_associations [] t)
+
+input_unhard : (now : Stamp) (input : ClientInput) (t : ClientTurn) → Since Unhard t.out (cl.take_input t now input).out
+unfolding cl.take_input cl.app cl.app_known cl.done cr.receive cr.receive_here
+input_unhard now inputs.Tick t = since_none Unhard t.out
+input_unhard now (inputs.App op ask) t = full (cl.is_full t.state)
+  where
+    known : (b : Bool) → Since Unhard t.out (if b then at_each (only_at (server_of ask) (cl.take_ask op ask)) t else cl.answered_at_once t op answers.NoFile).out
+    known true = each_unhard (only_at (server_of ask) (cl.take_ask op ask)) (h_ask (server_of ask) op ask) t
+    known false = since_one Unhard t.out (outputs.Answer op answers.NoFile) tt
+
+    full : (b : Bool) → Since Unhard t.out (if b then cl.answered_at_once t op answers.OpsFull else cl.app_known t op ask).out
+    full true = since_one Unhard t.out (outputs.Answer op answers.OpsFull) tt
+    full false = known (cl.is_configured t.state (server_of ask))
+input_unhard now (inputs.Control m) t = go (m.header.to == t.state.id.0)
+  where
+    go : (b : Bool) → Since Unhard t.out (if b then at_each (cr.receive_at now m.header m.body) t else t).out
+    go true = each_unhard (cr.receive_at now m.header m.body) (h_hear now m.header m.body) t
+    go false = since_none Unhard t.out
+input_unhard now (inputs.Done number r) t = each_unhard (cl.finish number r) (h_finish number r) t
+
+-- The operations behind an ask: those that there were, and it.
+abbrev OrNew : List (ℕ × Ask) → ℕ × Ask → List Operation → Type 0
+OrNew ks new ops = (k : ℕ × Ask) → Has k (map key ops) → Has k ks ⊎ (k ≡ new)
+
+last_key : (ops : List Operation) (o : Operation) (k : ℕ × Ask) → Has k (map key (ops ++ o ∷ [])) → Has k (map key ops) ⊎ (k ≡ key o)
+last_key [] o k (inl e) = inr e
+last_key [] o k (inr i) = absurd i
+last_key (x ∷ ops) o k (inl e) = inl (inl e)
+last_key (x ∷ ops) o k (inr i) = go (last_key ops o k i)
+  where
+    go : Has k (map key ops) ⊎ (k ≡ key o) → Has k (map key (x ∷ ops)) ⊎ (k ≡ key o)
+    go (inl j) = inl (inr j)
+    go (inr e) = inr e
+
+ask_one : (s : _) (op : ℕ) (ask : Ask) (t : Turn) → OrNew (map key t.operations) (op, ask) (only_at s (cl.take_ask op ask) t).operations
+unfolding only_at cl.take_ask cl.take_by cl.take_sync cl.enqueue cl.tell_lost
+ask_one s op ask t = go (is_at s t.here)
+  where
+    pended : OrNew (map key t.operations) (op, ask) (cl.enqueue t op ask).operations
+    pended = λ k i. last_key t.operations (Rattle.st_rules.specs.ClientState.new_operation op ask) k i
+
+    lost : (g : FileId) (b : Bool) → OrNew (map key t.operations) (op, ask) (if b then cl.tell_lost t op g.ino else cl.enqueue t op ask).operations
+    lost g true = λ k i. inl i
+    lost g false = pended
+
+    by : (a : Ask) → OrNew (map key t.operations) (op, ask) (cl.take_by t op ask a).operations
+    by (asks.Sync g) = lost g (pages.has_lost t.here.lost g.ino)
+    by a = pended
+
+    go : (b : Bool) → OrNew (map key t.operations) (op, ask) (if b then cl.take_ask op ask t else t).operations
+    go true = by ask
+    go false = λ k i. inl i
+
+ask_these : (s : _) (op : ℕ) (ask : Ask) (al : List Association) (t : ClientTurn) → OrNew (map key t.state.operations) (op, ask) (at_these (only_at s (cl.take_ask op ask)) al t).state.operations
+unfolding at_these
+ask_these s op ask [] t = λ k i. inl i
+ask_these s op ask (a ∷ al) t = λ k i. go k (ask_these s op ask al (leave t (only_at s (cl.take_ask op ask) (enter t a))) k i)
+  where
+    go : (k : ℕ × Ask) → Has k (map key (only_at s (cl.take_ask op ask) (enter t a)).operations) ⊎ (k ≡ (op, ask)) → Has k (map key t.state.operations) ⊎ (k ≡ (op, ask))
+    go k (inl i) = ask_one s op ask (enter t a) k i
+    go k (inr e) = inr e
+
+-- what an input asks
+abbrev pub AsksIt : (ℕ → Option Ask) → ClientInput → Type 0
+AsksIt asked (inputs.App op ask) = asked op ≡ Some ask
+AsksIt asked input = Unit {0}
+
+abbrev pub KeysAsked : (ℕ → Option Ask) → List Operation → Type 0
+KeysAsked asked os = (k : ℕ × Ask) → Has k (map key os) → asked k.0 ≡ Some k.1
+
+from_asked : (asked : ℕ → Option Ask) (os ps : List Operation) → From (map key os) ps → KeysAsked asked os → KeysAsked asked ps
+from_asked asked os ps f h = λ k i. h k (f k i)
+
+input_asked : (n : ℕ) (now : Stamp) (asked : ℕ → Option Ask) (input : ClientInput) (t : ClientTurn) → InputTells n input → AsksIt asked input → ((b : Association) → Has b t.state.associations → Fit b) → ((b : Association) → Has b t.state.associations → Knows n b.server b.store.extents) →
+    KeysAsked asked t.state.operations → KeysAsked asked (cl.take_input t now input).state.operations
+unfolding cl.take_input cl.app cl.app_known cl.done cr.receive cr.receive_here at_each
+input_asked n now asked inputs.Tick t told new f k h = h
+input_asked n now asked (inputs.App op ask) t told new f k h = full (cl.is_full t.state)
+  where
+    either : (x : ℕ × Ask) → Has x (map key t.state.operations) ⊎ (x ≡ (op, ask)) → asked x.0 ≡ Some x.1
+    either x (inl i) = h x i
+    either x (inr e) = subst (λ (y : ℕ × Ask). asked y.0 ≡ Some y.1) (sym e) new
+
+    known : (b : Bool) → KeysAsked asked (if b then at_each (only_at (server_of ask) (cl.take_ask op ask)) t else cl.answered_at_once t op answers.NoFile).state.operations
+    known true = λ x i. either x (ask_these (server_of ask) op ask t.state.associations (with_associations [] t) x i)
+    known false = h
+
+    full : (b : Bool) → KeysAsked asked (if b then cl.answered_at_once t op answers.OpsFull else cl.app_known t op ask).state.operations
+    full true = h
+    full false = known (cl.is_configured t.state (server_of ask))
+input_asked n now asked (inputs.Control m) t told new f k h = go (m.header.to == t.state.id.0)
+  where
+    go : (b : Bool) → KeysAsked asked (if b then at_each (cr.receive_at now m.header m.body) t else t).state.operations
+    go true = from_asked asked t.state.operations (at_each (cr.receive_at now m.header m.body) t).state.operations (each_from n (cr.receive_at now m.header m.body) (hear_places n now m.header m.body told) t f k) h
+    go false = h
+input_asked n now asked (inputs.Done number r) t told new f k h = from_asked asked t.state.operations (at_each (cl.finish number r) t).state.operations (each_from n (cl.finish number r) (finish_places n now number r) t f k) h
+
+-- The whole step.
+module _ (past : List Step) (w : World) (c : ClientId) (old site : ClientSite) (input : ClientInput) (now : Stamp) (there : site_of w c ≡ Some old) (same : old.node ≡ site.node) (starts : old.starts ≡ site.starts) (h : LivesHold w) where
+  abbrev s : ClientState
+  s = site.node.state
+
+  abbrev t : ClientTurn
+  t = cl.losses (client_turn s []) now
+
+  abbrev u : ClientTurn
+  u = cl.take_input t now input
+
+  abbrev v : ClientTurn
+  v = cl.work u now input
+
+  abbrev after : ClientSite
+  after = ev.at_node (cl.node_turn site.node v).node site
+
+  abbrev sc : WorldTurn
+  sc = ev.quiet (ev.with_site c after w)
+
+  module _ (size : ℕ) (own : site_of sc.world c ≡ Some after) (count : length sc.world.servers ≡ size) (holds : CommandsStand w.log w.commands w.disks.commands) (placed : Placed size v.out) (told : InputTold past sc c site.starts input) (cared : NodeCared past w.commands w.log c old)
+      (latest : (a : Association) → Has a old.node.state.associations → LatestOwn c w.log a) (asked : ℕ → Option Ask) (gone : GoneAll (Ungone c (life_with after.node.state)) w.log) (tells : InputTells size input) (new : AsksIt asked input)
+      (fit : (b : Association) → Has b s.associations → Fit b) (knows : (b : Association) → Has b s.associations → Knows size b.server b.store.extents) (known : KeysAsked asked s.operations) where
+    lost : AllPlaced size (client_turn s []) t
+    unfolding cl.losses
+    lost = each_place size (cl.lose now) (only_left size (cl.lose now) (lose_places size now)) (client_turn s []) fit knows
+
+    fits_t : (b : Association) → Has b t.state.associations → Fit b
+    fits_t = fit_t past w c old site input now there same starts h
+
+    fits_u : (b : Association) → Has b u.state.associations → Fit b
+    fits_u = fit_u past w c old site input now there same starts h
+
+    taken : AllPlaced size t u
+    taken = input_places size now input t tells fits_t lost.knows
+
+    asked_t : KeysAsked asked t.state.operations
+    unfolding cl.losses
+    asked_t = from_asked asked s.operations t.state.operations (each_from size (cl.lose now) (lose_places size now) (client_turn s []) fit knows) known
+
+    asked_u : KeysAsked asked u.state.operations
+    asked_u = input_asked size now asked input t tells new fits_t lost.knows asked_t
+
+    pub step_asked : KeysAsked asked v.state.operations
+    unfolding cl.work
+    step_asked =
+        from_asked asked u.state.operations v.state.operations (each_from size (cp.passes now (cl.is_tick input)) (passes_place size now (cl.is_tick input)) u fits_u taken.knows) asked_u
+
+    said_u : Hards asked c (λ r. life_with after.node.state r) s sc u.out
+    unfolding cl.losses
+    said_u = quiet_hards asked c (λ r. life_with after.node.state r) s [] u.out sc tt (since_then Unhard [] t.out u.out (each_unhard (cl.lose now) (h_lose now) (client_turn s [])) (input_unhard now input t))
+
+    pub step_said : Hards asked c (λ r. life_with after.node.state r) s sc v.out
+    unfolding cl.work
+    step_said =
+        each_said_at past size c s sc after own count holds now asked gone (cl.is_tick input) u taken.knows placed
+        (input_all past w c old site input now there same starts h size own count holds placed told cared latest input told
+        (placed_grown size u.out v.out (work_grows past w c old site input now there same starts h size own count holds placed told cared latest) placed)) asked_u said_u

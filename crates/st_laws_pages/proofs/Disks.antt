@@ -1,0 +1,14 @@
+pub mod Clients
+pub mod Data
+pub mod Effects
+pub mod Folds
+pub mod Found
+pub mod Law
+pub mod Moves
+pub mod Servers
+pub mod Steps
+pub mod Told
+pub mod Walk
+pub mod Whole
+pub mod World
+pub mod Writer

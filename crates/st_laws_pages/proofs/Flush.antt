@@ -1,0 +1,10 @@
+pub mod Adding
+pub mod Caring
+pub mod Covering
+pub mod Ending
+pub mod FlushSteps
+pub mod Flushing
+pub mod Growing
+pub mod Keeping
+pub mod Quiet
+pub mod Reporting

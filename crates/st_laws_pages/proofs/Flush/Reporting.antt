@@ -1,0 +1,20 @@
+-- What is owed as a disk command ends follows from its report and its effect.
+use Rattle.std.proofs.Common.{◌≡◌, ℕ, ◌+◌, ◌≤◌, ◌<◌, ◌⊎◌, true, List, [], ◌∷◌, Some, sym, ◌∙◌, subst, arith, if◌then◌else◌}
+use Rattle.std.specs.List.{list_any}
+use Rattle.st_base.specs.declared.disk.Command.TheVariants as commands
+use Rattle.st_base.specs.declared.ids.ClientId.{ClientId}
+use Rattle.st_rules.specs.declared.client.IoKind.TheVariants as io
+use Rattle.st_rules.specs.declared.client.PageCommand.{PageCommand}
+use Rattle.st_rules.specs.declared.log.LogEntry.{LogEntry}
+use Rattle.st_rules.specs.declared.world.IssuedCommand.{IssuedCommand}
+use Rattle.st_rules.specs.ClientState.{Association}
+use Rattle.st_rules.specs.World.{numbered}
+use Rattle.st_rules.specs.Safety.{Step, reports_failure}
+use Rattle.st_lemmas.specs.Lists.{Has}
+use Rattle.st_laws_pages.specs.Flush.Flush.{IsIts, Cared}
+use Rattle.st_laws_pages.proofs.Flush.Ending.{FailureOwed}
+
+-- The write of a number that was reported failed is the last write of its page.
+pub failure_owed : (past : List Step) (cs : List IssuedCommand) (es : List LogEntry) (c : ClientId) (starts next : ℕ) (a : Association) (k : ℕ) (x : IssuedCommand) → numbered cs k ≡ Some x → list_any (reports_failure k) past ≡ true → Cared past cs es c starts next a →
+    (pc : PageCommand) → Has pc a.store.commands → IsIts c starts pc.number x → (v : ℕ) → pc.kind ≡ io.Write v → FailureOwed past cs c a pc
+failure_owed past cs es c starts next a k x j told h pc i s v q = subst (λ n. list_any (reports_failure n) past ≡ true) (sym ((h.writes pc i v q).world k x j s).last) told

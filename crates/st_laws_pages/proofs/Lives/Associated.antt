@@ -1,0 +1,177 @@
+-- A fact of associations stands in every run, where each rule of a client keeps it and an association without a session has it.
+use Rattle.std.proofs.Common.{◌≡◌, ◌≢◌, ◌⊎◌, ℕ, Bool, true, false, List, [], ◌∷◌, ◌++◌, ◌==◌, Option, Some, None, Result, Ok, Err, refl, sym, ap, ◌∙◌, subst, inl, inr, if◌then◌else◌}
+use Rattle.std.specs.Prelude.{map}
+use Rattle.st_base.specs.declared.config.Config.{Config}
+use Rattle.st_base.specs.declared.ids.ClientId.{ClientId}
+use Rattle.st_base.specs.declared.ids.NodeId.TheVariants as nodes
+use Rattle.st_base.specs.declared.ids.Stamp.{Stamp}
+use Rattle.st_messages.specs.declared.answer.AppAnswer.TheVariants as answers
+use Rattle.st_messages.specs.declared.event.Event.{Event}
+use Rattle.st_rules.specs.declared.client.ClientInput.{ClientInput}
+use Rattle.st_rules.specs.declared.client.ClientInput.TheVariants as inputs
+use Rattle.st_rules.specs.declared.observation.WorldRefusal.{WorldRefusal}
+use Rattle.st_rules.specs.Admissible as adm
+use Rattle.st_rules.specs.Client as cl
+use Rattle.st_rules.specs.ClientPasses as cp
+use Rattle.st_rules.specs.ClientReplies as cr
+use Rattle.st_rules.specs.ClientState.{Association, ClientState, ClientTurn, Turn, at_each, at_these, client_turn, enter, leave, only_at, server_of, with_associations}
+use Rattle.st_rules.specs.Events as ev
+use Rattle.st_rules.specs.Events.{WorldTurn, counted, world_step}
+use Rattle.st_rules.specs.Extents.{numbers}
+use Rattle.st_rules.specs.History.{Traced, traced, traced_after}
+use Rattle.st_rules.specs.Safety as safety
+use Rattle.st_rules.specs.Safety.{Promise, Step, Throughout, step, steps}
+use Rattle.st_rules.specs.World as world
+use Rattle.st_rules.specs.World.{World, ClientSite, clock_of, fresh_world, numbered, site_of, with_numbered}
+use Rattle.st_lemmas.specs.Lists.{Has}
+use Rattle.st_lemmas.proofs.Lookups.{some_is}
+use Rattle.st_lemmas.proofs.Numbers.{numbered_below, numbered_other, numbered_own}
+use Rattle.st_lemmas.proofs.Steps.{step_happens}
+use Rattle.st_lemmas.proofs.Tables.{has_append, has_map, same_or_not}
+use Rattle.st_laws_pages.proofs.Flush.Adding.{after_clients}
+use Rattle.st_laws_pages.proofs.Lives.Each.{Cases, SteppedNode, each_event}
+use Rattle.st_laws_pages.proofs.Lives.Lasting.{flush_parts}
+use Rattle.st_laws_pages.proofs.Causes.Law.{site_is}
+use Rattle.st_messages.specs.declared.ask.Ask.{Ask}
+use Rattle.st_messages.specs.declared.message.Body.{Body}
+use Rattle.st_messages.specs.declared.message.Header.{Header}
+use Rattle.st_base.specs.declared.disk.Tag.{Tag}
+use Rattle.st_base.specs.declared.ids.ServerId.{ServerId}
+
+module _ (F : Association → Type 0) (empty : (a : Association) → a.session ≡ None → F a)
+    (k_take : (s : ServerId) (op : ℕ) (ask : Ask) (t : Turn) → F t.here → F (only_at s (cl.take_ask op ask) t).here)
+    (k_hear : (now : Stamp) (h : Header) (b : Body) (t : Turn) → F t.here → F (cr.receive_at now h b t).here)
+    (k_finish : (number : ℕ) (r : Option (Option (Tag × List ℕ))) (t : Turn) → F t.here → F (cl.finish number r t).here)
+    (k_lose : (now : Stamp) (t : Turn) → F t.here → F (cl.lose now t).here)
+    (k_passes : (now : Stamp) (tick : Bool) (t : Turn) → F t.here → F (cp.passes now tick t).here) where
+  -- of each association of a client
+  abbrev pub EachHas : List Association → Type 0
+  EachHas xs = (a : Association) → Has a xs → F a
+
+  -- of each client of a world
+  abbrev pub AllHave : World → Type 0
+  AllHave w = (c : ClientId) (site : ClientSite) → site_of w c ≡ Some site → EachHas site.node.state.associations
+
+  -- behind a step
+  abbrev pub HaveAfter : Promise
+  HaveAfter past x = AllHave x.after.world
+
+  abbrev K : Turn → Turn → Type 0
+  K t u = F t.here → F u.here
+
+  these_keep : (rule : Turn → Turn) → ((t : Turn) → K t (rule t)) → (al : List Association) (t : ClientTurn) → EachHas t.state.associations → EachHas al → EachHas (at_these rule al t).state.associations
+  unfolding at_these
+  these_keep rule k [] t h g = h
+  these_keep rule k (a ∷ al) t h g = these_keep rule k al (leave t (rule (enter t a))) (λ b i. one b (has_append t.state.associations ((rule (enter t a)).here ∷ []) b i)) (λ b i. g b (inr i))
+    where
+      one : (b : Association) → Has b t.state.associations ⊎ Has b ((rule (enter t a)).here ∷ []) → F b
+      one b (inl i) = h b i
+      one b (inr (inl e)) = subst F (sym e) (k (enter t a) (g a (inl refl)))
+      one b (inr (inr i)) = absurd i
+
+  each_keeps : (rule : Turn → Turn) → ((t : Turn) → K t (rule t)) → (t : ClientTurn) → EachHas t.state.associations → EachHas (at_each rule t).state.associations
+  unfolding at_each
+  each_keeps rule k t h = these_keep rule k t.state.associations (with_associations [] t) (λ a i. absurd i) h
+
+  input_keeps : (t : ClientTurn) (now : Stamp) (input : ClientInput) → EachHas t.state.associations → EachHas (cl.take_input t now input).state.associations
+  unfolding cl.take_input cl.app cl.app_known cl.done cr.receive cr.receive_here
+  input_keeps t now inputs.Tick h = h
+  input_keeps t now (inputs.App op ask) h = full (cl.is_full t.state)
+    where
+      known : (b : Bool) → EachHas (if b then at_each (only_at (server_of ask) (cl.take_ask op ask)) t else cl.answered_at_once t op answers.NoFile).state.associations
+      known true = each_keeps (only_at (server_of ask) (cl.take_ask op ask)) (k_take (server_of ask) op ask) t h
+      known false = h
+
+      full : (b : Bool) → EachHas (if b then cl.answered_at_once t op answers.OpsFull else cl.app_known t op ask).state.associations
+      full true = h
+      full false = known (cl.is_configured t.state (server_of ask))
+  input_keeps t now (inputs.Control m) h = go (m.header.to == t.state.id.0)
+    where
+      go : (b : Bool) → EachHas (if b then at_each (cr.receive_at now m.header m.body) t else t).state.associations
+      go true = each_keeps (cr.receive_at now m.header m.body) (k_hear now m.header m.body) t h
+      go false = h
+  input_keeps t now (inputs.Done number result) h = each_keeps (cl.finish number result) (k_finish number result) t h
+
+  pub step_keeps : (s : ClientState) (now : Stamp) (input : ClientInput) → EachHas s.associations → EachHas (cl.client_step s now input).state.associations
+  unfolding cl.client_step cl.work cl.losses
+  step_keeps s now input h =
+      let t = cl.losses (client_turn s []) now in
+      each_keeps (cp.passes now (cl.is_tick input)) (k_passes now (cl.is_tick input)) (cl.take_input t now input) (input_keeps t now input (each_keeps (cl.lose now) (k_lose now) (client_turn s []) h))
+
+  all_empty : {A : Type 0} (f : A → Association) → ((x : A) → (f x).session ≡ None) → (xs : List A) → EachHas (map f xs)
+  all_empty f n xs a i = let z = has_map f xs a i in subst F (sym z.2) (empty (f z.0) (n z.0))
+
+  -- One client is another.
+  replaced : (w v : World) (c : ClientId) (old new : ClientSite) → site_of w c ≡ Some old → v.clients ≡ with_numbered c.0 new w.clients → EachHas new.node.state.associations → AllHave w → AllHave v
+  replaced w v c old new there cs n h d site e = go (same_or_not d.0 c.0)
+    where
+      go : (d.0 ≡ c.0) ⊎ (d.0 ≢ c.0) → EachHas site.node.state.associations
+      go (inl i) =
+          let s : new ≡ site = some_is (sym (numbered_own w.clients c.0 new old there) ∙ ap (numbered (with_numbered c.0 new w.clients)) (sym i) ∙ ap (λ zs. numbered zs d.0) (sym cs) ∙ e) in
+          subst (λ (z : ClientSite). EachHas z.node.state.associations) s n
+      go (inr m) = h d site (sym (numbered_other w.clients c.0 d.0 new (numbered_below w.clients c.0 old there).0 m) ∙ ap (λ zs. numbered zs d.0) (sym cs) ∙ e)
+
+  took : (w : World) (c : ClientId) (input : ClientInput) (old site : ClientSite) → site_of w c ≡ Some old → old.node ≡ site.node → AllHave w → AllHave (ev.client_took w c site (Ok (SteppedNode w c site input))).world
+  unfolding ev.client_took
+  took w c input old site there same h =
+      replaced w (ev.flushes c t.node.state (world.all_servers u) u) c old after there ((flush_parts c t.node.state (world.all_servers u) u).clients ∙ after_clients c site.node.state t.out (ev.quiet (ev.with_site c after w)))
+      (step_keeps site.node.state (clock_of w (nodes.Client c)) input (subst (λ (n : cl.ClientNode). EachHas n.state.associations) same (h c old there))) h
+    where
+      t : cl.NodeTurn
+      t = SteppedNode w c site input
+
+      after : ClientSite
+      after = ev.at_node t.node site
+
+      u : World
+      u = (ev.client_says_all c site.node.state t.out (ev.quiet (ev.with_site c after w))).world
+
+  crashed : (w : World) (c : ClientId) (site : ClientSite) → site_of w c ≡ Some site → AllHave w → AllHave (ev.crashes_client w c (Some site)).world
+  unfolding ev.crashes_client ev.marks cl.crash
+  crashed w c site there h = replaced w (ev.crashes_client w c (Some site)).world c site (ev.stopped_site site) there refl (all_empty cl.crashed_association (λ a. refl) site.node.state.associations) h
+
+  started : (w : World) (c : ClientId) (site : ClientSite) → site_of w c ≡ Some site → AllHave w → AllHave (ev.starts_client w c (Some site))
+  unfolding ev.starts_client cl.start
+  started w c site there h = replaced w (ev.starts_client w c (Some site)) c site (ev.started_site site) there refl (all_empty cl.started_association (λ a. refl) site.node.state.associations) h
+
+  advanced : (w : World) (steps : List ℕ) → AllHave w → AllHave (ev.advances w steps).world
+  unfolding ev.advances ev.marks
+  advanced w steps h = h
+
+  cases : Cases AllHave
+  cases =
+      record {
+        besides = λ w n s d t h. h;
+        cut = λ w f p h. h;
+        hard = λ w x h. h;
+        client = λ w c input old site there same r h. took w c input old site there same h;
+        advance = advanced;
+        crash = λ w c site there r h. crashed w c site there h;
+        start = λ w c site there r h. started w c site there h;
+      }
+
+  -- Every event.
+  pub event_keeps : (w : World) (e : Event) (sc : WorldTurn) → world_step w e ≡ Ok sc → AllHave w → AllHave sc.world
+  unfolding adm.refusal adm.refused_delivery adm.clocks_refused adm.flush_missed adm.refused_effect adm.refused_report adm.missed_by world.node_of_place
+  event_keeps w e sc is h = let z = step_happens w e sc is in subst (λ (s : WorldTurn). AllHave s.world) (sym z.1) (all w e z.0 h)
+    where
+      all : (w : World) (e : Event) → adm.refusal w e ≡ None → AllHave w → AllHave (ev.happens (counted w) e).world
+      all w e r h = each_event AllHave cases (counted w) e r h
+
+  -- Every run.
+  run : (es : List Event) (past : List Step) (t : Traced) → AllHave t.world → Throughout HaveAfter past (steps es t)
+  unfolding steps safety.steps_on Throughout
+  run [] past t h = tt
+  run (e ∷ es) past t h = go (world_step t.world e) refl (run es)
+    where
+      go : (r : Result WorldTurn WorldRefusal) → world_step t.world e ≡ r → ((past : List Step) (t : Traced) → AllHave t.world → Throughout HaveAfter past (steps es t)) → Throughout HaveAfter past (safety.steps_on (steps es) t e r)
+      go (Err r) q f = tt
+      go (Ok sc) q f = let z = event_keeps t.world e sc q h in (z, f (past ++ step t e sc ∷ []) (traced_after e t sc) z)
+
+  pub fresh_have : (k : Config) (clients servers d b form : ℕ) → AllHave (fresh_world k clients servers d b form)
+  unfolding fresh_world cl.fresh_client
+  fresh_have k clients servers d b form c site e =
+      subst (λ (s : ClientSite). EachHas s.node.state.associations) (sym (site_is k clients servers c.0 site e).0) (all_empty cl.fresh_association (λ a. refl) (numbers 1 servers))
+
+  pub law : (k : Config) (clients servers disks blocks form : ℕ) (es : List Event) → Throughout HaveAfter [] (steps es (traced (fresh_world k clients servers disks blocks form)))
+  law k clients servers d b form es = run es [] (traced (fresh_world k clients servers d b form)) (fresh_have k clients servers d b form)

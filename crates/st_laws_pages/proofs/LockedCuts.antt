@@ -1,0 +1,3 @@
+pub mod CutLaw
+pub mod RowWalk
+pub mod Rows

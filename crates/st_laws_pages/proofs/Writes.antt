@@ -1,0 +1,4 @@
+pub mod Joining
+pub mod Law
+pub mod Listing
+pub mod Walking

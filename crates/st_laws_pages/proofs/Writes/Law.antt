@@ -1,0 +1,342 @@
+-- Open writes of present lives are outstanding at their clients: behind every event, and in every run.
+use Rattle.std.proofs.Common.{◌≡◌, ◌≢◌, ℕ, zero, suc, ◌+◌, ◌⊎◌, Bool, true, false, ◌==◌, List, [], ◌∷◌, ◌++◌, Option, Some, None, Ok, Err, refl, sym, ap, ◌∙◌, subst, inl, inr, arith, if◌then◌else◌}
+use Rattle.std.specs.Prelude.{Result, length, set}
+use Rattle.std.proofs.lemmas.Bool.{eqb-true}
+use Rattle.st_base.specs.declared.config.Config.{Config}
+use Rattle.st_base.specs.declared.disk.Command.{Command}
+use Rattle.st_base.specs.declared.disk.Command.TheVariants as commands
+use Rattle.st_base.specs.declared.ids.ClientId.{ClientId}
+use Rattle.st_base.specs.declared.ids.Life.{Life}
+use Rattle.st_base.specs.declared.ids.NodeId.{NodeId}
+use Rattle.st_base.specs.declared.ids.NodeId.TheVariants as nodes
+use Rattle.st_base.specs.declared.ids.ServerId.{ServerId}
+use Rattle.st_messages.specs.declared.event.Event.{Event}
+use Rattle.st_messages.specs.declared.event.Event.TheVariants as events
+use Rattle.st_messages.specs.declared.output.Note.{Note}
+use Rattle.st_messages.specs.declared.output.Note.TheVariants as notes
+use Rattle.st_messages.specs.declared.output.Output.{Output}
+use Rattle.st_messages.specs.declared.output.Output.TheVariants as outputs
+use Rattle.st_rules.specs.declared.client.ClientInput.{ClientInput}
+use Rattle.st_rules.specs.declared.client.ClientInput.TheVariants as inputs
+use Rattle.st_rules.specs.declared.disks.CommandRefusal.{CommandRefusal}
+use Rattle.st_rules.specs.declared.disks.DiskCommand.{DiskCommand}
+use Rattle.st_rules.specs.declared.disks.Report.{Report}
+use Rattle.st_rules.specs.declared.disks.Report.TheVariants as reports
+use Rattle.st_rules.specs.declared.input.ServerInput.{ServerInput}
+use Rattle.st_rules.specs.declared.input.ServerInput.TheVariants as serving
+use Rattle.st_rules.specs.declared.node.StepRefusal.{StepRefusal}
+use Rattle.st_rules.specs.declared.node.StepRefusal.TheVariants.{Crashed}
+use Rattle.st_rules.specs.declared.observation.WorldRefusal.{WorldRefusal}
+use Rattle.st_rules.specs.declared.world.IssuedCommand.{IssuedCommand}
+use Rattle.st_rules.specs.declared.world.SentMessage.{SentMessage}
+use Rattle.st_rules.specs.Admissible as adm
+use Rattle.st_rules.specs.Client as cl
+use Rattle.st_rules.specs.ClientState.{Association}
+use Rattle.st_rules.specs.Disks as disks
+use Rattle.st_rules.specs.Disks.{Disks}
+use Rattle.st_rules.specs.Events as ev
+use Rattle.st_rules.specs.Events.{WorldTurn, counted, world_step}
+use Rattle.st_rules.specs.FlatLog as log
+use Rattle.st_rules.specs.History.{Traced, traced, traced_after}
+use Rattle.st_rules.specs.Safety as safety
+use Rattle.st_rules.specs.Safety.{Step, Throughout, step, steps}
+use Rattle.st_rules.specs.Server as server
+use Rattle.st_rules.specs.Server.{ServerNode}
+use Rattle.st_rules.specs.World as world
+use Rattle.st_rules.specs.World.{World, ClientSite, clock_of, fresh_world, issued_of, node_of, numbered, site_of, with_numbered}
+use Rattle.st_lemmas.specs.Lists.{Has}
+use Rattle.st_lemmas.proofs.Lookups.{some_is}
+use Rattle.st_lemmas.proofs.Numbers.{numbered_below, numbered_has, numbered_other, numbered_own, set_length, set_own}
+use Rattle.st_lemmas.proofs.Steps.{step_happens}
+use Rattle.st_lemmas.proofs.Tables.{and_true, has_map, same_or_not}
+use Rattle.st_laws_pages.specs.Flush.Flush.{WriteCared}
+use Rattle.st_laws_steps.specs.Lives.Lives.{LivesHold}
+use Rattle.st_laws_steps.specs.Client.Losses.{Fit}
+use Rattle.st_laws_pages.proofs.Disks.Effects.{report_finds, report_is, reported_world}
+use Rattle.st_laws_pages.proofs.Disks.Steps.{counted_fates}
+use Rattle.st_laws_pages.proofs.Disks.World.{at_set}
+use Rattle.st_laws_pages.specs.Asks.Law.{InEveryRun, PlacesAfter, PlacesHold}
+use Rattle.st_laws_pages.proofs.Asks.Law.{places_law}
+use Rattle.st_laws_pages.proofs.Asks.Places.{Knows}
+use Rattle.st_laws_pages.proofs.Causes.Events.{counted_both}
+use Rattle.st_laws_pages.proofs.Causes.FlushSteps.{BothHold}
+use Rattle.st_laws_pages.proofs.Causes.Law.{Stand, fresh_places, fresh_stand, one_step}
+use Rattle.st_laws_pages.proofs.Causes.Placed.{InputTells, PlacesAt, places_at, step_placed}
+use Rattle.st_laws_pages.specs.Writes.Writes.{OpenAfter, OpenHold, WritesOnce}
+use Rattle.st_laws_pages.proofs.Writes.Joining.{EndsReported, client_open, life_low}
+use Rattle.st_laws_pages.proofs.Writes.Walking.{EndedBy}
+
+-- Each command that is open was open before, and the same.
+abbrev pub OpensFrom : List DiskCommand → List DiskCommand → Type 0
+OpensFrom ds es = (k : ℕ) (d : DiskCommand) → disks.command_at es k ≡ Some d → d.report ≡ reports.Open → (e : DiskCommand) × (disks.command_at ds k ≡ Some e) × (e.report ≡ reports.Open) × (d.what ≡ e.what)
+
+pub opens_same : (ds : List DiskCommand) → OpensFrom ds ds
+opens_same ds k d e r = (d, e, r, refl)
+
+pub opens_set : (ds : List DiskCommand) (n : ℕ) (c d : DiskCommand) → disks.command_at ds (suc n) ≡ Some c → (d.report ≡ reports.Open → c.report ≡ reports.Open) → d.what ≡ c.what → OpensFrom ds (set ds n d)
+opens_set ds n c d is r w k y e o = go (at_set ds n k d y e)
+  where
+    go : ((k ≡ suc n) × (y ≡ d)) ⊎ ((k ≢ suc n) × (disks.command_at ds k ≡ Some y)) → (x : DiskCommand) × (disks.command_at ds k ≡ Some x) × (x.report ≡ reports.Open) × (y.what ≡ x.what)
+    go (inl q) = (c, ap (disks.command_at ds) q.0 ∙ is, r (ap (λ (z : DiskCommand). z.report) (sym q.1) ∙ o), ap (λ (z : DiskCommand). z.what) q.1 ∙ w)
+    go (inr q) = (y, q.1, o, refl)
+
+moved : (w v : World) → v.clients ≡ w.clients → v.commands ≡ w.commands → OpensFrom w.disks.commands v.disks.commands → OpenHold w → OpenHold v
+moved w v cs xs f h c site e r a i k x d at tag bytes is js wh op cx sx lx =
+    let z = f k d js op in
+    h c site (ap (λ zs. numbered zs c.0) (sym cs) ∙ e) r a i k x z.0 at tag bytes (ap (λ zs. numbered zs k) (sym xs) ∙ is) z.1 (sym z.3 ∙ wh) z.2 cx sx lx
+
+-- an effect
+pub effect_opens : (d : Disks) (n : ℕ) → OpensFrom d.commands (ev.disks_after d (disks.effect d n)).commands
+unfolding disks.effect disks.effect_at disks.effect_reported disks.effect_once disks.effect_of
+effect_opens d zero = opens_same d.commands
+effect_opens d (suc n) = at (disks.command d (suc n)) refl
+  where
+    what : (c : DiskCommand) (w : Command) → disks.command d (suc n) ≡ Some c → OpensFrom d.commands (disks.effect_of d (suc n) c w).commands
+    what c (commands.Read b) e = opens_set d.commands n c (disks.sampled (disks.block d b) c) e (λ z. z) refl
+    what c (commands.Write b tag bytes) e = opens_set d.commands n c (disks.effected c) e (λ z. z) refl
+
+    once : (c : DiskCommand) (b : Bool) → disks.command d (suc n) ≡ Some c → OpensFrom d.commands (ev.disks_after d (if b then Err (Rattle.st_rules.specs.declared.disks.CommandRefusal.TheVariants.Twice (suc n)) else Ok (disks.effect_of d (suc n) c c.what))).commands
+    once c true e = opens_same d.commands
+    once c false e = what c c.what e
+
+    reported : (c : DiskCommand) (r : Report) → disks.command d (suc n) ≡ Some c → OpensFrom d.commands (ev.disks_after d (disks.effect_reported d (suc n) c r)).commands
+    reported c reports.Open e = once c c.effected e
+    reported c reports.Succeeded e = opens_same d.commands
+    reported c reports.Failed e = opens_same d.commands
+
+    at : (o : Option DiskCommand) → disks.command d (suc n) ≡ o → OpensFrom d.commands (ev.disks_after d (disks.effect_at d (suc n) o)).commands
+    at None e = opens_same d.commands
+    at (Some c) e = reported c c.report e
+
+-- A client that takes an input.
+takes : (past : List Step) (w : World) (c : ClientId) (input : ClientInput) (old site : ClientSite) → site_of w c ≡ Some old → old.node ≡ site.node → old.starts ≡ site.starts → LivesHold w → PlacesAt (length w.servers) w → length w.commands ≡ length w.disks.commands →
+    InputTells (length w.servers) input → (site.node.running ≡ true → (a : Association) → Has a old.node.state.associations → WritesOnce a) → (site.node.running ≡ true → EndsReported w c old input) → OpenHold w → OpenHold (ev.client_takes w c input site).world
+unfolding cl.node_step ev.client_takes ev.client_took
+takes past w c input old site there same starts l pl n tells once ends h = go site.node.running refl
+  where
+    t : cl.NodeTurn
+    t = cl.node_turn site.node (cl.client_step site.node.state (clock_of w (nodes.Client c)) input)
+
+    fit : (b : Association) → Has b site.node.state.associations → Fit b
+    fit = subst (λ (m : cl.ClientNode). (b : Association) → Has b m.state.associations → Fit b) same (l.lives.sites c old there).fit
+
+    knows : (b : Association) → Has b site.node.state.associations → Knows (length w.servers) b.server b.store.extents
+    knows = subst (λ (m : cl.ClientNode). (b : Association) → Has b m.state.associations → Knows (length w.servers) b.server b.store.extents) same (pl.known c old there)
+
+    go : (b : Bool) → site.node.running ≡ b → OpenHold (ev.client_took w c site (if b then Ok t else Err Crashed)).world
+    go true r = client_open w c old site input there same starts r l n (step_placed (length w.servers) c site.node.state (clock_of w (nodes.Client c)) input tells fit knows) (once r) (ends r) h
+    go false r = h
+
+-- A server's step.
+server_one : (s : ServerId) (o : Output) (sc : WorldTurn) → OpenHold sc.world → OpenHold (ev.server_says sc s o).world
+unfolding ev.server_says ev.server_notes ev.cuts ev.sends log.cut
+server_one s (outputs.Send m) sc h = h
+server_one s (outputs.Note n) sc h = noted n
+  where
+    noted : (n : Note) → OpenHold (ev.server_notes sc s n).world
+    noted (notes.CutDone f p) = h
+    noted (notes.Stolen c life) = h
+    noted n = h
+server_one s o sc h = h
+
+server_says : (s : ServerId) (os : List Output) (sc : WorldTurn) → OpenHold sc.world → OpenHold (ev.server_says_all s os sc).world
+unfolding ev.server_says_all
+server_says s [] sc h = h
+server_says s (o ∷ os) sc h = server_says s os (ev.server_says sc s o) (server_one s o sc h)
+
+at_server : (w : World) (s : ServerId) (input : ServerInput) (o : Option ServerNode) → OpenHold w → OpenHold (ev.at_server w s input o).world
+unfolding ev.at_server ev.server_takes ev.server_took
+at_server w s input None h = h
+at_server w s input (Some node) h = go (server.node_step node (clock_of w (nodes.Server s)) input)
+  where
+    go : (r : Result server.NodeTurn StepRefusal) → OpenHold (ev.server_took w s r).world
+    go (Err e) = h
+    go (Ok t) = server_says s t.out (ev.quiet (ev.with_node s t.node w)) h
+
+-- A crash of a client, and its start.
+own_or_other : (w : World) (c d : ClientId) (site new y : ClientSite) → site_of w c ≡ Some site → numbered (with_numbered c.0 new w.clients) d.0 ≡ Some y → ((d ≡ c) × (y ≡ new)) ⊎ (numbered w.clients d.0 ≡ Some y)
+own_or_other w c d site new y there e = go (same_or_not d.0 c.0)
+  where
+    go : (d.0 ≡ c.0) ⊎ (d.0 ≢ c.0) → ((d ≡ c) × (y ≡ new)) ⊎ (numbered w.clients d.0 ≡ Some y)
+    go (inl q) = inl (ap (λ n. record { 0 = n }) q, some_is (sym e ∙ ap (numbered (with_numbered c.0 new w.clients)) q ∙ numbered_own w.clients c.0 new site there))
+    go (inr n) = inr (sym (numbered_other w.clients c.0 d.0 new (numbered_below w.clients c.0 site there).0 n) ∙ e)
+
+crashed : (w : World) (c : ClientId) (site : ClientSite) → site_of w c ≡ Some site → OpenHold w → OpenHold (ev.crashes_client w c (Some site)).world
+unfolding ev.crashes_client ev.marks cl.crash
+crashed w c site there h d y e r a i = go (own_or_other w c d site (ev.stopped_site site) y there e)
+  where
+    no : ◌≡◌ {A = Bool} false true → ⊥
+    no z = cc
+
+    go : ((d ≡ c) × (y ≡ ev.stopped_site site)) ⊎ (numbered w.clients d.0 ≡ Some y) → Rattle.st_laws_pages.specs.Writes.Writes.OpenListed w.commands w.disks.commands d y.starts a
+    go (inl q) = absurd (no (sym (ap (λ (z : ClientSite). z.node.running) q.1) ∙ r))
+    go (inr q) = h d y q r a i
+
+started : (w : World) (c : ClientId) (site : ClientSite) → site_of w c ≡ Some site → LivesHold w → OpenHold w → OpenHold (ev.starts_client w c (Some site))
+unfolding ev.starts_client cl.start
+started w c site there l h d y e r a i = go (own_or_other w c d site (ev.started_site site) y there e)
+  where
+    go : ((d ≡ c) × (y ≡ ev.started_site site)) ⊎ (numbered w.clients d.0 ≡ Some y) → Rattle.st_laws_pages.specs.Writes.Writes.OpenListed w.commands w.disks.commands d y.starts a
+    go (inr q) = h d y q r a i
+    go (inl q) = λ k x dc at tag bytes is js wh op cx sx lx.
+        let z = has_map cl.started_association site.node.state.associations a (subst (λ (s : ClientSite). Has a s.node.state.associations) q.1 i) in
+        let low = life_low w c site there l z.0 z.1 k x is (cx ∙ q.0) (sx ∙ ap (λ (b : Association). b.server) z.2) in
+        let next = ap (λ (b : Association). b.life.0) z.2 in
+        let same = ap (λ (v : Life). v.0) lx in absurd (omega (arith, low, next, same))
+
+-- Every event.
+module _ (past : List Step) (w : World) (l : LivesHold w) (pl : PlacesAt (length w.servers) w) (b : BothHold past w) (h : OpenHold w) where
+  none_ends : (c : ClientId) (old : ClientSite) (input : ClientInput) → ((n : ℕ) → EndedBy input n → ⊥) → EndsReported w c old input
+  none_ends c old input f k x d tag a is js op cx i ls e = f x.number e
+
+  once_at : (c : ClientId) (site : ClientSite) → site_of w c ≡ Some site → site.node.running ≡ true → (a : Association) → Has a site.node.state.associations → WritesOnce a
+  once_at c site e r a i = ((b.flush.sites c site e r).cared a i).once
+
+  at_client : (c : ClientId) (input : ClientInput) (o : Option ClientSite) → site_of w c ≡ o → InputTells (length w.servers) input → ((n : ℕ) → EndedBy input n → ⊥) → OpenHold (ev.at_client w c input o).world
+  unfolding ev.at_client
+  at_client c input None e tells f = h
+  at_client c input (Some site) e tells f = takes past w c input site site e refl refl l pl b.writes.commands.counts tells (once_at c site e) (λ r. none_ends c site input f) h
+
+  -- the end of a command
+  module _ (n : ℕ) (ok : Bool) (d : DiskCommand) (is : disks.command w.disks (suc n) ≡ Some d) where
+    abbrev v : World
+    v = reported_world w (suc n) ok d
+
+    shut : (b : Bool) → disks.report_of b ≡ reports.Open → ⊥
+    shut true e = cc
+    shut false e = cc
+
+    open_v : OpenHold v
+    open_v = moved w v refl refl (opens_set w.disks.commands n d (disks.reported ok d) is (λ e. absurd (shut ok e)) refl) h
+
+    own : disks.command v.disks (suc n) ≡ Some (disks.reported ok d)
+    own = set_own w.disks.commands n (disks.reported ok d) d is
+
+    ends : (y : IssuedCommand) (site : ClientSite) → issued_of w (suc n) ≡ Some y → site_of w y.client ≡ Some site → y.starts ≡ site.starts → site.node.running ≡ true → EndsReported v y.client site (ev.end_told v (suc n) ok y)
+    ends y site q there st r k x dc tag a xs js op cx i ls e =
+        shut ok (ap (λ (z : DiskCommand). z.report) (some_is (sym own ∙ ap (disks.command_at v.disks.commands) (sym same) ∙ js)) ∙ op)
+      where
+        cared : WriteCared w.commands w.log y.client site.starts a ls.listed.command ls.listed.version
+        cared = ((b.flush.sites y.client site there r).cared a i).writes ls.listed.command ls.listed.here ls.listed.version ls.listed.kind
+
+        same : k ≡ suc n
+        same =
+            sym (cared.world k x xs (record { client = cx; instance_ = ls.since; number_is = sym ls.listed.number_is })).last
+            ∙ (cared.world (suc n) y q (record { client = refl; instance_ = st; number_is = sym e ∙ sym ls.listed.number_is })).last
+
+    told : (o : Option IssuedCommand) → issued_of w (suc n) ≡ o → OpenHold (ev.tells v (suc n) ok o).world
+    unfolding ev.tells ev.tells_client ev.tells_site
+    told None q = open_v
+    told (Some y) q = at_site (site_of w y.client) refl
+      where
+        at : (site : ClientSite) → site_of w y.client ≡ Some site → (z : Bool) → ev.is_same_instance y site ≡ z → OpenHold (if z then ev.client_takes v y.client (ev.end_told v (suc n) ok y) site else ev.quiet v).world
+        at site s true t =
+            takes past v y.client (ev.end_told v (suc n) ok y) site site s refl refl (record { lives = l.lives; known = l.known }) (record { count = pl.count; told = pl.told; known = pl.known })
+            (b.writes.commands.counts ∙ sym (set_length w.disks.commands n (disks.reported ok d))) tt (once_at y.client site s)
+            (ends y site q s (sym (eqb-true site.starts y.starts (and_true site.node.running (site.starts == y.starts) t).1))) open_v
+        at site s false t = open_v
+
+        at_site : (s : Option ClientSite) → site_of w y.client ≡ s → OpenHold (ev.tells_client v (suc n) ok y s).world
+        at_site None s = open_v
+        at_site (Some site) s = at site s (ev.is_same_instance y site) refl
+
+  no_report : (k : ℕ) (ok : Bool) → disks.command w.disks k ≡ None → adm.refusal w (events.Report k ok) ≡ None → ⊥
+  unfolding adm.refusal adm.refused_report
+  no_report k ok e r = no (ap (adm.refused_report w k ok) (sym e) ∙ r)
+    where
+      no : adm.refused_report w k ok None ≡ None → ⊥
+      no q = cc
+
+  report_open : (k : ℕ) (ok : Bool) → adm.refusal w (events.Report k ok) ≡ None → OpenHold (ev.reports_of w k ok).world
+  report_open zero ok r = absurd (no_report zero ok refl r)
+  report_open (suc n) ok r = go (disks.command w.disks (suc n)) refl
+    where
+      go : (d : Option DiskCommand) → disks.command w.disks (suc n) ≡ d → OpenHold (ev.reports_of w (suc n) ok).world
+      go None q = absurd (no_report (suc n) ok q r)
+      go (Some d) q = subst (λ (s : WorldTurn). OpenHold s.world) (sym (report_is w (suc n) ok d (report_finds w (suc n) ok d q r))) (told n ok d q (issued_of w (suc n)) refl)
+
+  none : (n : ℕ) → ⊥ → ⊥
+  none n e = e
+
+  pub happens_open : (e : Event) → adm.refusal w e ≡ None → OpenHold (ev.happens w e).world
+  unfolding ev.happens ev.ticks ev.asks_at ev.delivers ev.delivers_to ev.loses_message ev.marks ev.effects ev.advances ev.crashes ev.crashes_client ev.crashes_server ev.starts ev.starts_client ev.starts_server
+  happens_open (events.Tick (nodes.Client c)) r = at_client c inputs.Tick (site_of w c) refl tt none
+  happens_open (events.Tick (nodes.Server s)) r = at_server w s serving.Tick (node_of w s) h
+  happens_open (events.App c ask) r = go (site_of w c) refl
+    where
+      go : (s : Option ClientSite) → site_of w c ≡ s → OpenHold (ev.asks_at w c ask s).world
+      go None e = h
+      go (Some site) e = takes past w c (inputs.App (site.asks + 1) ask) site (ev.asked_once_more site) e refl refl l pl b.writes.commands.counts tt (once_at c site e) (λ z. none_ends c site (inputs.App (site.asks + 1) ask) none) h
+  happens_open (events.Deliver k) r = go (world.message_of w k) refl
+    where
+      to : (m : SentMessage) → Has m w.net.messages → (n : NodeId) → OpenHold (ev.delivers_to w m.message n).world
+      to m i (nodes.Client c) = at_client c (inputs.Control m.message) (site_of w c) refl (pl.told m i) none
+      to m i (nodes.Server s) = at_server w s (serving.Control m.message) (node_of w s) h
+
+      go : (m : Option SentMessage) → world.message_of w k ≡ m → OpenHold (ev.delivers w m).world
+      go None e = h
+      go (Some m) e = to m (numbered_has w.net.messages k m e) (world.receiver_of m)
+  happens_open (events.Lose k) r = go (world.message_of w k)
+    where
+      go : (m : Option SentMessage) → OpenHold (ev.loses_message w k m)
+      go None = h
+      go (Some m) = h
+  happens_open (events.Cut from to) r = h
+  happens_open (events.Heal from to) r = h
+  happens_open (events.Advance steps) r = h
+  happens_open (events.Effect k) r = moved w (ev.effects w k).world refl refl (effect_opens w.disks k) h
+  happens_open (events.Report k ok) r = report_open k ok r
+  happens_open (events.Crash (nodes.Client c)) r = go (site_of w c) refl
+    where
+      go : (s : Option ClientSite) → site_of w c ≡ s → OpenHold (ev.crashes_client w c s).world
+      go None e = h
+      go (Some site) e = crashed w c site e h
+  happens_open (events.Crash (nodes.Server s)) r = go (node_of w s)
+    where
+      go : (n : Option ServerNode) → OpenHold (ev.crashes_server w s n)
+      go None = h
+      go (Some node) = h
+  happens_open (events.Start (nodes.Client c)) r = go (site_of w c) refl
+    where
+      go : (s : Option ClientSite) → site_of w c ≡ s → OpenHold (ev.starts_client w c s)
+      go None e = h
+      go (Some site) e = started w c site e l h
+  happens_open (events.Start (nodes.Server s)) r = go (node_of w s)
+    where
+      go : (n : Option ServerNode) → OpenHold (ev.starts_server w s n)
+      go None = h
+      go (Some node) = h
+
+-- One step.
+pub open_step : (past : List Step) (t : Traced) (e : Event) (sc : WorldTurn) → world_step t.world e ≡ Ok sc → PlacesHold t.world → Stand past t → OpenHold t.world → OpenHold sc.world
+unfolding adm.refusal adm.refused_delivery adm.clocks_refused adm.flush_missed adm.refused_effect adm.refused_report world.node_of_place adm.missed_by
+open_step past t e sc is places s h =
+    let z = step_happens t.world e sc is in
+    let pl = places_at t.world places in
+    subst (λ (x : WorldTurn). OpenHold x.world) (sym z.1)
+    (happens_open past (counted t.world) (counted_fates t.world s.fates).lives (record { count = pl.count; told = pl.told; known = pl.known }) (counted_both past t.world s.both) h e z.0)
+
+-- Every run.
+run : (es : List Event) (past : List Step) (t : Traced) → PlacesHold t.world → Stand past t → OpenHold t.world → Throughout PlacesAfter past (steps es t) → Throughout OpenAfter past (steps es t)
+unfolding steps safety.steps_on Throughout
+run [] past t pl s h o = tt
+run (e ∷ es) past t pl s h o = go (world_step t.world e) refl o (run es)
+  where
+    go : (r : Result WorldTurn WorldRefusal) → world_step t.world e ≡ r → Throughout PlacesAfter past (safety.steps_on (steps es) t e r) →
+        ((past : List Step) (t : Traced) → PlacesHold t.world → Stand past t → OpenHold t.world → Throughout PlacesAfter past (steps es t) → Throughout OpenAfter past (steps es t)) → Throughout OpenAfter past (safety.steps_on (steps es) t e r)
+    go (Err r) q o f = tt
+    go (Ok sc) q o f =
+        let z = open_step past t e sc q pl s h in
+        (z, f (past ++ step t e sc ∷ []) (traced_after e t sc) o.0 (one_step past t e sc q pl s).stand z o.1)
+
+pub fresh_open : (k : Config) (clients servers d b form : ℕ) → OpenHold (fresh_world k clients servers d b form)
+unfolding fresh_world
+fresh_open k clients servers d b form c site e r a i j x dc at tag bytes is js wh op cx sx lx = absurd (none j x is)
+  where
+    none : (j : ℕ) (x : IssuedCommand) → numbered {A = IssuedCommand} [] j ≡ Some x → ⊥
+    none zero x e = cc
+    none (suc j) x e = cc
+
+pub law : InEveryRun OpenAfter
+law k clients servers d b form es head =
+    run es [] (traced (fresh_world k clients servers d b form)) (fresh_places k clients servers d b form) (fresh_stand k clients servers d b form) (fresh_open k clients servers d b form) (places_law k clients servers d b form es head)

@@ -1,0 +1,59 @@
+-- Write commands that are not reported are outstanding at the clients that submitted them.
+use Rattle.std.specs.Prelude.{◌≡◌, ℕ, true, List, Some}
+use Rattle.st_base.specs.declared.disk.BlockAt.{BlockAt}
+use Rattle.st_base.specs.declared.disk.Command.TheVariants as commands
+use Rattle.st_base.specs.declared.disk.Tag.{Tag}
+use Rattle.st_base.specs.declared.ids.ClientId.{ClientId}
+use Rattle.st_rules.specs.declared.client.IoKind.TheVariants as io
+use Rattle.st_rules.specs.declared.client.PageCommand.{PageCommand}
+use Rattle.st_rules.specs.declared.disks.DiskCommand.{DiskCommand}
+use Rattle.st_rules.specs.declared.disks.Report.TheVariants as reports
+use Rattle.st_rules.specs.declared.pages.DirtyPage.{DirtyPage}
+use Rattle.st_rules.specs.declared.world.IssuedCommand.{IssuedCommand}
+use Rattle.st_rules.specs.ClientPages.{dirty_of}
+use Rattle.st_rules.specs.ClientState.{Association}
+use Rattle.st_rules.specs.Disks as disks
+use Rattle.st_rules.specs.Safety.{Promise}
+use Rattle.st_rules.specs.World.{World, ClientSite, numbered, site_of}
+use Rattle.st_lemmas.specs.Lists.{Has}
+
+-- a write of this number, for the page of a tag, is outstanding at an association, and its page is dirty
+pub record IsListed (a : Association) (number : ℕ) (tag : Tag) : Type 0 where
+  pub server : tag.file.server ≡ a.server
+  pub command : PageCommand
+  pub here : Has command a.store.commands
+  pub version : ℕ
+  pub kind : command.kind ≡ io.Write version
+  pub number_is : command.number ≡ number
+  pub ino : command.ino ≡ tag.file.ino
+  pub page : command.page ≡ tag.page
+  pub dirty : DirtyPage
+  pub dirty_is : dirty_of a.store.pages command.ino command.page ≡ Some dirty
+
+-- an outstanding write is the only one of its page
+abbrev pub WritesOnce : Association → Type 0
+WritesOnce a =
+    (c d : PageCommand) → Has c a.store.commands → Has d a.store.commands → (v u : ℕ) → c.kind ≡ io.Write v → d.kind ≡ io.Write u → c.ino ≡ d.ino →
+    c.page ≡ d.page → c.number ≡ d.number
+
+-- a command is of this instance of the client, and outstanding
+pub record ListedSince (starts : ℕ) (a : Association) (x : IssuedCommand) (tag : Tag) : Type 0 where
+  pub since : x.starts ≡ starts
+  pub listed : IsListed a x.number tag
+
+-- all write commands of the life of an association that are not reported are
+abbrev pub OpenListed : List IssuedCommand → List DiskCommand → ClientId → ℕ → Association → Type 0
+OpenListed cs ds c starts a =
+    (k : ℕ) (x : IssuedCommand) (d : DiskCommand) (at : BlockAt) (tag : Tag) (bytes : List ℕ) → numbered cs k ≡ Some x →
+    disks.command_at ds k ≡ Some d → d.what ≡ commands.Write at tag bytes → d.report ≡ reports.Open → x.client ≡ c → x.server ≡ a.server →
+    x.life ≡ a.life → ListedSince starts a x tag
+
+-- of all clients that run
+abbrev pub OpenHold : World → Type 0
+OpenHold w =
+    (c : ClientId) (site : ClientSite) → site_of w c ≡ Some site → site.node.running ≡ true → (a : Association) →
+    Has a site.node.state.associations → OpenListed w.commands w.disks.commands c site.starts a
+
+-- behind a step
+abbrev pub OpenAfter : Promise
+OpenAfter past x = OpenHold x.after.world

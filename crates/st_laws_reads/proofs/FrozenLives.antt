@@ -1,0 +1,10 @@
+pub mod AllRuns
+pub mod Aloneness
+pub mod Calm
+pub mod Crashing
+pub mod Falling
+pub mod Frozen
+pub mod Law
+pub mod Stepping
+pub mod Tracked
+pub mod Walks

@@ -1,0 +1,9 @@
+pub mod Alone
+pub mod Cases
+pub mod Events
+pub mod Falling
+pub mod Growing
+pub mod Lasting
+pub mod Locked
+pub mod Still
+pub mod Tracked

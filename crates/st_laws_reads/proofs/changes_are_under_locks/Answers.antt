@@ -1,0 +1,5 @@
+use Rattle.st_laws_reads.proofs.Copies.Locked.{law}
+use Rattle.st_laws_reads.proofs.changes_are_under_locks.Goals as goal
+
+pub returns : goal.returns
+returns c = law

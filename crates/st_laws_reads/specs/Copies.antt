@@ -1,0 +1,4 @@
+pub mod Copies
+pub mod Law
+pub mod Owed
+pub mod World

@@ -1,0 +1,3 @@
+pub mod Frozen
+pub mod PendingEntries
+pub mod Runs

@@ -1,0 +1,12 @@
+pub mod Effects
+pub mod Goes
+pub mod Hard
+pub mod Losses
+pub mod Old
+pub mod Reductions
+pub mod Replies
+pub mod Requests
+pub mod Sim
+pub mod Steps
+pub mod Work
+pub mod World

@@ -1,0 +1,79 @@
+-- Old messages change nothing at a client.
+use Rattle.std.proofs.Common.{◌≡◌, Bool, true, false, not, ◌&&◌, ◌||◌, List, [], ◌∷◌, ◌++◌, ◌==◌, Option, Some, None, refl, sym, ap, ◌∙◌, if◌then◌else◌, append_assoc}
+use Rattle.std.specs.Prelude.{nat_lt, nat_le}
+use Rattle.std.specs.List.{list_all}
+use Rattle.st_base.specs.declared.ids.Stamp.{Stamp}
+use Rattle.st_messages.specs.declared.message.Header.{Header}
+use Rattle.st_messages.specs.declared.message.Body.{Body}
+use Rattle.st_messages.specs.declared.message.Body.TheVariants as bodies
+use Rattle.st_messages.specs.declared.message.Why.TheVariants as why
+use Rattle.st_rules.specs.ClientState.{ClientSession, Association, Turn, ClientTurn, enter, leave, at_these, at_each, with_associations}
+use Rattle.st_rules.specs.Keys.{server_node}
+use Rattle.st_rules.specs.ClientReplies as cr
+use Rattle.st_rules.specs.Client as cl
+use Rattle.st_rules.specs.Safety as safety
+use Rattle.st_lemmas.proofs.Lookups.{if_false}
+use Rattle.st_lemmas.proofs.Tables.{and_true, not_true}
+use Rattle.st_laws_refine.proofs.Client.Steps.{nothing_more}
+
+abbrev AllOld : Header → Body → List Association → Type 0
+AllOld h body [] = Unit {0}
+AllOld h body (a ∷ rest) = record { one : safety.is_old_at h body a ≡ true; rest : AllOld h body rest }
+
+all_old : (h : Header) (body : Body) (list : List Association) → list_all (safety.is_old_at h body) list ≡ true → AllOld h body list
+all_old h body [] e = record {}
+all_old h body (a ∷ rest) e = let p = and_true (safety.is_old_at h body a) _ e in record { one = p.0; rest = all_old h body rest p.1 }
+
+newer_not : (t : Turn) (s : ClientSession) (h : Header) → nat_lt s.epoch.0 h.epoch ≡ false → cr.newer_epoch t s (record { 0 = h.epoch }) ≡ t
+unfolding cr.newer_epoch
+newer_not t s h e = if_false _ _ t (ap (λ b. b && not s.lease.condemned) e)
+
+other_epoch : (t : Turn) (s : ClientSession) (h : Header) (body : Body) → safety.is_newer_epoch s h body ≡ false → cr.of_other_epoch t s (record { 0 = h.epoch }) body ≡ t
+unfolding cr.of_other_epoch
+other_epoch t s h (bodies.Nack why.OtherEpoch a b) e = newer_not t s h e
+other_epoch t s h (bodies.Nack w a b) e = refl
+other_epoch t s h body e = refl
+
+no_session : (t : Turn) (n : Stamp) (h : Header) (body : Body) → not (safety.is_welcome body) ≡ true → cr.without_session t n h body ≡ t
+unfolding cr.without_session
+no_session t n h bodies.Welcome e = cc
+no_session t n h body e = refl
+
+by_session : (t : Turn) (n : Stamp) (h : Header) (body : Body) (o : Option ClientSession) → safety.is_old_for o h body ≡ true → cr.by_session t n h body o ≡ t
+unfolding cr.by_session cr.with_a_session
+by_session t n h body None e = no_session t n h body e
+by_session t n h body (Some s) e =
+    let p = and_true (not (h.epoch == s.epoch.0)) (not (safety.is_newer_epoch s h body)) e in
+    if_false (h.epoch == s.epoch.0) _ _ (not_true _ p.0) ∙ other_epoch t s h body (not_true _ p.1)
+
+hears : (n : Stamp) (h : Header) (body : Body) (t : Turn) → safety.is_old_at h body t.here ≡ true → cr.receive_at n h body t ≡ t
+unfolding cr.receive_at
+hears n h body t e = go (cr.is_heard t n h) refl
+  where
+    third : (a b c : Bool) → (not a || (not b || c)) ≡ true → a ≡ true → b ≡ true → c ≡ true
+    third true true c e f g = e
+    third true false c e f g = cc
+    third false b c e f g = cc
+
+    go : (b : Bool) → cr.is_heard t n h ≡ b → (if b then cr.by_session t n h body t.here.session else t) ≡ t
+    go false f = refl
+    go true f =
+        let p = and_true (h.from == server_node t.here.server) _ f in
+        let q = and_true (h.life == t.here.life.0) (nat_le h.stamp n.0) p.1 in
+        by_session t n h body t.here.session (third (h.from == server_node t.here.server) (h.life == t.here.life.0) (safety.is_old_for t.here.session h body) e p.0 q.0)
+
+these_hear : (n : Stamp) (h : Header) (body : Body) (list : List Association) (T : ClientTurn) → AllOld h body list → at_these (cr.receive_at n h body) list T ≡ with_associations (T.state.associations ++ list) T
+unfolding at_these
+these_hear n h body [] T o = ap (λ x. with_associations x T) (sym (nothing_more T.state.associations))
+these_hear n h body (a ∷ rest) T o =
+    ap (λ r. at_these (cr.receive_at n h body) rest (leave T r)) (hears n h body (enter T a) o.one)
+    ∙ these_hear n h body rest (leave T (enter T a)) o.rest
+    ∙ ap (λ x. with_associations x T) (append_assoc T.state.associations (a ∷ []) rest)
+
+pub law : safety.OldMessagesChangeNoClient
+unfolding cl.take_input cr.receive cr.receive_here at_each
+law t n m e = go (m.header.to == t.state.id.0)
+  where
+    go : (b : Bool) → (if b then at_these (cr.receive_at n m.header m.body) t.state.associations (with_associations [] t) else t) ≡ t
+    go true = these_hear n m.header m.body t.state.associations (with_associations [] t) (all_old m.header m.body t.state.associations e)
+    go false = refl

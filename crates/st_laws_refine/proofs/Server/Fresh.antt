@@ -1,0 +1,88 @@
+-- Before the first event: what stands of each client at a fresh server.
+use Rattle.std.proofs.Common.{ℕ, true, [], refl, arith}
+use Rattle.std.specs.Prelude.{Some, None}
+use Rattle.st_base.specs.declared.ids.ServerId.{ServerId}
+use Rattle.st_base.specs.declared.ids.Stamp.{Stamp}
+use Rattle.st_base.specs.declared.config.Config as base
+use Rattle.st_rules.specs.Keys.{client}
+use Rattle.st_rules.specs.Leases.{steal_wait}
+use Rattle.st_rules.specs.Client.{fresh_association}
+use Rattle.st_rules.specs.Server.{fresh_server}
+use Rattle.st_protocol.specs.Assoc.{BeginsAt}
+use Rattle.st_laws_refine.specs.Views.Halves.{Ghost}
+use Rattle.st_laws_refine.specs.Server.View.{at, Sound}
+use Rattle.st_laws_refine.specs.Server.Pair.{client_view}
+use Rattle.st_laws_refine.specs.Server.Stands.{Compat}
+use Rattle.st_laws_refine.specs.Views.Halves.{client_at}
+use Rattle.st_rules.specs.ClientPages.{empty_store}
+
+abbrev pub no_ghost : Ghost
+no_ghost = record { start = 0; base = 0; gstart = 0; gbase = 0; glife = 0; top = 0; drift = 0; net = [] }
+
+pub fresh_sound : (kb : base.Config) (id : ServerId) (servers disks blocks d : ℕ) (now : Stamp) → Sound d (steal_wait kb) now (fresh_server id kb servers disks blocks) no_ghost
+unfolding fresh_server
+fresh_sound kb id servers disks blocks d now = record {
+  lepoch = refl;
+  sepoch = refl;
+  await = refl;
+  gstart = tt;
+  begun = omega arith;
+  start = tt;
+  once = λ s h e. elim h [ ];
+  top = omega arith;
+  fresh = λ g. cc;
+  timer = λ e. cc;
+  graced = λ g. tt;
+  rows = λ i. tt;
+  waits = λ w h e. elim h [ ];
+  kept = tt;
+}
+
+pub fresh_begins : (kb : base.Config) (id : ServerId) (s servers disks blocks d : ℕ) (clock now : Stamp) → BeginsAt (at (client_view true (λ l. 0) clock (Some (fresh_association s))) (client d) now (fresh_server id kb servers disks blocks) no_ghost)
+unfolding fresh_server
+fresh_begins kb id s servers disks blocks d clock now = record {
+  leased = refl;
+  born = omega arith;
+  epoch = refl;
+  held = λ i. refl;
+  seen = λ i. refl;
+  busy = λ i. refl;
+  ended = λ l. refl;
+  drift = refl;
+  up = refl;
+  first = refl;
+  glife = refl;
+  grace = refl;
+  session = refl;
+  live = refl;
+  row = λ i. refl;
+  timed = refl;
+  net = refl;
+}
+
+-- a number that is no client begins as well
+pub idle_begins : (kb : base.Config) (id : ServerId) (servers disks blocks d clock : ℕ) (now : Stamp) → BeginsAt (at (client_at clock 1 None empty_store (λ l. 0)) (client d) now (fresh_server id kb servers disks blocks) no_ghost)
+unfolding fresh_server
+idle_begins kb id servers disks blocks d clock now = record {
+  leased = refl;
+  born = omega arith;
+  epoch = refl;
+  held = λ i. refl;
+  seen = λ i. refl;
+  busy = λ i. refl;
+  ended = λ l. refl;
+  drift = refl;
+  up = refl;
+  first = refl;
+  glife = refl;
+  grace = refl;
+  session = refl;
+  live = refl;
+  row = λ i. refl;
+  timed = refl;
+  net = refl;
+}
+
+pub fresh_compat : (kb : base.Config) (id : ServerId) (servers disks blocks : ℕ) → Compat (fresh_server id kb servers disks blocks).locks
+unfolding fresh_server
+fresh_compat kb id servers disks blocks = record { rows = λ c i r e. cc; waits = λ w h. elim h [ ]; fits = λ c d i r q ne e f. cc }

@@ -1,0 +1,3 @@
+pub mod Law
+pub mod Shown
+pub mod World

@@ -1,0 +1,143 @@
+-- A server's step, as changes one after another: what each of them leaves, and what the rule that makes it has found. What
+-- each change keeps, a whole step keeps.
+use Rattle.std.specs.Prelude.{◌≡◌, ℕ, ◌≤◌, ◌⊎◌, Bool, true, false, not, List, [], ◌∷◌, Some, None, Err, is_some}
+use Rattle.std.specs.List.{list_any}
+use Rattle.st_base.specs.declared.ids.ClientId.{ClientId}
+use Rattle.st_base.specs.declared.ids.FileId.{FileId}
+use Rattle.st_base.specs.declared.ids.GrantNo.{GrantNo}
+use Rattle.st_base.specs.declared.ids.Life.{Life}
+use Rattle.st_base.specs.declared.ids.PageNo.{PageNo}
+use Rattle.st_base.specs.declared.ids.Stamp.{Stamp}
+use Rattle.st_base.specs.declared.mode.Mode.{Mode}
+use Rattle.st_base.specs.Mode.{number_of}
+use Rattle.st_messages.specs.declared.message.Message.{Message}
+use Rattle.st_messages.specs.declared.message.Body.{Body}
+use Rattle.st_messages.specs.declared.message.Body.TheVariants as bodies
+use Rattle.st_messages.specs.declared.output.Note.TheVariants as notes
+use Rattle.st_messages.specs.declared.output.Output.{Output}
+use Rattle.st_messages.specs.declared.output.Output.TheVariants as outputs
+use Rattle.st_rules.specs.declared.input.ServerInput.{ServerInput}
+use Rattle.st_rules.specs.declared.input.ServerInput.TheVariants.{Tick, Control}
+use Rattle.st_rules.specs.declared.locks.LockRow.{LockRow}
+use Rattle.st_rules.specs.declared.locks.RowDemand.{RowDemand}
+use Rattle.st_rules.specs.declared.locks.Waiter.{Waiter}
+use Rattle.st_rules.specs.declared.authority.AcceptRefusal.{AcceptRefusal}
+use Rattle.st_rules.specs.declared.sessions.Session.{Session}
+use Rattle.st_rules.specs.declared.sessions.SessionState.TheVariants.{Live}
+use Rattle.st_rules.specs.Locks as locks
+use Rattle.st_rules.specs.Locks.{Locks, stands_against, first_conflict, with_rows, grant, queue, release_to, with_demand}
+use Rattle.st_rules.specs.Sessions as sessions
+use Rattle.st_rules.specs.Authority as authority
+use Rattle.st_rules.specs.Grace as grace
+use Rattle.st_rules.specs.Keys.{server_node}
+use Rattle.st_rules.specs.Extents.{Extents}
+use Rattle.st_rules.specs.Names.{Names}
+use Rattle.st_rules.specs.Server.{ServerState, Turn, turn, with_sessions, with_locks, with_authority, with_names, with_extents, note, reply, tell, sender, life_in, thefts, steal_from, suspect_client, keep_and_reply, refused_reassertion, is_client_node}
+use Rattle.st_rules.specs.Dating.{refuses_client, is_request, may_date}
+use Rattle.st_rules.specs.Safety.{is_conflict}
+use Rattle.st_lemmas.specs.Lists.{Has}
+
+-- each row of a reassertion has a mode
+abbrev pub AllSome : List (ℕ × GrantNo × Mode) → Type 0
+AllSome rows = (r : ℕ × GrantNo × Mode) → Has r rows → 1 ≤ number_of r.2
+
+-- a request asks for a lock in some mode, and reasserts locks that have a mode
+abbrev pub Wish : Body → Type 0
+Wish (bodies.Acquire i m) = 1 ≤ number_of m
+Wish (bodies.Reassert rows) = AllSome rows
+Wish b = Unit {0}
+
+-- a client's message that comes does so
+abbrev pub WishInput : ServerInput → Type 0
+WishInput Tick = Unit {0}
+WishInput (Control m) = is_client_node m.header.from ≡ true → Wish m.body
+
+-- no message was sent yet
+abbrev pub NoSends : List Output → Type 0
+NoSends [] = Unit {0}
+NoSends (outputs.Send m ∷ os) = ⊥
+NoSends (o ∷ os) = NoSends os
+
+-- the client has a session, or a row
+abbrev pub KnownClient : ServerState → ClientId → Type 0
+KnownClient s c = (is_some (sessions.session_of s.sessions c) ≡ true) ⊎ ((r : LockRow) × Has r s.locks.rows × (r.client ≡ c))
+
+-- a reply that a session may keep: an answer, or a refusal of what was asked and not of the client
+abbrev pub is_kept : Body → Bool
+is_kept bodies.Ack = true
+is_kept bodies.Reasserted = true
+is_kept (bodies.Granted ino g mode) = true
+is_kept (bodies.Queued ino mode) = true
+is_kept (bodies.Extents ino rows) = true
+is_kept (bodies.Named r) = true
+is_kept (bodies.Nack w a b) = not (refuses_client w)
+is_kept b = false
+
+-- A reply to a request of a client that is no suspect, or one that dates no lease; and no conflict.
+pub record ReplyOk (s : ServerState) (m : Message) (b : Body) : Type 0 where
+  pub calm : is_conflict b ≡ false
+  pub free : may_date m.header.number b ≡ true → authority.may_ack s.authority (sender m.header) ≡ true
+  pub request : is_request m.body ≡ true
+
+-- What an acquired lock makes of the table: outside grace a grant that no row stands against, or a wait.
+pub data Acquired (graced : Bool) (l : Locks) (c : ClientId) (life : Life) : Locks → Type 0 where
+  AtOnce : (ino : ℕ) (mode : Mode) → graced ≡ false → 1 ≤ number_of mode → list_any (stands_against c ino mode) l.rows ≡ false →
+      Acquired graced l c life (grant l c life ino mode)
+  InTurn : (ino : ℕ) (mode : Mode) → 1 ≤ number_of mode → Acquired graced l c life (queue l c life ino mode)
+
+-- A reassertion of a new life, in grace and right after the thefts.
+pub record InGrace (n : ServerState) (now : Stamp) (t : Turn) (m : Message) (rows : List (ℕ × GrantNo × Mode)) : Type 0 where
+  pub from : is_client_node m.header.from ≡ true
+  pub there : m.header.to ≡ server_node t.state.id
+  pub body : m.body ≡ bodies.Reassert rows
+  pub first : t ≡ thefts (turn n []) now
+  pub on : grace.is_on t.state.grace now ≡ true
+  pub epoch : m.header.epoch ≡ t.state.stable.epoch.0
+  pub new : sessions.knows t.state.sessions (sender m.header) (life_in m.header) ≡ false
+
+-- One change of a step that began in the state n, at a moment and with an input.
+pub data Edit (n : ServerState) (now : Stamp) (i : ServerInput) : Turn → Turn → Type 0 where
+  -- the timers that are over are taken out, and their clients' locks are stolen
+  TakesTimers : (t : Turn) → Edit n now i t (with_authority (authority.still_running t.state.authority now) t)
+  Steals : (t : Turn) (c : ClientId) (s : Session) → Has c (authority.over n.authority now) → sessions.session_of t.state.sessions c ≡ Some s →
+      Edit n now i t (steal_from t c s)
+  -- a client's timer starts
+  Suspects : (t : Turn) (c : ClientId) → NoSends t.out → authority.may_ack t.state.authority c ≡ true → KnownClient t.state c →
+      Edit n now i t (suspect_client t now c)
+  -- a session begins, loses its waits, keeps a reply
+  Begins : (t : Turn) (c : ClientId) (life : Life) → Edit n now i t (with_sessions (sessions.with_new_session c life t.state.sessions) t)
+  DropsWaits : (t : Turn) (c : ClientId) → Edit n now i t (with_locks (locks.drop_waits t.state.locks c) t)
+  Keeps : (t : Turn) (c : ClientId) (number : ℕ) (b : Body) → is_kept b ≡ true → Edit n now i t (with_sessions (sessions.store t.state.sessions c number b) t)
+  -- a reassertion is accepted
+  Reasserts : (t : Turn) (m : Message) (rows : List (ℕ × GrantNo × Mode)) → i ≡ Control m → AllSome rows → InGrace n now t m rows →
+      first_conflict t.state.locks (sender m.header) rows ≡ None →
+      Edit n now i t
+      (with_sessions (sessions.reasserted t.state.sessions (sender m.header) (life_in m.header))
+      (with_locks (with_rows t.state.locks (sender m.header) (life_in m.header) rows) t))
+  -- the lock table
+  Sees : (t : Turn) (c : ClientId) (ino : ℕ) (g : GrantNo) → Edit n now i t (with_locks (locks.demand_seen t.state.locks c ino g) t)
+  Acquires : (t : Turn) (m : Message) (l : Locks) (b : Body) → i ≡ Control m → t ≡ thefts (turn n []) now →
+      is_some (sessions.session_of t.state.sessions (sender m.header)) ≡ true → ReplyOk t.state m b → is_kept b ≡ true →
+      Acquired (grace.is_on t.state.grace now) t.state.locks (sender m.header) (life_in m.header) l →
+      Edit n now i t (keep_and_reply (with_locks l t) m.header b)
+  Releases : (t : Turn) (c : ClientId) (ino : ℕ) (to : Mode) → Edit n now i t (with_locks (release_to t.state.locks c ino to) t)
+  DropsFile : (t : Turn) (ino : ℕ) → Edit n now i t (with_locks (locks.drop_file_waits t.state.locks ino) t)
+  Grants : (t : Turn) (w : Waiter) → grace.is_on t.state.grace now ≡ false → Has w t.state.locks.waiters →
+      list_any (stands_against w.client w.ino w.mode) t.state.locks.rows ≡ false →
+      Edit n now i t (with_locks (grant t.state.locks w.client w.life w.ino w.mode) t)
+  Demands : (t : Turn) (r : LockRow) (x : RowDemand) → Edit n now i t (with_locks (with_demand r x t.state.locks) t)
+  -- names and pages
+  NamesChange : (t : Turn) (v : Names) → Edit n now i t (with_names v t)
+  ExtentsChange : (t : Turn) (v : Extents) → Edit n now i t (with_extents v t)
+  Cuts : (t : Turn) (f : FileId) (p : PageNo) → Edit n now i t (note t (notes.CutDone f p))
+  -- what is sent
+  Replies : (t : Turn) (m : Message) (b : Body) → i ≡ Control m → ReplyOk t.state m b → Edit n now i t (reply t m.header b)
+  Repeats : (t : Turn) (m : Message) (s : Session) (last : ℕ) (b : Body) → i ≡ Control m → is_request m.body ≡ true →
+      authority.may_ack t.state.authority (sender m.header) ≡ true → sessions.session_of t.state.sessions (sender m.header) ≡ Some s →
+      s.state ≡ Live last (Some b) → Edit n now i t (reply t m.header b)
+  Refuses : (t : Turn) (m : Message) (rows : List (ℕ × GrantNo × Mode)) (r : AcceptRefusal) → i ≡ Control m →
+      authority.may_ack t.state.authority (sender m.header) ≡ true → InGrace n now t m rows →
+      grace.accept t.state.grace now (sender m.header) (life_in m.header) rows t.state.locks t.state.sessions ≡ Err r →
+      Edit n now i t (reply t m.header (refused_reassertion r))
+  TellsGrant : (t : Turn) (c : ClientId) (life : Life) (ino : ℕ) (g : GrantNo) (mode : Mode) → Edit n now i t (tell t c life (bodies.Granted ino g mode))
+  TellsDemand : (t : Turn) (c : ClientId) (life : Life) (ino : ℕ) (g : GrantNo) (mode : Mode) → Edit n now i t (tell t c life (bodies.Demand ino g mode))

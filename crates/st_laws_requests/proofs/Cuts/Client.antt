@@ -1,0 +1,864 @@
+-- The rules of a client, walked once: what they do to the requests of a session, to the operations that wait for one, and to what is
+-- sent and answered.
+use Rattle.std.proofs.Common.{◌≡◌, ℕ, ◌≤◌, ◌<◌, ◌⊎◌, Bool, true, false, not, ◌&&◌, ◌==◌, List, [], ◌∷◌, ◌++◌, Option, Some, None, Ok, Err, refl, sym, ap, ◌∙◌, subst, inl, inr, arith, if◌then◌else◌, append_assoc}
+use Rattle.std.specs.Prelude.{filter, map}
+use Rattle.std.proofs.lemmas.Bool.{eqb-true, eq-eqb}
+use Rattle.st_base.specs.declared.disk.Tag.{Tag}
+use Rattle.st_base.specs.declared.ids.ClientId.{ClientId}
+use Rattle.st_base.specs.declared.ids.FileId.{FileId}
+use Rattle.st_base.specs.declared.ids.GrantNo.{GrantNo}
+use Rattle.st_base.specs.declared.ids.PageNo.{PageNo}
+use Rattle.st_base.specs.declared.ids.ServerId.{ServerId}
+use Rattle.st_base.specs.declared.ids.Stamp.{Stamp}
+use Rattle.st_base.specs.declared.mode.Mode.{Mode}
+use Rattle.st_base.specs.declared.mode.Mode.TheVariants as modes
+use Rattle.st_messages.specs.declared.answer.AppAnswer.{AppAnswer}
+use Rattle.st_messages.specs.declared.answer.AppAnswer.TheVariants as answers
+use Rattle.st_messages.specs.declared.ask.Ask.{Ask}
+use Rattle.st_messages.specs.declared.ask.Ask.TheVariants as asks
+use Rattle.st_messages.specs.declared.message.Body.{Body}
+use Rattle.st_messages.specs.declared.message.Body.TheVariants as bodies
+use Rattle.st_messages.specs.declared.message.Header.{Header}
+use Rattle.st_messages.specs.declared.message.Message.{Message}
+use Rattle.st_messages.specs.declared.message.NameReply.{NameReply}
+use Rattle.st_messages.specs.declared.message.NameReply.TheVariants as replies
+use Rattle.st_messages.specs.declared.message.Why.{Why}
+use Rattle.st_messages.specs.declared.message.Why.TheVariants as why
+use Rattle.st_messages.specs.declared.output.Note.{Note}
+use Rattle.st_messages.specs.declared.output.Output.{Output}
+use Rattle.st_messages.specs.declared.output.Output.TheVariants as outputs
+use Rattle.st_rules.specs.declared.client.Asked.{Asked}
+use Rattle.st_rules.specs.declared.client.Asked.TheVariants as demands
+use Rattle.st_rules.specs.declared.client.Ended.{Ended}
+use Rattle.st_rules.specs.declared.client.Ended.TheVariants as ends
+use Rattle.st_rules.specs.declared.client.HeldLock.{HeldLock}
+use Rattle.st_rules.specs.declared.client.IoKind.{IoKind}
+use Rattle.st_rules.specs.declared.client.IoKind.TheVariants as io
+use Rattle.st_rules.specs.declared.client.KnownExtent.{KnownExtent}
+use Rattle.st_rules.specs.declared.client.MappedBlock.{MappedBlock}
+use Rattle.st_rules.specs.declared.client.Operation.{Operation}
+use Rattle.st_rules.specs.declared.client.PageCommand.{PageCommand}
+use Rattle.st_rules.specs.declared.client.Release.{Release}
+use Rattle.st_rules.specs.declared.client.Request.{Request}
+use Rattle.st_rules.specs.declared.client.WriteRefusal.TheVariants.{DirtyFull}
+use Rattle.st_rules.specs.declared.pages.DirtyPage.{DirtyPage}
+use Rattle.st_rules.specs.Client as cl
+use Rattle.st_rules.specs.ClientLease as lease
+use Rattle.st_rules.specs.ClientLocks as locks
+use Rattle.st_rules.specs.ClientPages as pages
+use Rattle.st_rules.specs.ClientPasses as cp
+use Rattle.st_rules.specs.ClientReplies as cr
+use Rattle.st_rules.specs.ClientState as cs
+use Rattle.st_rules.specs.ClientState.{ClientSession, Association, Turn, Requests, answer_to, server_of, say, with_session, with_store, with_operations}
+use Rattle.st_rules.specs.Keys.{server_node}
+use Rattle.st_lemmas.specs.Lists.{Has}
+use Rattle.st_lemmas.proofs.Lookups.{some_is}
+use Rattle.st_lemmas.proofs.Tables.{and_true, has_append, has_filter, has_map, not_true}
+use Rattle.st_laws_requests.specs.Cuts.Cuts.{AsksFor, Between, Counts, Given, Keyed, Placed, SameBody, Waits, WaitsAt, view}
+use Rattle.st_laws_requests.proofs.Cuts.Keeping.{Base, C, CIn, Free, K, Okay, Plain, Sent, W, WIn, Whole, asked_of, b_answers, b_fewer, b_more, b_say, free_all, freed, has_middle, if_both, if_case, into, is_free, no_acquire, no_map, no_reassert, only_own, w_answers, w_condemn, w_extents, w_fewer, w_granted, w_of_other, w_queued, w_reasserted, w_refused, w_removed, w_say, w_view, w_without}
+
+module _ (M : List Message) (c : ClientId) (Known : ℕ → Ask → Type 0) (Before : ServerId → ℕ → ℕ → ℕ → ℕ → Type 0) (Done : ℕ → Ask → Type 0) where
+  module _ (s : ServerId) (B : List Operation) (out0 : List Output) where
+    -- Requests.
+    -- what a new message does to the numbers
+    b_sends : (id : ClientId) (sv : ServerId) (life : ℕ) (v w : Option (ℕ × Requests)) (ops : List Operation) (out : List Output) (x : Message) → Between c sv x → x.header.life ≡ life →
+        ((m : Message) → (Sent M c Known Before Done) out m → Between c sv m → Placed life w m) → Placed life w x → Counts w → (K M c Known Before Done s B out0) id sv life v ops out → (K M c Known Before Done s B out0) id sv life w ops (out ++ outputs.Send x ∷ [])
+    b_sends id sv life v w ops out x t l old new counts b =
+        record {
+          id_ = b.id_;
+          server = b.server;
+          asked = b.asked;
+          others = b.others;
+          numbers = record { lives = λ m h u. lives m (which m h) u; placed = λ m h u. placed m (which m h) u; counts = counts };
+          sent = λ m h. sends m (has_append out (outputs.Send x ∷ []) (outputs.Send m) h);
+          said = λ op h. says op (has_append out (outputs.Send x ∷ []) (outputs.Answer op answers.Cut) h);
+        }
+      where
+        same : (m y : Message) → outputs.Send m ≡ outputs.Send y → m ≡ y
+        same m y e = cc
+
+        which : (m : Message) → (Sent M c Known Before Done) (out ++ outputs.Send x ∷ []) m → (Sent M c Known Before Done) out m ⊎ (m ≡ x)
+        which m (inl h) = inl (inl h)
+        which m (inr h) = go (has_append out (outputs.Send x ∷ []) (outputs.Send m) h)
+          where
+            go : Has (outputs.Send m) out ⊎ Has (outputs.Send m) (outputs.Send x ∷ []) → (Sent M c Known Before Done) out m ⊎ (m ≡ x)
+            go (inl i) = inl (inr i)
+            go (inr (inl e)) = inr (same m x e)
+            go (inr (inr i)) = absurd i
+
+        lives : (m : Message) → (Sent M c Known Before Done) out m ⊎ (m ≡ x) → Between c sv m → m.header.life ≤ life
+        lives m (inl h) u = b.numbers.lives m h u
+        lives m (inr e) u = let z = ap (λ (y : Message). y.header.life) e in omega (arith, z, l)
+
+        placed : (m : Message) → (Sent M c Known Before Done) out m ⊎ (m ≡ x) → Between c sv m → Placed life w m
+        placed m (inl h) u = old m h u
+        placed m (inr e) u = subst (Placed life w) (sym e) new
+
+        sends : (m : Message) → Has (outputs.Send m) out ⊎ Has (outputs.Send m) (outputs.Send x ∷ []) → Has (outputs.Send m) out0 ⊎ Between c sv m
+        sends m (inl h) = b.sent m h
+        sends m (inr (inl e)) = inr (subst (Between c sv) (sym (same m x e)) t)
+        sends m (inr (inr i)) = absurd i
+
+        says : (op : ℕ) → Has (outputs.Answer op answers.Cut) out ⊎ Has (outputs.Answer op answers.Cut) (outputs.Send x ∷ []) → (ask : Ask) × Known op ask × Done op ask
+        says op (inl h) = b.said op h
+        says op (inr (inl e)) = cc e
+        says op (inr (inr i)) = absurd i
+
+    -- a message of a turn
+    abbrev message : Turn → ℕ → ℕ → ℕ → Body → Message
+    message t epoch number stamp body = record { header = cs.header_of t epoch number stamp; body = body }
+
+    between : (t : Turn) (epoch number stamp : ℕ) (body : Body) → t.id ≡ c → Between c t.here.server (message t epoch number stamp body)
+    between t epoch number stamp body e = (ap (λ (y : ClientId). y.0) e, refl)
+
+    -- a message that is no request
+    w_idle : (t : Turn) (epoch stamp : ℕ) (body : Body) → (W M c Known Before Done s B out0) t → (W M c Known Before Done s B out0) (cs.send t epoch 0 stamp body)
+    unfolding cs.send
+    w_idle t epoch stamp body w = (w_say M c Known Before Done s B out0) t _ (between t epoch 0 stamp body w.base.id_, refl, refl) w
+
+    module _ (fresh : (sv : ServerId) (life epoch number op : ℕ) → ((m : Message) → Has m M → Keyed c sv life epoch number m → ⊥) → Before sv life epoch number op) where
+      -- a new request, where none is outstanding
+      w_ask : (t : Turn) (x : ClientSession) (now : Stamp) (body : Body) (cutting : Option ℕ) → x.requests.asked ≡ None → (CIn M c Known Before Done s B out0) t x → ((o : Operation) → Has o t.operations → cs.is_asked t.here.server o ≡ true → AsksFor o.ask body) →
+          (W M c Known Before Done s B out0) (cp.ask t x now body cutting)
+      unfolding cp.ask cs.send cs.asking
+      w_ask t x now body cutting e b f =
+          record {
+            base = b_sends t.id t.here.server t.here.life.0 (view (Some x)) (view (Some y)) t.operations t.out m (between t x.epoch.0 n now.0 body b.id_) refl
+                (λ a h u l k. let z = b.numbers.placed a h u l k in record { up_to = z.up_to; below = λ q. let r = z.below q in omega (arith, r); same = λ q p. let r = z.below q in absurd (omega (arith, r, p)) })
+                (λ l k. record { up_to = omega arith; below = λ q. omega arith; same = λ q p. refl }) (let z = b.numbers.counts.0 in (omega arith, (z, omega arith))) b;
+            waits = λ o h a. (f o h a, fresh t.here.server t.here.life.0 x.epoch.0 n o.op (λ a h k. none a h k));
+          }
+        where
+          n : ℕ
+          n = x.requests.next
+
+          y : ClientSession
+          y = cp.asking_session x now body cutting
+
+          m : Message
+          m = message t x.epoch.0 x.requests.next now.0 body
+
+          none : (a : Message) → Has a M → Keyed c t.here.server t.here.life.0 x.epoch.0 n a → ⊥
+          none a h k =
+              let z = b.numbers.counts.0 in
+              let u = k.under in
+              let r = (b.numbers.placed a (inl h) k.between k.of_life (omega (arith, z, u))).below k.of_epoch in
+              omega (arith, r, u)
+
+      -- the outstanding request again
+      w_again : (t : Turn) (x : ClientSession) (now : Stamp) (q : Request) → x.requests.asked ≡ Some q → (WIn M c Known Before Done s B out0) t x → (W M c Known Before Done s B out0) (cp.ask_again t x now q)
+      unfolding cp.ask_again cs.send
+      w_again t x now q e w =
+          record {
+            base = b_sends t.id t.here.server t.here.life.0 (view (Some x)) (view (Some y)) t.operations t.out (message t x.epoch.0 q.number now.0 q.body) (between t x.epoch.0 q.number now.0 q.body w.base.id_) refl
+                (λ a h u l k. let z = w.base.numbers.placed a h u l k in record { up_to = z.up_to; below = z.below; same = λ p. subst (λ o. SameBody o a) e (z.same p) })
+                (λ l k. record { up_to = omega arith; below = λ p. given.1; same = λ p r. refl }) (w.base.numbers.counts.0, given) w.base;
+            waits = λ o h a. subst (λ r. WaitsAt Before t.here.server t.here.life.0 x.epoch.0 r o) e (w.waits o h a);
+          }
+        where
+          y : ClientSession
+          y = cp.again_session x now q
+
+          given : (1 ≤ q.number) × (q.number < x.requests.next)
+          given = subst (Given x.requests.next) e w.base.numbers.counts.1
+
+      -- What an operation asks is its own request, where it is sent with it.
+      want_is : (t : Turn) (x : ClientSession) (now : Stamp) (a : Ask) (w : cp.Wanted) → cp.want t x now a ≡ Some w → w.own ≡ true → AsksFor a w.body
+      unfolding cp.want cp.want_at cp.want_on cp.want_by cp.want_under cp.want_held cp.want_cut cp.want_map cp.want_block cp.want_lock cp.want_name cs.meant
+      want_is t x now a w e f = go a e
+        where
+          -- what asks on behalf of an operation
+          lent : (b : Bool) (m : Body) → (if b then None else cp.wanted m) ≡ Some w → ⊥
+          lent true m q = cc
+          lent false m q = cc (ap (λ (z : cp.Wanted). z.own) (some_is q), f)
+
+          lent_then : (b : Bool) (m : Body) → (if b then cp.wanted m else None) ≡ Some w → ⊥
+          lent_then false m q = cc
+          lent_then true m q = cc (ap (λ (z : cp.Wanted). z.own) (some_is q), f)
+
+          cut : (b : Bool) (ino : ℕ) (m : Body) (p : PageNo) → (if b then cp.wanted_cut m ino p else None) ≡ Some w → w.body ≡ m
+          cut false ino m p q = cc
+          cut true ino m p q = sym (ap (λ (z : cp.Wanted). z.body) (some_is q))
+
+          held : (a : Ask) (ino : ℕ) (g : GrantNo) → cs.file_of a ≡ Some ino → cp.want_held t a ino g ≡ Some w → AsksFor a w.body
+          held (asks.Read f p) ino g i q = absurd (lent _ _ q)
+          held (asks.Write f p bytes) ino g i q = absurd (lent _ _ q)
+          held (asks.Patch f p at bytes) ino g i q = absurd (lent _ _ q)
+          held (asks.Cut f p) ino g i q = subst (AsksFor (asks.Cut f p)) (sym (cut _ ino _ p q)) (some_is i, refl)
+          held (asks.Name sv k) ino g i q = subst (AsksFor (asks.Name sv k)) (sym (cut _ ino _ _ q)) tt
+          held (asks.Sync f) ino g i q = cc
+
+          under : (a : Ask) (ino : ℕ) (l : HeldLock) → cs.file_of a ≡ Some ino → (b : Bool) → (if b then cp.want_held t a ino l.g else cp.want_lock t x now ino (cp.need a)) ≡ Some w → AsksFor a w.body
+          under a ino l i true q = held a ino l.g i q
+          under a ino l i false q = absurd (lent_then _ _ q)
+
+          by : (a : Ask) (ino : ℕ) (o : Option HeldLock) → cs.file_of a ≡ Some ino → cp.want_by t x now a ino o ≡ Some w → AsksFor a w.body
+          by a ino None i q = absurd (lent_then _ _ q)
+          by a ino (Some l) i q = under a ino l i _ q
+
+          name : (a : Ask) → cp.want_name a ≡ Some w → AsksFor a w.body
+          name (asks.Name sv k) q = subst (AsksFor (asks.Name sv k)) (ap (λ (z : cp.Wanted). z.body) (some_is q)) tt
+          name a q = cc q
+
+          at : (a : Ask) (o : Option ℕ) → cs.file_of a ≡ o → cp.want_at t x now a o ≡ Some w → AsksFor a w.body
+          at a None i q = name a q
+          at a (Some ino) i q = by a ino (locks.lock_of x.locks ino) i q
+
+          go : (a : Ask) → cp.want t x now a ≡ Some w → AsksFor a w.body
+          go (asks.Sync f) q = cc
+          go a q = at a (cs.file_of a) refl q
+
+      -- The operations once the first of them asks: those before, and that one sent where the request is its own.
+      record AskingOk (t : Turn) (os : List Operation) (a : cp.Asking) : Type 0 where
+        pub from : (o : Operation) → Has o a.operations → (p : Operation) × Has p os × (o.op ≡ p.op) × (o.ask ≡ p.ask) × ((o ≡ p) ⊎ (cs.is_of t.here.server p ≡ true))
+        pub own : (o : Operation) → Has o a.operations → cs.is_asked t.here.server o ≡ true → AsksFor o.ask a.wanted.body
+
+      asking_is : (t : Turn) (x : ClientSession) (now : Stamp) (os : List Operation) (a : cp.Asking) → cp.first_asking t x now os ≡ Some a → (Free M c Known Before Done) t.here.server os → AskingOk t os a
+      unfolding cp.first_asking cp.asks_or cp.asked_by
+      asking_is t x now [] a e f = cc
+      asking_is t x now (o ∷ os) a e f = go (cp.asked_by t x now o) refl (cp.first_asking t x now os) refl e (λ b g. asking_is t x now os b g (λ p h. f p (inr h)))
+        where
+          later : (b : cp.Asking) → a ≡ record b { operations = o ∷ b.operations } → AskingOk t os b → AskingOk t (o ∷ os) a
+          later b e k = subst (AskingOk t (o ∷ os)) (sym e) (record { from = from; own = own })
+            where
+              from : (p : Operation) → Has p (o ∷ b.operations) → (r : Operation) × Has r (o ∷ os) × (p.op ≡ r.op) × (p.ask ≡ r.ask) × ((p ≡ r) ⊎ (cs.is_of t.here.server r ≡ true))
+              from p (inl q) = (o, inl refl, ap (λ (z : Operation). z.op) q, ap (λ (z : Operation). z.ask) q, inl q)
+              from p (inr h) = let z = k.from p h in (z.0, inr z.1, z.2, z.3, z.4)
+
+              own : (p : Operation) → Has p (o ∷ b.operations) → cs.is_asked t.here.server p ≡ true → AsksFor p.ask b.wanted.body
+              own p (inl q) g = absurd (f o (inl refl) (subst (λ r. cs.is_asked t.here.server r ≡ true) q g))
+              own p (inr h) g = k.own p h g
+
+          -- this one asks
+          here : (w : cp.Wanted) → cp.asked_by t x now o ≡ Some w → a ≡ record { wanted = w; operations = cp.sent_if w.own o ∷ os } → AskingOk t (o ∷ os) a
+          here w e1 e2 = subst (AskingOk t (o ∷ os)) (sym e2) (record { from = from; own = own })
+            where
+              asks_it : (cs.is_of t.here.server o ≡ true) × (cp.want t x now o.ask ≡ Some w)
+              asks_it = pick (cp.may_ask t x o) refl e1
+                where
+                  pick : (b : Bool) → cp.may_ask t x o ≡ b → (if b then cp.want t x now o.ask else None) ≡ Some w → (cs.is_of t.here.server o ≡ true) × (cp.want t x now o.ask ≡ Some w)
+                  pick true q r = ((and_true (cs.is_of t.here.server o) _ q).0, r)
+                  pick false q r = cc
+
+              op_same : (b : Bool) → (cp.sent_if b o).op ≡ o.op
+              op_same true = refl
+              op_same false = refl
+
+              ask_same : (b : Bool) → (cp.sent_if b o).ask ≡ o.ask
+              ask_same true = refl
+              ask_same false = refl
+
+              from : (p : Operation) → Has p (cp.sent_if w.own o ∷ os) → (r : Operation) × Has r (o ∷ os) × (p.op ≡ r.op) × (p.ask ≡ r.ask) × ((p ≡ r) ⊎ (cs.is_of t.here.server r ≡ true))
+              from p (inl q) = (o, inl refl, ap (λ (z : Operation). z.op) q ∙ op_same w.own, ap (λ (z : Operation). z.ask) q ∙ ask_same w.own, inr asks_it.0)
+              from p (inr h) = (p, inr h, refl, refl, inl refl)
+
+              sent : (b : Bool) → w.own ≡ b → cs.is_asked t.here.server (cp.sent_if b o) ≡ true → AsksFor o.ask w.body
+              sent true q g = want_is t x now o.ask w asks_it.1 q
+              sent false q g = absurd (f o (inl refl) g)
+
+              own : (p : Operation) → Has p (cp.sent_if w.own o ∷ os) → cs.is_asked t.here.server p ≡ true → AsksFor p.ask w.body
+              own p (inl q) g = subst (λ y. AsksFor y w.body) (sym (ap (λ (z : Operation). z.ask) q ∙ ask_same w.own)) (sent w.own refl (subst (λ r. cs.is_asked t.here.server r ≡ true) q g))
+              own p (inr h) g = absurd (f p (inr h) g)
+
+          go : (r : Option cp.Wanted) → cp.asked_by t x now o ≡ r → (l : Option cp.Asking) → cp.first_asking t x now os ≡ l → cp.asks_or o os l r ≡ Some a →
+              ((b : cp.Asking) → cp.first_asking t x now os ≡ Some b → AskingOk t os b) → AskingOk t (o ∷ os) a
+          go None e1 None e2 q k = cc
+          go None e1 (Some b) e2 q k = later b (sym (some_is q)) (k b e2)
+          go (Some w) e1 l e2 q k = here w e1 (sym (some_is q))
+
+      -- with none outstanding nobody waits
+      none_waits : (t : Turn) (x : ClientSession) → x.requests.asked ≡ None → (WIn M c Known Before Done s B out0) t x → (Free M c Known Before Done) t.here.server t.operations
+      none_waits t x e w = (is_free M c Known Before Done s B out0) t.here.server t.here.life.0 x.epoch.0 x.requests.asked t.operations e w.waits
+
+      w_plain_ask : (t : Turn) (x : ClientSession) (now : Stamp) (body : Body) → x.requests.asked ≡ None → (WIn M c Known Before Done s B out0) t x → (W M c Known Before Done s B out0) (cp.ask t x now body None)
+      w_plain_ask t x now body e w = w_ask t x now body None e w.base (λ o h a. absurd (none_waits t x e w o h a))
+
+      w_keep_alive : (t : Turn) (x : ClientSession) (now : Stamp) → x.requests.asked ≡ None → (WIn M c Known Before Done s B out0) t x → (W M c Known Before Done s B out0) t → (W M c Known Before Done s B out0) (cp.keep_alive t x now)
+      unfolding cp.keep_alive
+      w_keep_alive t x now e w y = if_both (W M c Known Before Done s B out0) _ _ t (w_plain_ask t x now _ e w) y
+
+      w_ask_for : (t : Turn) (x : ClientSession) (now : Stamp) (a : cp.Asking) → cp.first_asking t x now t.operations ≡ Some a → x.requests.asked ≡ None → (WIn M c Known Before Done s B out0) t x → (W M c Known Before Done s B out0) (cp.ask_for t x now a)
+      unfolding cp.ask_for
+      w_ask_for t x now a f e w = w_ask (with_store (cp.cut_store a.wanted.cut t.here.store) (with_operations a.operations t)) x now a.wanted.body (cp.file_cut a.wanted.cut) e base k.own
+        where
+          k : AskingOk t t.operations a
+          k = asking_is t x now t.operations a f (none_waits t x e w)
+
+          base : (Base M c Known Before Done) s B out0 t.id t.here.server t.here.life.0 (view (Some x)) a.operations t.out
+          base =
+              record {
+                id_ = w.base.id_;
+                server = w.base.server;
+                asked = λ o h. let z = k.from o h in subst (λ n. Known n o.ask) (sym z.2) (subst (λ y. Known z.0.op y) (sym z.3) (w.base.asked z.0 z.1));
+                others = λ o h g. others o (k.from o h) g;
+                numbers = w.base.numbers;
+                sent = w.base.sent;
+                said = w.base.said;
+              }
+            where
+              clash : {b : Bool} → b ≡ true → b ≡ false → ⊥
+              clash x y = cc
+
+              others : (o : Operation) → (p : Operation) × Has p t.operations × (o.op ≡ p.op) × (o.ask ≡ p.ask) × ((o ≡ p) ⊎ (cs.is_of t.here.server p ≡ true)) → cs.is_of t.here.server o ≡ false → Has o B
+              others o (p, h, a, b, inl q) g = subst (λ y. Has y B) (sym q) (w.base.others p h (subst (λ y. cs.is_of t.here.server y ≡ false) q g))
+              others o (p, h, a, b, inr q) g = absurd (clash q (ap (λ y. (server_of y).0 == t.here.server.0) (sym b) ∙ g))
+
+      w_ask_next : (t : Turn) (x : ClientSession) (now : Stamp) → x.requests.asked ≡ None → (WIn M c Known Before Done s B out0) t x → (W M c Known Before Done s B out0) t → (W M c Known Before Done s B out0) (cp.ask_next t x now)
+      unfolding cp.ask_next cp.ask_for_or
+      w_ask_next t x now e w y = if_both (W M c Known Before Done s B out0) (cs.is_serving t.config x now) _ _ (go (cp.first_asking t x now t.operations) refl) (w_keep_alive t x now e w y)
+        where
+          go : (o : Option cp.Asking) → cp.first_asking t x now t.operations ≡ o → (W M c Known Before Done s B out0) (cp.ask_for_or t x now o)
+          go None f = w_keep_alive t x now e w y
+          go (Some a) f = w_ask_for t x now a f e w
+
+      w_ask_by : (t : Turn) (x : ClientSession) (now : Stamp) (rs : List Release) → x.requests.asked ≡ None → (WIn M c Known Before Done s B out0) t x → (W M c Known Before Done s B out0) t → (W M c Known Before Done s B out0) (cp.ask_by t x now rs)
+      unfolding cp.ask_by cp.ask_release
+      w_ask_by t x now [] e w y = w_ask_next t x now e w y
+      w_ask_by t x now (r ∷ rs) e w y = w_plain_ask t (record x { releases = rs }) now _ e w
+
+      w_requests_at : (t : Turn) (x : ClientSession) (now : Stamp) (tick : Bool) (o : Option Request) → x.requests.asked ≡ o → (WIn M c Known Before Done s B out0) t x → (W M c Known Before Done s B out0) t → (W M c Known Before Done s B out0) (cp.requests_at t x now tick o)
+      unfolding cp.requests_at cp.ask_new cp.reassert cp.repeat
+      w_requests_at t x now tick None e w y = if_both (W M c Known Before Done s B out0) x.due _ _ (w_plain_ask t x now _ e w) (w_ask_by t x now x.releases e w y)
+      w_requests_at t x now tick (Some q) e w y = if_both (W M c Known Before Done s B out0) _ _ t (w_again t x now q e w) y
+
+      w_requests : (now : Stamp) (tick : Bool) (t : Turn) → (W M c Known Before Done s B out0) t → (W M c Known Before Done s B out0) (cp.requests now tick t)
+      unfolding cp.requests cp.requests_by cp.requests_under
+      w_requests now tick t w = go t.here.session refl
+        where
+          go : (o : Option ClientSession) → t.here.session ≡ o → (W M c Known Before Done s B out0) (cp.requests_by t now tick o)
+          go None e = w
+          go (Some x) e = if_both (W M c Known Before Done s B out0) x.lease.condemned t _ w (w_requests_at t x now tick x.requests.asked refl ((into M c Known Before Done s B out0) t x e w) w)
+
+      -- Replies.
+      module _ (now : Stamp) (m : Message) (Told : ServerId → Type 0)
+          (ends_cut : (sv : ServerId) → Told sv → (q : Request) (o : Operation) → server_of o.ask ≡ sv → 1 ≤ q.number → m.header.number ≡ q.number → AsksFor o.ask q.body → cs.is_acknowledged q.body ≡ true →
+          ((y : Message) → Has y M → Keyed c sv m.header.life m.header.epoch q.number y → y.body ≡ q.body) → Before sv m.header.life m.header.epoch q.number o.op → Done o.op o.ask) where
+        abbrev h : Header
+        h = m.header
+
+        -- the request ends: nothing is outstanding, and who waited is yet to be answered
+        b_ended : (t : Turn) (x : ClientSession) (stamp : Stamp) → (CIn M c Known Before Done s B out0) t x → (CIn M c Known Before Done s B out0) t (cr.ended_by stamp x)
+        b_ended t x stamp b =
+            record {
+              id_ = b.id_;
+              server = b.server;
+              asked = b.asked;
+              others = b.others;
+              numbers = record {
+                lives = b.numbers.lives;
+                placed = λ a i u l k. let z = b.numbers.placed a i u l k in record { up_to = z.up_to; below = z.below; same = λ q. tt };
+                counts = (b.numbers.counts.0, tt);
+              };
+              sent = b.sent;
+              said = b.said;
+            }
+
+        -- what the note of a renewal leaves
+        record Noted (t u : Turn) (x : ClientSession) : Type 0 where
+          pub here : u.here ≡ t.here
+          pub operations : u.operations ≡ t.operations
+          pub base : (CIn M c Known Before Done s B out0) u x
+
+        noted : (t : Turn) (x y : ClientSession) (stamp : Stamp) → (CIn M c Known Before Done s B out0) t y → Noted t (cr.note_renewal t x stamp) y
+        unfolding cr.note_renewal cr.note_lease
+        noted t x y stamp b = go (lease.is_renewal stamp x.lease)
+          where
+            go : (z : Bool) → Noted t (if z then cr.note_lease (lease.renewed stamp x.lease) t else t) y
+            go true = record { here = refl; operations = refl; base = (b_say M c Known Before Done s B out0) t.id t.here.server t.here.life.0 (view (Some y)) t.operations t.out _ tt b }
+            go false = record { here = refl; operations = refl; base = b }
+
+        -- nobody waits for a reply of another kind
+        none_for : (t : Turn) (x : ClientSession) (q : Request) → x.requests.asked ≡ Some q → (WIn M c Known Before Done s B out0) t x → (cs.asks_cut_or_name q.body ≡ true → ⊥) → (Free M c Known Before Done) t.here.server t.operations
+        none_for t x q e w f o i a = f (only_own o.ask q.body (subst (λ r. WaitsAt Before t.here.server t.here.life.0 x.epoch.0 r o) e (w.waits o i a)).0)
+
+        -- `cut` is said of each that waits
+        said_cut : (t : Turn) (x : ClientSession) (q : Request) → x.requests.asked ≡ Some q → (WIn M c Known Before Done s B out0) t x → Told t.here.server → h.life ≡ t.here.life.0 → h.epoch ≡ x.epoch.0 → h.number ≡ q.number → cs.is_acknowledged q.body ≡ true →
+            (o : Operation) → Has o t.operations → cs.is_asked t.here.server o ≡ true → Done o.op o.ask
+        said_cut t x q e w told lf ep nm ack o i a = ends_cut t.here.server told q o of given.0 nm waits.0 ack bodies_same (subst (λ n. Before t.here.server n h.epoch q.number o.op) (sym lf) (subst (λ n. Before t.here.server t.here.life.0 n q.number o.op) (sym ep) waits.1))
+          where
+            waits : AsksFor o.ask q.body × Before t.here.server t.here.life.0 x.epoch.0 q.number o.op
+            waits = subst (λ r. WaitsAt Before t.here.server t.here.life.0 x.epoch.0 r o) e (w.waits o i a)
+
+            given : (1 ≤ q.number) × (q.number < x.requests.next)
+            given = subst (Given x.requests.next) e w.base.numbers.counts.1
+
+            of : server_of o.ask ≡ t.here.server
+            of = ap (λ n. record { 0 = n }) (eqb-true (server_of o.ask).0 t.here.server.0 (asked_of t.here.server o a).0)
+
+            bodies_same : (y : Message) → Has y M → Keyed c t.here.server h.life h.epoch q.number y → y.body ≡ q.body
+            bodies_same y j k =
+                let g = given.0 in
+                let u = k.under in
+                (subst (λ r. SameBody r y) e ((w.base.numbers.placed y (inl j) k.between (k.of_life ∙ lf) (omega (arith, g, u))).same (k.of_epoch ∙ ep))) k.under
+
+        -- What a reply does, besides ending the request.
+        w_acknowledged : (u : Turn) → (C M c Known Before Done s B out0) u → ((o : Operation) → Has o u.operations → cs.is_asked u.here.server o ≡ true → Done o.op o.ask) → (W M c Known Before Done s B out0) (cr.acknowledged u)
+        unfolding cr.acknowledged cs.answer_each
+        w_acknowledged u b f =
+            record {
+              base = (b_more M c Known Before Done s B out0) u.id u.here.server u.here.life.0 (view u.here.session) _ u.out _ okay
+                  ((b_fewer M c Known Before Done s B out0) u.id u.here.server u.here.life.0 (view u.here.session) u.operations _ u.out (λ o i. (has_filter _ u.operations o i).0) b);
+              waits = λ o i a. absurd ((freed M c Known Before Done s B out0) u answers.Cut o i a);
+            }
+          where
+            okay : (x : Output) → Has x (map (answer_to answers.Cut) (filter (cs.is_asked u.here.server) u.operations)) → (Okay M c Known Before Done) u.here.server u.here.life.0 x
+            okay x i =
+                let z = has_map (answer_to answers.Cut) _ x i in
+                let y = has_filter (cs.is_asked u.here.server) u.operations z.0 z.1 in
+                subst ((Okay M c Known Before Done) u.here.server u.here.life.0) (sym z.2) (z.0.ask, b.asked z.0 y.0, f z.0 y.0 y.1)
+
+        named_plain : (r : NameReply) → (Plain M c Known Before Done s B out0) (cr.name_answer r)
+        named_plain (replies.Ino ino) op = tt
+        named_plain (replies.Listed rows) op = tt
+        named_plain (replies.Refused code) op = tt
+
+        w_named : (u : Turn) (x : ClientSession) (file : Option ℕ) (r : NameReply) → u.here.session ≡ Some x → (C M c Known Before Done s B out0) u → (W M c Known Before Done s B out0) (cr.named u x file r)
+        unfolding cr.named cr.named_as cs.answer_each
+        w_named u x file r e b = by r
+          where
+            v : Turn
+            v = cs.answer_each (cs.is_asked u.here.server) (cr.name_answer r) u
+
+            all : (W M c Known Before Done s B out0) v
+            all = record { base = (b_answers M c Known Before Done s B out0) u _ _ (named_plain r) b; waits = λ o i a. absurd ((freed M c Known Before Done s B out0) u (cr.name_answer r) o i a) }
+
+            by : (r2 : NameReply) → (W M c Known Before Done s B out0) (cr.named_as v x file r2)
+            by (replies.Ino ino) = (w_removed M c Known Before Done s B out0) v x file all ((into M c Known Before Done s B out0) v x e all)
+            by (replies.Listed rows) = all
+            by (replies.Refused code) = all
+
+        w_effect : (t u : Turn) (x y : ClientSession) (q : Request) (b : Body) (file : Option ℕ) → x.requests.asked ≡ Some q → (WIn M c Known Before Done s B out0) t x → u.here ≡ record t.here { session = Some y } → u.operations ≡ t.operations → (C M c Known Before Done s B out0) u →
+            cs.fits b q.body ≡ true → (b ≡ bodies.Ack → Told t.here.server) → h.life ≡ t.here.life.0 → h.epoch ≡ x.epoch.0 → h.number ≡ q.number → (W M c Known Before Done s B out0) (cr.effect u y now b file q.body)
+        unfolding cr.effect
+        w_effect t u x y q b file e w here ops base fit told lf ep nm = go b fit told
+          where
+            same_server : t.here.server ≡ u.here.server
+            same_server = sym (ap (λ (a : Association). a.server) here)
+
+            session : u.here.session ≡ Some y
+            session = ap (λ (a : Association). a.session) here
+
+            free : (cs.asks_cut_or_name q.body ≡ true → ⊥) → (Free M c Known Before Done) u.here.server u.operations
+            free f = subst (λ (z : ServerId). (Free M c Known Before Done) z u.operations) same_server (subst ((Free M c Known Before Done) t.here.server) (sym ops) (none_for t x q e w f))
+
+            whole : (cs.asks_cut_or_name q.body ≡ true → ⊥) → (W M c Known Before Done s B out0) u
+            whole f = (free_all M c Known Before Done s B out0) u.id u.here.server u.here.life.0 (view u.here.session) u.operations u.out (free f) base
+
+            whole_in : (cs.asks_cut_or_name q.body ≡ true → ⊥) → (WIn M c Known Before Done s B out0) u y
+            whole_in f = (into M c Known Before Done s B out0) u y session (whole f)
+
+            cut : Told t.here.server → cs.is_acknowledged q.body ≡ true → (o : Operation) → Has o u.operations → cs.is_asked u.here.server o ≡ true → Done o.op o.ask
+            cut k ack o i a = said_cut t x q e w k lf ep nm ack o (subst (Has o) ops i) (subst (λ z. cs.is_asked z o ≡ true) (sym same_server) a)
+
+            go : (b : Body) → cs.fits b q.body ≡ true → (b ≡ bodies.Ack → Told t.here.server) → (W M c Known Before Done s B out0) (cr.effect u y now b file q.body)
+            go (bodies.Granted ino g mode) f k = (w_granted M c Known Before Done s B out0) u y ino g mode (whole_in (no_acquire ino q.body f))
+            go (bodies.Queued ino mode) f k = (w_queued M c Known Before Done s B out0) u y now ino mode (whole_in (no_acquire ino q.body f))
+            go (bodies.Extents ino rows) f k = (w_extents M c Known Before Done s B out0) u y ino rows q.body (whole (no_map ino q.body f))
+            go bodies.Ack f k = w_acknowledged u base (cut (k refl) f)
+            go (bodies.Named reply) f k = w_named u y file reply session base
+            go bodies.Reasserted f k = (w_reasserted M c Known Before Done s B out0) u y (whole_in (no_reassert q.body f))
+            go (bodies.Nack z a b) f k = (w_refused M c Known Before Done s B out0) u z a b file q.body base
+            go b f k = cc f
+
+        w_reply_to : (t : Turn) (x : ClientSession) (q : Request) (stamp : Stamp) (b : Body) → x.requests.asked ≡ Some q → (WIn M c Known Before Done s B out0) t x → cs.fits b q.body ≡ true → (b ≡ bodies.Ack → Told t.here.server) → h.life ≡ t.here.life.0 → h.epoch ≡ x.epoch.0 → h.number ≡ q.number →
+            (W M c Known Before Done s B out0) (cr.reply_to t x now stamp b q.body)
+        unfolding cr.reply_to cr.end_request
+        w_reply_to t x q stamp b e w fit told lf ep nm =
+            let z = noted t x (cr.ended_by stamp x) stamp (b_ended t x stamp w.base) in
+            w_effect t (with_session (cr.ended_by stamp x) (cr.note_renewal t x stamp)) x (cr.ended_by stamp x) q b (cs.file_asked x.cutting q.body) e w (ap (λ (a : Association). record a { session = Some (cr.ended_by stamp x) }) z.here) z.operations z.base fit told lf ep nm
+
+        w_reply : (t : Turn) (x : ClientSession) (b : Body) → t.here.session ≡ Some x → (W M c Known Before Done s B out0) t → (b ≡ bodies.Ack → Told t.here.server) → h.life ≡ t.here.life.0 → h.epoch ≡ x.epoch.0 → (W M c Known Before Done s B out0) (cr.reply_of t x now h b)
+        unfolding cr.reply_of cr.counted cr.by_request cr.count_reply
+        w_reply t x b e w told lf ep = go x.requests.asked refl
+          where
+            stamp : Stamp
+            stamp = record { 0 = h.stamp }
+
+            go : (r : Option Request) → x.requests.asked ≡ r → (W M c Known Before Done s B out0) (cr.counted t x now h.number stamp b r)
+            go None f = w
+            go (Some q) f = if_case (W M c Known Before Done s B out0) (cr.is_counting h.number b q) (cr.count_reply t x now stamp b q.body) t counts (λ g. w)
+              where
+                counts : cr.is_counting h.number b q ≡ true → (W M c Known Before Done s B out0) (cr.count_reply t x now stamp b q.body)
+                counts g =
+                    let z = and_true (cs.is_request_of h.number q) (cs.fits b q.body) g in
+                    if_both (W M c Known Before Done s B out0) (cr.refuses_reassertion b q.body) (cr.condemn t x) (cr.reply_to t x now stamp b q.body) ((w_condemn M c Known Before Done s B out0) t x ((into M c Known Before Done s B out0) t x e w))
+                    (w_reply_to t x q stamp b f ((into M c Known Before Done s B out0) t x e w) z.1 told lf ep (sym (eqb-true q.number h.number z.0)))
+
+        w_nack : (t : Turn) (x : ClientSession) (y : Why) (a b : ℕ) → t.here.session ≡ Some x → (W M c Known Before Done s B out0) t → h.life ≡ t.here.life.0 → h.epoch ≡ x.epoch.0 → (W M c Known Before Done s B out0) (cr.nack t x now h y a b)
+        w_nack t x why.Suspect a b e w lf ep = (w_condemn M c Known Before Done s B out0) t x ((into M c Known Before Done s B out0) t x e w)
+        w_nack t x why.NoSession a b e w lf ep = (w_condemn M c Known Before Done s B out0) t x ((into M c Known Before Done s B out0) t x e w)
+        w_nack t x why.OtherEpoch a b e w lf ep = w
+        w_nack t x why.Grace a b e w lf ep = w
+        w_nack t x why.GraceOver a b e w lf ep = (w_condemn M c Known Before Done s B out0) t x ((into M c Known Before Done s B out0) t x e w)
+        w_nack t x why.Conflict a b e w lf ep = (w_condemn M c Known Before Done s B out0) t x ((into M c Known Before Done s B out0) t x e w)
+        w_nack t x y a b e w lf ep = w_reply t x (bodies.Nack y a b) e w (λ f. cc f) lf ep
+
+        w_demand : (t : Turn) (x : ClientSession) (ino : ℕ) (g : GrantNo) (to : Mode) → t.here.session ≡ Some x → (W M c Known Before Done s B out0) t → (W M c Known Before Done s B out0) (cr.demand t x ino g to)
+        unfolding cr.demand cr.demand_by cr.demand_as cr.see_demand cr.release_unheld
+        w_demand t x ino g to e w = by (locks.demand x.locks ino g to).asked
+          where
+            l : ClientSession
+            l = cs.with_cache (locks.demand x.locks ino g to).locks x
+
+            both : (b : Bool) → view (Some (if b then l else cs.with_release ino g modes.None l)) ≡ view (Some x)
+            both true = refl
+            both false = refl
+
+            by : (a : Asked) → (W M c Known Before Done s B out0) (cr.demand_as t l ino g a)
+            by demands.Reduce = w_idle (with_session l t) _ _ _ ((into M c Known Before Done s B out0) t x e w)
+            by demands.NotHeld = (w_view M c Known Before Done s B out0) t x (cr.release_unheld l ino g) (both (cr.has_release l ino g)) ((into M c Known Before Done s B out0) t x e w)
+            by demands.Stale = w
+
+        w_of_epoch : (t : Turn) (x : ClientSession) (b : Body) → t.here.session ≡ Some x → (W M c Known Before Done s B out0) t → (b ≡ bodies.Ack → Told t.here.server) → h.life ≡ t.here.life.0 → h.epoch ≡ x.epoch.0 → (W M c Known Before Done s B out0) (cr.of_epoch t x now h b)
+        unfolding cr.of_epoch cr.grant_or_reply
+        w_of_epoch t x (bodies.Nack y a b) e w told lf ep = w_nack t x y a b e w lf ep
+        w_of_epoch t x (bodies.Granted ino g mode) e w told lf ep = if_both (W M c Known Before Done s B out0) (h.number == 0) _ _ ((w_granted M c Known Before Done s B out0) t x ino g mode ((into M c Known Before Done s B out0) t x e w)) (w_reply t x (bodies.Granted ino g mode) e w told lf ep)
+        w_of_epoch t x (bodies.Demand ino g to) e w told lf ep = w_demand t x ino g to e w
+        w_of_epoch t x b e w told lf ep = w_reply t x b e w told lf ep
+
+        w_with : (t : Turn) (x : ClientSession) (b : Body) → t.here.session ≡ Some x → (W M c Known Before Done s B out0) t → (b ≡ bodies.Ack → Told t.here.server) → h.life ≡ t.here.life.0 → (W M c Known Before Done s B out0) (cr.with_a_session t x now h b)
+        unfolding cr.with_a_session
+        w_with t x b e w told lf = if_case (W M c Known Before Done s B out0) (h.epoch == x.epoch.0) _ _ (λ f. w_of_epoch t x b e w told lf (eqb-true h.epoch x.epoch.0 f)) (λ f. (w_of_other M c Known Before Done s B out0) t x _ b e w)
+
+        pub w_hear : (t : Turn) → (m.body ≡ bodies.Ack → (sv : ServerId) → h.from ≡ server_node sv → Told sv) → (W M c Known Before Done s B out0) t → (W M c Known Before Done s B out0) (cr.receive_at now h m.body t)
+        unfolding cr.receive_at cr.by_session
+        w_hear t told w = if_case (W M c Known Before Done s B out0) (cr.is_heard t now h) (cr.by_session t now h m.body t.here.session) t heard (λ f. w)
+          where
+            by : (m.body ≡ bodies.Ack → Told t.here.server) → h.life ≡ t.here.life.0 → (o : Option ClientSession) → t.here.session ≡ o → (W M c Known Before Done s B out0) (cr.by_session t now h m.body o)
+            by k lf None e = (w_without M c Known Before Done s B out0) t now h m.body e w
+            by k lf (Some x) e = w_with t x m.body e w k lf
+
+            heard : cr.is_heard t now h ≡ true → (W M c Known Before Done s B out0) (cr.by_session t now h m.body t.here.session)
+            heard f =
+                let z = and_true (h.from == server_node t.here.server) _ f in
+                by (λ g. told g t.here.server (eqb-true _ _ z.0)) (eqb-true _ _ (and_true (h.life == t.here.life.0) _ z.1).0) t.here.session refl
+
+    -- Losses: the operations of the server are answered, and the next life begins.
+    b_answered : (t : Turn) (op : ℕ) (a : AppAnswer) → (Plain M c Known Before Done s B out0) a → (C M c Known Before Done s B out0) t → (C M c Known Before Done s B out0) (cs.answered t op a)
+    b_answered t op a p b = (b_say M c Known Before Done s B out0) t.id t.here.server t.here.life.0 (view t.here.session) t.operations t.out _ (p op) b
+
+    -- a turn whose server, life and operations are the same
+    record EndedOne (t u : Turn) : Type 0 where
+      pub base : (C M c Known Before Done s B out0) u
+      pub server_ : u.here.server ≡ t.here.server
+      pub operations : u.operations ≡ t.operations
+
+    if_ended : (b : Bool) (t u v : Turn) → EndedOne t u → EndedOne t v → EndedOne t (if b then u else v)
+    if_ended true t u v x y = x
+    if_ended false t u v x y = y
+
+    end_one : (t : Turn) (x : ClientSession) (o : Operation) → (C M c Known Before Done s B out0) t → EndedOne t (cl.end_operation t x o)
+    unfolding cl.end_operation cl.end_unsent cl.end_sync cl.tell_lost
+    end_one t x o b = if_ended (cs.is_sent o) t _ _ (record { base = b_answered t o.op _ (λ op. tt) b; server_ = refl; operations = refl }) (by o.ask)
+      where
+        quiesced : EndedOne t (cs.answered t o.op answers.Quiesced)
+        quiesced = record { base = b_answered t o.op _ (λ op. tt) b; server_ = refl; operations = refl }
+
+        by : (a : Ask) → EndedOne t (cl.end_unsent t o a)
+        by (asks.Sync f) = if_ended (pages.has_lost t.here.lost f.ino) t _ _ (record { base = b_answered (cs.with_lost_rows (pages.untold t.here.lost f.ino) t) o.op _ (λ op. tt) b; server_ = refl; operations = refl }) quiesced
+        by a = quiesced
+
+    end_all : (x : ClientSession) (os : List Operation) (t : Turn) → (C M c Known Before Done s B out0) t → EndedOne t (cl.end_each x os t)
+    unfolding cl.end_each
+    end_all x [] t b = record { base = b; server_ = refl; operations = refl }
+    end_all x (o ∷ os) t b =
+        let e = end_one t x o b in
+        let r = end_all x os (cl.end_operation t x o) e.base in
+        record { base = r.base; server_ = r.server_ ∙ e.server_; operations = r.operations ∙ e.operations }
+
+    w_lost : (t : Turn) (x : ClientSession) → (W M c Known Before Done s B out0) t → (W M c Known Before Done s B out0) (cl.lose_session t x)
+    unfolding cl.lose_session cl.end_operations
+    w_lost t x w =
+        record {
+          base = record {
+            id_ = r.base.id_;
+            server = r.base.server;
+            asked = r.base.asked;
+            others = r.base.others;
+            numbers = record {
+              lives = λ m h k. let z = r.base.numbers.lives m h k in omega (arith, z);
+              placed = λ m h k l. let z = r.base.numbers.lives m h k in absurd (omega (arith, z, l));
+              counts = tt;
+            };
+            sent = r.base.sent;
+            said = r.base.said;
+          };
+          waits = λ o h a. absurd (gone o (subst (Has o) r.operations h) (asked_of u.here.server o a).0);
+        }
+      where
+        v : Turn
+        v = cl.with_lost_pages t.here.store (cs.note t (Rattle.st_messages.specs.declared.output.Note.TheVariants.Lost t.here.server t.here.life))
+
+        v2 : Turn
+        v2 = with_operations (filter (λ o. not (cs.is_of t.here.server o)) t.operations) v
+
+        u : Turn
+        u = cl.end_each x (filter (cs.is_of t.here.server) t.operations) v2
+
+        r : EndedOne v2 u
+        r = end_all x (filter (cs.is_of t.here.server) t.operations) v2
+            ((b_say M c Known Before Done s B out0) t.id t.here.server t.here.life.0 (view t.here.session) _ t.out _ tt ((b_fewer M c Known Before Done s B out0) t.id t.here.server t.here.life.0 (view t.here.session) t.operations _ t.out (λ o h. (has_filter _ t.operations o h).0) w.base))
+
+        clash : {b : Bool} → b ≡ true → b ≡ false → ⊥
+        clash x y = cc
+
+        gone : (o : Operation) → Has o (filter (λ o. not (cs.is_of t.here.server o)) t.operations) → cs.is_of u.here.server o ≡ true → ⊥
+        gone o h e = clash (subst (λ z. cs.is_of z o ≡ true) r.server_ e) (not_true _ (has_filter (λ o. not (cs.is_of t.here.server o)) t.operations o h).1)
+
+    pub w_lose : (now : Stamp) (t : Turn) → (W M c Known Before Done s B out0) t → (W M c Known Before Done s B out0) (cl.lose now t)
+    unfolding cl.lose cl.lose_by cl.lose_over
+    w_lose now t w = go t.here.session
+      where
+        go : (o : Option ClientSession) → (W M c Known Before Done s B out0) (cl.lose_by t now o)
+        go None = w
+        go (Some x) = if_both (W M c Known Before Done s B out0) (cl.is_over t x now) _ t (w_lost t x w) w
+
+    -- Ends of commands.
+    w_failed : (t : Turn) (x : PageCommand) (kind : IoKind) → (W M c Known Before Done s B out0) t → (W M c Known Before Done s B out0) (cl.failed_as t x kind)
+    unfolding cl.failed_as cl.mark_failed
+    w_failed t x io.Read w = (w_answers M c Known Before Done s B out0) t _ _ (λ op. tt) w
+    w_failed t x (io.Write v) w = (w_answers M c Known Before Done s B out0) _ _ _ (λ op. tt) (if_both (W M c Known Before Done s B out0) (cl.is_present t x v) _ t w w)
+
+    w_finish_as : (t : Turn) (x : PageCommand) (block : Option (Tag × List ℕ)) (e : Ended) → (W M c Known Before Done s B out0) t → (W M c Known Before Done s B out0) (cl.finish_as t x block e)
+    unfolding cl.finish_as cl.filled_by cl.hardened
+    w_finish_as t x block ends.Unknown w = w
+    w_finish_as t x None ends.Filled w = w
+    w_finish_as t x (Some b) ends.Filled w = w
+    w_finish_as t x block ends.Hard w = w
+    w_finish_as t x block ends.Redirty w = w
+    w_finish_as t x block ends.Failed w = w_failed t x x.kind w
+
+    w_finish_command : (t : Turn) (x : PageCommand) (ok : Bool) (block : Option (Tag × List ℕ)) → (W M c Known Before Done s B out0) t → (W M c Known Before Done s B out0) (cl.finish_command t x ok block)
+    unfolding cl.finish_command cl.ended_by
+    w_finish_command t x ok block w = w_finish_as (cl.with_commands (pages.end_command t.here.store.commands x.number ok (pages.version_of t.here.store.pages x.ino x.page)).commands t) x block _ w
+
+    w_finish_by : (t : Turn) (x : PageCommand) (r : Option (Option (Tag × List ℕ))) → (W M c Known Before Done s B out0) t → (W M c Known Before Done s B out0) (cl.finish_by t x r)
+    unfolding cl.finish_by cl.done_by
+    w_finish_by t x None w = w_finish_command t x false None w
+    w_finish_by t x (Some b) w = if_both (W M c Known Before Done s B out0) (cl.is_result_of x.kind b) _ t (w_finish_command t x true b w) w
+
+    pub w_finish : (number : ℕ) (r : Option (Option (Tag × List ℕ))) (t : Turn) → (W M c Known Before Done s B out0) t → (W M c Known Before Done s B out0) (cl.finish number r t)
+    unfolding cl.finish cl.finish_at
+    w_finish number r t w = go (pages.command_of t.here.store.commands number)
+      where
+        go : (o : Option PageCommand) → (W M c Known Before Done s B out0) (cl.finish_at t o r)
+        go None = w
+        go (Some x) = w_finish_by t x r w
+
+    -- The pass over the operations: those that were not yet looked at stand behind those that stay.
+    abbrev R : List Operation → Turn → Type 0
+    R os t = (Whole M c Known Before Done) s B out0 t.id t.here.server t.here.life.0 (view t.here.session) (t.operations ++ os) t.out
+
+    if_rest : (os : List Operation) (b : Bool) (t u : Turn) → R os t → R os u → R os (if b then t else u)
+    if_rest os true t u x y = x
+    if_rest os false t u x y = y
+
+    r_keep : (os : List Operation) (o : Operation) (t : Turn) → R (o ∷ os) t → R os (cs.keep o t)
+    r_keep os o t r = subst (λ x. (Whole M c Known Before Done) s B out0 t.id t.here.server t.here.life.0 (view t.here.session) x t.out) (sym (append_assoc t.operations (o ∷ []) os)) r
+
+    r_answer : (os : List Operation) (o : Operation) (a : AppAnswer) (t : Turn) → (Plain M c Known Before Done s B out0) a → R (o ∷ os) t → R os (cp.answer o a t)
+    r_answer os o a t p r =
+        let z = (w_fewer M c Known Before Done s B out0) t.id t.here.server t.here.life.0 (view t.here.session) (t.operations ++ o ∷ os) (t.operations ++ os) t.out (λ x h. has_middle o x t.operations os h) r in
+        record { base = (b_say M c Known Before Done s B out0) t.id t.here.server t.here.life.0 (view t.here.session) (t.operations ++ os) t.out _ (p o.op) z.base; waits = z.waits }
+
+    r_say : (os : List Operation) (t : Turn) (o : Output) → (Okay M c Known Before Done) t.here.server t.here.life.0 o → R os t → R os (say t o)
+    r_say os t o k r = record { base = (b_say M c Known Before Done s B out0) t.id t.here.server t.here.life.0 (view t.here.session) (t.operations ++ os) t.out o k r.base; waits = r.waits }
+
+    r_change : (os : List Operation) (o : Operation) (f : FileId) (p : PageNo) (bytes : List ℕ) (x : Note) (t : Turn) → R (o ∷ os) t → R os (cp.change_page t o f p bytes x)
+    unfolding cp.change_page cp.change_by cp.change pages.write
+    r_change os o f p bytes x t r = go (pages.is_full_for t.here.store.pages f.ino p)
+      where
+        go : (b : Bool) → R os (cp.change_by t o f p x (if b then Err DirtyFull else Ok (pages.written t.here.store.pages f.ino p bytes)))
+        go true = r_answer os o answers.DirtyFull t (λ op. tt) r
+        go false = r_answer os o answers.Written (cp.with_pages_changed (pages.written t.here.store.pages f.ino p bytes) f.ino p (cs.note t x)) (λ op. tt) (r_say (o ∷ os) t (outputs.Note x) tt r)
+
+    r_fetch : (os : List Operation) (t : Turn) (o : Operation) (f : FileId) (p : PageNo) → R (o ∷ os) t → R os (cp.fetch t o f p)
+    unfolding cp.fetch cp.fetch_at cp.fetch_mapped cp.submit_read cp.submit_command
+    r_fetch os t o f p r = r_keep os o (cp.fetch_at t f p (pages.mapping_of t.here.store.extents f.ino p)) (go (pages.mapping_of t.here.store.extents f.ino p))
+      where
+        go : (m : Option MappedBlock) → R (o ∷ os) (cp.fetch_at t f p m)
+        go None = r
+        go (Some m) = if_rest (o ∷ os) (pages.is_being_read t.here.store.commands f.ino p) t _ r (r_say (o ∷ os) (cp.with_command f.ino p io.Read t) _ tt r)
+
+    r_write : (os : List Operation) (t : Turn) (x : ClientSession) (o : Operation) (f : FileId) (p : PageNo) (bytes : List ℕ) → R (o ∷ os) t → R os (cp.write t x o f p bytes)
+    unfolding cp.write
+    r_write os t x o f p bytes r = if_rest os (cp.may_write t x f p) _ _ (r_change os o f p bytes _ t r) (r_keep os o t r)
+
+    r_patch : (os : List Operation) (t : Turn) (x : ClientSession) (o : Operation) (f : FileId) (p : PageNo) (at : ℕ) (bytes : List ℕ) → R (o ∷ os) t → R os (cp.patch t x o f p at bytes)
+    unfolding cp.patch cp.patch_at cp.patch_bytes
+    r_patch os t x o f p at bytes r = if_rest os (cp.may_write t x f p) _ _ (go (pages.cached t.here.store.pages f.ino p)) (r_keep os o t r)
+      where
+        go : (y : Option (List ℕ)) → R os (cp.patch_at t o f p at bytes y)
+        go None = r_fetch os t o f p r
+        go (Some old) = r_change os o f p _ _ t r
+
+    r_reading : (os : List Operation) (t : Turn) (x : ClientSession) (o : Operation) (f : FileId) (p : PageNo) → R (o ∷ os) t → R os (cp.read t x o f p)
+    unfolding cp.read cp.read_at cp.read_uncached cp.read_known cp.read_cached
+    r_reading os t x o f p r = if_rest os (cp.holds x modes.S f) _ _ (cached (pages.cached t.here.store.pages f.ino p)) (r_keep os o t r)
+      where
+        known : (y : Option KnownExtent) → R os (cp.read_uncached t o f p y)
+        known None = r_keep os o t r
+        known (Some e) = mapped e.mapping
+          where
+            mapped : (m : Option MappedBlock) → R os (cp.read_known t o f p e m)
+            mapped None = r_answer os o _ t (λ op. tt) r
+            mapped (Some m) = r_fetch os t o f p r
+
+        cached : (y : Option (List ℕ)) → R os (cp.read_at t o f p y)
+        cached None = known (pages.known_of t.here.store.extents f.ino p)
+        cached (Some bytes) = r_answer os o _ (with_store (record t.here.store { pages = pages.use_page t.here.store.pages f.ino p }) t) (λ op. tt) r
+
+    r_serve : (all os : List Operation) (t : Turn) (x : ClientSession) (o : Operation) → R (o ∷ os) t → R os (cp.serve all t x o)
+    unfolding cp.serve cp.serve_open
+    r_serve all os t x o r = if_rest os _ _ _ (go o.ask) (r_keep os o t r)
+      where
+        go : (a : Ask) → R os (cp.serve_open t x o a)
+        go (asks.Write f p bytes) = r_write os t x o f p bytes r
+        go (asks.Patch f p at bytes) = r_patch os t x o f p at bytes r
+        go (asks.Read f p) = r_reading os t x o f p r
+        go a = r_keep os o t r
+
+    r_operate : (all os : List Operation) (t : Turn) (now : Stamp) (o : Operation) → R (o ∷ os) t → R os (cp.operate all t now o)
+    unfolding cp.operate cp.operate_on cp.operate_by cp.operate_under cp.quiesce cp.sync
+    r_operate all os t now o r = if_rest os (cs.is_of t.here.server o) _ _ (on o.ask) kept
+      where
+        kept : R os (cs.keep o t)
+        kept = r_keep os o t r
+
+        by : (x : Option ClientSession) → R os (cp.operate_by all t now o x)
+        by None = kept
+        by (Some x) = if_rest os (cs.is_serving t.config x now) _ _ (r_serve all os t x o r) (if_rest os (cs.is_sent o) _ _ kept (r_answer os o answers.Quiesced t (λ op. tt) r))
+
+        on : (a : Ask) → R os (cp.operate_on all t now o a)
+        on (asks.Sync f) = if_rest os (pages.is_hard t.here.store f.ino) _ _ (r_answer os o answers.Hard t (λ op. tt) r) kept
+        on a = by t.here.session
+
+    r_each : (all : List Operation) (now : Stamp) (os : List Operation) (t : Turn) → R os t → R [] (cp.operate_each all now os t)
+    unfolding cp.operate_each
+    r_each all now [] t r = r
+    r_each all now (o ∷ os) t r = r_each all now os (cp.operate all t now o) (r_operate all os t now o r)
+
+    has_none : {A : Type 0} (xs : List A) (x : A) → Has x xs → Has x (xs ++ [])
+    has_none (y ∷ ys) x (inl e) = inl e
+    has_none (y ∷ ys) x (inr h) = inr (has_none ys x h)
+    has_none [] x h = h
+
+    w_operations : (now : Stamp) (t : Turn) → (W M c Known Before Done s B out0) t → (W M c Known Before Done s B out0) (cp.operations now t)
+    unfolding cp.operations
+    w_operations now t w =
+        let u = cp.operate_each t.operations now t.operations (with_operations [] t) in
+        (w_fewer M c Known Before Done s B out0) u.id u.here.server u.here.life.0 (view u.here.session) (u.operations ++ []) u.operations u.out (λ o h. has_none u.operations o h) (r_each t.operations now t.operations (with_operations [] t) w)
+
+    -- Reductions.
+    w_reduce_to : (t : Turn) (x : ClientSession) (ino : ℕ) (g : GrantNo) (to : Mode) → (WIn M c Known Before Done s B out0) t x → (W M c Known Before Done s B out0) (cp.reduce_to t x ino g to)
+    unfolding cp.reduce_to
+    w_reduce_to t x ino g to w = w
+
+    w_reduce_idle : (t : Turn) (x : ClientSession) (ino : ℕ) → (W M c Known Before Done s B out0) t → (WIn M c Known Before Done s B out0) t x → (W M c Known Before Done s B out0) (cp.reduce_idle t x ino)
+    unfolding cp.reduce_idle cp.reduce_by cp.reduce_given
+    w_reduce_idle t x ino w y = if_both (W M c Known Before Done s B out0) (cp.may_reduce t x ino) _ t (go (locks.reduce x.locks ino)) w
+      where
+        given : (z : locks.Reduced) (o : Option (GrantNo × Mode)) → (W M c Known Before Done s B out0) (cp.reduce_given t (cs.with_cache z.locks x) ino o)
+        given z None = w
+        given z (Some (g, m)) = w_reduce_to t (cs.with_cache z.locks x) ino g m y
+
+        go : (r : locks.Reduced) → (W M c Known Before Done s B out0) (cp.reduce_by t x ino r)
+        go r = given r r.given
+
+    w_reduces : (inos : List ℕ) (t : Turn) → (W M c Known Before Done s B out0) t → (W M c Known Before Done s B out0) (cp.reduce_each inos t)
+    unfolding cp.reduce_each cp.reduce
+    w_reduces [] t w = w
+    w_reduces (ino ∷ inos) t w = w_reduces inos _ (go t.here.session refl)
+      where
+        go : (o : Option ClientSession) → t.here.session ≡ o → (W M c Known Before Done s B out0) (cp.reduce t ino o)
+        go None e = w
+        go (Some x) e = w_reduce_idle t x ino w ((into M c Known Before Done s B out0) t x e w)
+
+    -- Writes.
+    w_write_page : (t : Turn) (x : ClientSession) (now : Stamp) (tick : Bool) (o : Option DirtyPage) → (W M c Known Before Done s B out0) t → (W M c Known Before Done s B out0) (cp.write_page t x now tick o)
+    unfolding cp.write_page cp.write_due cp.write_out cp.write_out_at cp.submit_write cp.submit_command
+    w_write_page t x now tick None w = w
+    w_write_page t x now tick (Some d) w = if_both (W M c Known Before Done s B out0) (cp.is_writable t x now tick d) _ t (go (pages.mapping_of t.here.store.extents d.ino d.page)) w
+      where
+        go : (m : Option MappedBlock) → (W M c Known Before Done s B out0) (cp.write_out_at t d m)
+        go None = w
+        go (Some m) = (w_say M c Known Before Done s B out0) (cp.with_command d.ino d.page (io.Write d.version) t) _ tt w
+
+    w_writes : (x : ClientSession) (now : Stamp) (tick : Bool) (xs : List (ℕ × PageNo)) (t : Turn) → (W M c Known Before Done s B out0) t → (W M c Known Before Done s B out0) (cp.write_each x now tick xs t)
+    unfolding cp.write_each
+    w_writes x now tick [] t w = w
+    w_writes x now tick (y ∷ ys) t w = w_writes x now tick ys _ (w_write_page t x now tick _ w)
+
+    w_writing : (now : Stamp) (tick : Bool) (t : Turn) → (W M c Known Before Done s B out0) t → (W M c Known Before Done s B out0) (cp.writes now tick t)
+    unfolding cp.writes cp.writes_by
+    w_writing now tick t w = go t.here.session
+      where
+        go : (o : Option ClientSession) → (W M c Known Before Done s B out0) (cp.writes_by t now tick o)
+        go None = w
+        go (Some x) = w_writes x now tick _ t w
+
+    -- Greeting.
+    w_greeting : (now : Stamp) (tick : Bool) (t : Turn) → (W M c Known Before Done s B out0) t → (W M c Known Before Done s B out0) (cp.greeting now tick t)
+    unfolding cp.greeting cp.greeting_by cp.greet cp.hello
+    w_greeting now tick t w = go t.here.session
+      where
+        go : (o : Option ClientSession) → (W M c Known Before Done s B out0) (cp.greeting_by t now tick o)
+        go None = if_both (W M c Known Before Done s B out0) (cp.must_greet t now tick) _ t (w_idle (cp.with_greeting now t) 0 now.0 bodies.Hello w) w
+        go (Some x) = w
+
+    pub w_passes : ((sv : ServerId) (life epoch number op : ℕ) → ((m : Message) → Has m M → Keyed c sv life epoch number m → ⊥) → Before sv life epoch number op) →
+        (now : Stamp) (tick : Bool) (t : Turn) → (W M c Known Before Done s B out0) t → (W M c Known Before Done s B out0) (cp.passes now tick t)
+    unfolding cp.passes cp.reductions
+    w_passes fresh now tick t w = w_requests fresh now tick _ (w_greeting now tick _ (w_writing now tick _ (w_reduces _ _ (w_operations now t w))))
+
+    -- Asks of applications.
+    pub w_take : (op : ℕ) (ask : Ask) → Known op ask → (t : Turn) → (W M c Known Before Done s B out0) t → (W M c Known Before Done s B out0) (cs.only_at (server_of ask) (cl.take_ask op ask) t)
+    unfolding cs.only_at cl.take_ask cl.take_by cl.take_sync cl.tell_lost cl.enqueue
+    w_take op ask k t w = if_case (W M c Known Before Done s B out0) (cs.is_at (server_of ask) t.here) (cl.take_ask op ask t) t (λ e. by e ask) (λ e. w)
+      where
+        new : Operation
+        new = cs.new_operation op ask
+
+        unsent : (a : Bool) → (a && false) ≡ true → ⊥
+        unsent true e = cc
+        unsent false e = cc
+
+        clash : {b : Bool} → b ≡ true → b ≡ false → ⊥
+        clash x y = cc
+
+        pended : cs.is_at (server_of ask) t.here ≡ true → (W M c Known Before Done s B out0) (cs.keep new t)
+        pended at =
+            record {
+              base = record {
+                id_ = w.base.id_;
+                server = w.base.server;
+                asked = λ o h. asked o (has_append t.operations (new ∷ []) o h);
+                others = λ o h e. others o (has_append t.operations (new ∷ []) o h) e;
+                numbers = w.base.numbers;
+                sent = w.base.sent;
+                said = w.base.said;
+              };
+              waits = λ o h e. waits o (has_append t.operations (new ∷ []) o h) e;
+            }
+          where
+            own : cs.is_of t.here.server new ≡ true
+            own = eq-eqb (server_of ask).0 t.here.server.0 (sym (eqb-true t.here.server.0 (server_of ask).0 at))
+
+            asked : (o : Operation) → Has o t.operations ⊎ Has o (new ∷ []) → Known o.op o.ask
+            asked o (inl h) = w.base.asked o h
+            asked o (inr (inl e)) = subst (λ (z : Operation). Known z.op z.ask) (sym e) k
+            asked o (inr (inr i)) = absurd i
+
+            others : (o : Operation) → Has o t.operations ⊎ Has o (new ∷ []) → cs.is_of t.here.server o ≡ false → Has o B
+            others o (inl h) e = w.base.others o h e
+            others o (inr (inl q)) e = absurd (clash own (subst (λ z. cs.is_of t.here.server z ≡ false) q e))
+            others o (inr (inr i)) e = absurd i
+
+            waits : (o : Operation) → Has o t.operations ⊎ Has o (new ∷ []) → cs.is_asked t.here.server o ≡ true → Waits Before t.here.server t.here.life.0 (view t.here.session) o
+            waits o (inl h) e = w.waits o h e
+            waits o (inr (inl q)) e = absurd (unsent (cs.is_of t.here.server new) (subst (λ z. cs.is_asked t.here.server z ≡ true) q e))
+            waits o (inr (inr i)) e = absurd i
+
+        by : cs.is_at (server_of ask) t.here ≡ true → (a : Ask) → (W M c Known Before Done s B out0) (cl.take_by t op ask a)
+        by at (asks.Sync f) = if_both (W M c Known Before Done s B out0) (pages.has_lost t.here.lost f.ino) _ _ ((w_say M c Known Before Done s B out0) (cs.with_lost_rows (pages.untold t.here.lost f.ino) t) _ tt w) (pended at)
+        by at a = pended at

@@ -1,0 +1,431 @@
+-- What stands within a client's rule at a server, of its requests, of who waits for one and of what is sent and answered; and what small
+-- changes, refusals and new sessions leave of it.
+use Rattle.std.proofs.Common.{◌≡◌, ℕ, ◌≤◌, ◌<◌, ◌⊎◌, Bool, true, false, not, ◌&&◌, ◌==◌, List, [], ◌∷◌, ◌++◌, Option, Some, None, refl, sym, ap, ◌∙◌, subst, inl, inr, arith, if◌then◌else◌}
+use Rattle.std.specs.Prelude.{map}
+use Rattle.st_base.specs.declared.ids.ClientId.{ClientId}
+use Rattle.st_base.specs.declared.ids.Epoch.{Epoch}
+use Rattle.st_base.specs.declared.ids.GrantNo.{GrantNo}
+use Rattle.st_base.specs.declared.ids.PageNo.{PageNo}
+use Rattle.st_base.specs.declared.ids.ServerId.{ServerId}
+use Rattle.st_base.specs.declared.ids.Stamp.{Stamp}
+use Rattle.st_base.specs.declared.mode.Mode.{Mode}
+use Rattle.st_base.specs.declared.rows.ExtentRow.{ExtentRow}
+use Rattle.st_messages.specs.declared.answer.AppAnswer.{AppAnswer}
+use Rattle.st_messages.specs.declared.answer.AppAnswer.TheVariants as answers
+use Rattle.st_messages.specs.declared.ask.Ask.{Ask}
+use Rattle.st_messages.specs.declared.ask.Ask.TheVariants as asks
+use Rattle.st_messages.specs.declared.message.Body.{Body}
+use Rattle.st_messages.specs.declared.message.Body.TheVariants as bodies
+use Rattle.st_messages.specs.declared.message.Header.{Header}
+use Rattle.st_messages.specs.declared.message.Message.{Message}
+use Rattle.st_messages.specs.declared.message.Why.{Why}
+use Rattle.st_messages.specs.declared.message.Why.TheVariants as why
+use Rattle.st_messages.specs.declared.output.Output.{Output}
+use Rattle.st_messages.specs.declared.output.Output.TheVariants as outputs
+use Rattle.st_rules.specs.declared.client.HeldLock.{HeldLock}
+use Rattle.st_rules.specs.declared.client.Operation.{Operation}
+use Rattle.st_rules.specs.declared.client.Request.{Request}
+use Rattle.st_rules.specs.declared.client.Stage.TheVariants as stages
+use Rattle.st_rules.specs.ClientLocks as locks
+use Rattle.st_rules.specs.ClientReplies as cr
+use Rattle.st_rules.specs.ClientState as cs
+use Rattle.st_rules.specs.ClientState.{ClientSession, Turn, Requests, answer_to, server_of, say, with_session}
+use Rattle.st_lemmas.specs.Lists.{Has}
+use Rattle.st_lemmas.proofs.Tables.{and_true, has_append, has_filter, has_map, not_true}
+use Rattle.st_laws_requests.specs.Cuts.Cuts.{AllWait, AsksFor, Between, Counts, Numbers, Placed, WaitsAt, view}
+
+-- an operation's server and stage
+pub asked_of : (s : ServerId) (o : Operation) → cs.is_asked s o ≡ true → (cs.is_of s o ≡ true) × (cs.is_asked_at o.stage ≡ true)
+asked_of s o e = and_true (cs.is_of s o) (cs.is_asked_at o.stage) e
+
+-- only a cut or a request for a name is that of an ask
+pub only_own : (a : Ask) (b : Body) → AsksFor a b → cs.asks_cut_or_name b ≡ true
+only_own (asks.Cut f p) (bodies.Cut ino g q) h = refl
+only_own (asks.Name s k) (bodies.Name op) h = refl
+only_own a b h = absurd h
+
+pub no_acquire : (ino : ℕ) (b : Body) → cs.acquires ino b ≡ true → cs.asks_cut_or_name b ≡ true → ⊥
+no_acquire ino (bodies.Acquire i m) h e = cc
+no_acquire ino b h e = cc
+
+pub no_map : (ino : ℕ) (b : Body) → cs.maps ino b ≡ true → cs.asks_cut_or_name b ≡ true → ⊥
+no_map ino (bodies.Map i g p) h e = cc
+no_map ino (bodies.Allocate i g p n) h e = cc
+no_map ino b h e = cc
+
+pub no_reassert : (b : Body) → cs.reasserts b ≡ true → cs.asks_cut_or_name b ≡ true → ⊥
+no_reassert (bodies.Reassert rows) h e = cc
+no_reassert b h e = cc
+
+pub if_both : (P : Turn → Type 0) (b : Bool) (t u : Turn) → P t → P u → P (if b then t else u)
+if_both P true t u x y = x
+if_both P false t u x y = y
+
+pub if_case : (P : Turn → Type 0) (b : Bool) (t u : Turn) → (b ≡ true → P t) → (b ≡ false → P u) → P (if b then t else u)
+if_case P true t u x y = x refl
+if_case P false t u x y = y refl
+
+pub has_middle : {A : Type 0} (k p : A) (xs ys : List A) → Has p (xs ++ ys) → Has p (xs ++ k ∷ ys)
+has_middle k p [] ys h = inr h
+has_middle k p (x ∷ xs) ys (inl e) = inl e
+has_middle k p (x ∷ xs) ys (inr h) = inr (has_middle k p xs ys h)
+
+module _ (M : List Message) (c : ClientId) (Known : ℕ → Ask → Type 0) (Before : ServerId → ℕ → ℕ → ℕ → ℕ → Type 0) (Done : ℕ → Ask → Type 0) where
+  -- what was sent before the step, and in it so far
+  abbrev pub Sent : List Output → Message → Type 0
+  Sent out m = Has m M ⊎ Has (outputs.Send m) out
+
+  -- `cut` is said of a cut that was done
+  abbrev pub SaidOf : ℕ → AppAnswer → Type 0
+  SaidOf op answers.Cut = (ask : Ask) × Known op ask × Done op ask
+  SaidOf op a = Unit {0}
+
+  -- an output that is no request
+  abbrev pub Okay : ServerId → ℕ → Output → Type 0
+  Okay s life (outputs.Send m) = Between c s m × (m.header.life ≡ life) × (m.header.number ≡ 0)
+  Okay s life (outputs.Answer op a) = SaidOf op a
+  Okay s life o = Unit {0}
+
+  -- What stands within a rule at a server, with the operations and outputs that it began with: but for who waits.
+  pub record Base (s : ServerId) (B : List Operation) (out0 : List Output) (id : ClientId) (sv : ServerId) (life : ℕ) (v : Option (ℕ × Requests)) (ops : List Operation) (out : List Output) : Type 0 where
+    pub id_ : id ≡ c
+    pub server : sv ≡ s
+    pub asked : (o : Operation) → Has o ops → Known o.op o.ask
+    pub others : (o : Operation) → Has o ops → cs.is_of sv o ≡ false → Has o B
+    pub numbers : Numbers (Sent out) c sv life v
+    pub sent : (m : Message) → Has (outputs.Send m) out → Has (outputs.Send m) out0 ⊎ Between c sv m
+    pub said : (op : ℕ) → Has (outputs.Answer op answers.Cut) out → (ask : Ask) × Known op ask × Done op ask
+
+  -- and who waits
+  pub record Whole (s : ServerId) (B : List Operation) (out0 : List Output) (id : ClientId) (sv : ServerId) (life : ℕ) (v : Option (ℕ × Requests)) (ops : List Operation) (out : List Output) : Type 0 where
+    pub base : Base s B out0 id sv life v ops out
+    pub waits : AllWait Before sv life v ops
+
+  -- nobody waits
+  abbrev pub Free : ServerId → List Operation → Type 0
+  Free sv ops = (o : Operation) → Has o ops → cs.is_asked sv o ≡ true → ⊥
+
+  module _ (s : ServerId) (B : List Operation) (out0 : List Output) where
+    abbrev pub K : ClientId → ServerId → ℕ → Option (ℕ × Requests) → List Operation → List Output → Type 0
+    K id sv life v ops out = Base s B out0 id sv life v ops out
+
+    -- of a turn
+    abbrev pub C : Turn → Type 0
+    C t = Base s B out0 t.id t.here.server t.here.life.0 (view t.here.session) t.operations t.out
+
+    abbrev pub W : Turn → Type 0
+    W t = Whole s B out0 t.id t.here.server t.here.life.0 (view t.here.session) t.operations t.out
+
+    -- of a turn, were its session this one
+    abbrev pub CIn : Turn → ClientSession → Type 0
+    CIn t x = Base s B out0 t.id t.here.server t.here.life.0 (view (Some x)) t.operations t.out
+
+    abbrev pub WIn : Turn → ClientSession → Type 0
+    WIn t x = Whole s B out0 t.id t.here.server t.here.life.0 (view (Some x)) t.operations t.out
+
+    pub back : (t : Turn) (x : ClientSession) → t.here.session ≡ Some x → WIn t x → W t
+    back t x e w = subst (λ o. Whole s B out0 t.id t.here.server t.here.life.0 (view o) t.operations t.out) (sym e) w
+
+    pub into : (t : Turn) (x : ClientSession) → t.here.session ≡ Some x → W t → WIn t x
+    into t x e w = subst (λ o. Whole s B out0 t.id t.here.server t.here.life.0 (view o) t.operations t.out) e w
+
+    pub free_all : (id : ClientId) (sv : ServerId) (life : ℕ) (v : Option (ℕ × Requests)) (ops : List Operation) (out : List Output) → Free sv ops → K id sv life v ops out → Whole s B out0 id sv life v ops out
+    free_all id sv life v ops out f b = record { base = b; waits = λ o h e. absurd (f o h e) }
+
+    -- with no outstanding request nobody waits
+    pub is_free : (sv : ServerId) (life epoch : ℕ) (q : Option Request) (ops : List Operation) → q ≡ None → ((o : Operation) → Has o ops → cs.is_asked sv o ≡ true → WaitsAt Before sv life epoch q o) → Free sv ops
+    is_free sv life epoch q ops e f o h a = subst (λ q. WaitsAt Before sv life epoch q o) e (f o h a)
+
+    -- Small changes.
+    -- more outputs, none of them a request
+    pub b_more : (id : ClientId) (sv : ServerId) (life : ℕ) (v : Option (ℕ × Requests)) (ops : List Operation) (out os : List Output) → ((o : Output) → Has o os → Okay sv life o) → K id sv life v ops out → K id sv life v ops (out ++ os)
+    b_more id sv life v ops out os k b =
+        record {
+          id_ = b.id_;
+          server = b.server;
+          asked = b.asked;
+          others = b.others;
+          numbers = record { lives = λ m h t. lives m (which m h) t; placed = λ m h t. placed m v (which m h) t (b.numbers.placed m); counts = b.numbers.counts };
+          sent = λ m h. sends m (has_append out os (outputs.Send m) h);
+          said = λ op h. says op (has_append out os (outputs.Answer op answers.Cut) h);
+        }
+      where
+        which : (m : Message) → Sent (out ++ os) m → Sent out m ⊎ Has (outputs.Send m) os
+        which m (inl h) = inl (inl h)
+        which m (inr h) = go (has_append out os (outputs.Send m) h)
+          where
+            go : Has (outputs.Send m) out ⊎ Has (outputs.Send m) os → Sent out m ⊎ Has (outputs.Send m) os
+            go (inl i) = inl (inr i)
+            go (inr i) = inr i
+
+        lives : (m : Message) → Sent out m ⊎ Has (outputs.Send m) os → Between c sv m → m.header.life ≤ life
+        lives m (inl h) t = b.numbers.lives m h t
+        lives m (inr h) t = let z = (k (outputs.Send m) h).1 in omega (arith, z)
+
+        placed : (m : Message) (v : Option (ℕ × Requests)) → Sent out m ⊎ Has (outputs.Send m) os → Between c sv m → (Sent out m → Between c sv m → Placed life v m) → Placed life v m
+        placed m v (inl h) t f = f h t
+        placed m None (inr h) t f = λ l. (k (outputs.Send m) h).2
+        placed m (Some x) (inr h) t f = λ l n. let z = (k (outputs.Send m) h).2 in absurd (omega (arith, z, n))
+
+        sends : (m : Message) → Has (outputs.Send m) out ⊎ Has (outputs.Send m) os → Has (outputs.Send m) out0 ⊎ Between c sv m
+        sends m (inl h) = b.sent m h
+        sends m (inr h) = inr (k (outputs.Send m) h).0
+
+        says : (op : ℕ) → Has (outputs.Answer op answers.Cut) out ⊎ Has (outputs.Answer op answers.Cut) os → (ask : Ask) × Known op ask × Done op ask
+        says op (inl h) = b.said op h
+        says op (inr h) = k (outputs.Answer op answers.Cut) h
+
+    pub one_okay : (sv : ServerId) (life : ℕ) (o : Output) → Okay sv life o → (x : Output) → Has x (o ∷ []) → Okay sv life x
+    one_okay sv life o k x (inl e) = subst (Okay sv life) (sym e) k
+    one_okay sv life o k x (inr i) = absurd i
+
+    pub b_say : (id : ClientId) (sv : ServerId) (life : ℕ) (v : Option (ℕ × Requests)) (ops : List Operation) (out : List Output) (o : Output) → Okay sv life o → K id sv life v ops out → K id sv life v ops (out ++ o ∷ [])
+    b_say id sv life v ops out o k b = b_more id sv life v ops out (o ∷ []) (one_okay sv life o k) b
+
+    pub w_say : (t : Turn) (o : Output) → Okay t.here.server t.here.life.0 o → W t → W (say t o)
+    w_say t o k w = record { base = b_say t.id t.here.server t.here.life.0 (view t.here.session) t.operations t.out o k w.base; waits = w.waits }
+
+    -- fewer operations
+    pub b_fewer : (id : ClientId) (sv : ServerId) (life : ℕ) (v : Option (ℕ × Requests)) (ops qs : List Operation) (out : List Output) → ((o : Operation) → Has o qs → Has o ops) → K id sv life v ops out → K id sv life v qs out
+    b_fewer id sv life v ops qs out f b =
+        record { id_ = b.id_; server = b.server; asked = λ o h. b.asked o (f o h); others = λ o h e. b.others o (f o h) e; numbers = b.numbers; sent = b.sent; said = b.said }
+
+    pub w_fewer : (id : ClientId) (sv : ServerId) (life : ℕ) (v : Option (ℕ × Requests)) (ops qs : List Operation) (out : List Output) → ((o : Operation) → Has o qs → Has o ops) → Whole s B out0 id sv life v ops out → Whole s B out0 id sv life v qs out
+    w_fewer id sv life v ops qs out f w = record { base = b_fewer id sv life v ops qs out f w.base; waits = λ o h e. w.waits o (f o h) e }
+
+    -- operations are answered
+    abbrev pub Plain : AppAnswer → Type 0
+    Plain a = (op : ℕ) → SaidOf op a
+
+    pub okay_answers : (sv : ServerId) (life : ℕ) (a : AppAnswer) (xs : List Operation) → Plain a → (x : Output) → Has x (map (answer_to a) xs) → Okay sv life x
+    okay_answers sv life a xs p x h = let z = has_map (answer_to a) xs x h in subst (Okay sv life) (sym z.2) (p z.0.op)
+
+    pub b_answers : (t : Turn) (picked : Operation → Bool) (a : AppAnswer) → Plain a → C t → C (cs.answer_each picked a t)
+    unfolding cs.answer_each
+    b_answers t picked a p b =
+        b_more t.id t.here.server t.here.life.0 (view t.here.session) _ t.out _ (okay_answers t.here.server t.here.life.0 a _ p)
+        (b_fewer t.id t.here.server t.here.life.0 (view t.here.session) t.operations _ t.out (λ o h. (has_filter _ t.operations o h).0) b)
+
+    pub w_answers : (t : Turn) (picked : Operation → Bool) (a : AppAnswer) → Plain a → W t → W (cs.answer_each picked a t)
+    unfolding cs.answer_each
+    w_answers t picked a p w = record { base = b_answers t picked a p w.base; waits = λ o h e. w.waits o (has_filter _ t.operations o h).0 e }
+
+    -- the operations that wait are answered, and nobody waits
+    pub freed : (t : Turn) (a : AppAnswer) → Free t.here.server (cs.answer_each (cs.is_asked t.here.server) a t).operations
+    unfolding cs.answer_each
+    freed t a o h e = let z = not_true _ (has_filter (λ o. not (cs.is_asked t.here.server o)) t.operations o h).1 in clash e z
+      where
+        clash : {b : Bool} → b ≡ true → b ≡ false → ⊥
+        clash x y = cc
+
+    -- Sessions that go on.
+    -- a session with the same epoch and requests is the same to all this
+    pub w_session : (t : Turn) (x : ClientSession) → WIn t x → W (with_session x t)
+    w_session t x w = w
+
+    pub w_condemn : (t : Turn) (x : ClientSession) → WIn t x → W (cr.condemn t x)
+    unfolding cr.condemn
+    w_condemn t x w = w
+
+    pub grant_view : (x : ClientSession) (ino : ℕ) (g : GrantNo) (mode : Mode) → view (Some (cr.grant (cs.forget_wait ino x) ino g mode)) ≡ view (Some x)
+    unfolding cr.grant cr.grant_new cr.accept_grant cr.decline
+    grant_view x ino g mode = go (locks.is_above_seen x.locks ino g)
+      where
+        y : ClientSession
+        y = cs.forget_wait ino x
+
+        new : (b : Bool) → view (Some (if b then cr.accept_grant y ino g mode else cr.decline y ino g)) ≡ view (Some x)
+        new true = refl
+        new false = refl
+
+        go : (b : Bool) → view (Some (if b then cr.grant_new y ino g mode else y)) ≡ view (Some x)
+        go true = new (locks.has_place y.locks ino)
+        go false = refl
+
+    pub w_view : (t : Turn) (x y : ClientSession) → view (Some y) ≡ view (Some x) → WIn t x → WIn t y
+    w_view t x y e w = subst (λ v. Whole s B out0 t.id t.here.server t.here.life.0 v t.operations t.out) (sym e) w
+
+    pub w_granted : (t : Turn) (x : ClientSession) (ino : ℕ) (g : GrantNo) (mode : Mode) → WIn t x → W (cr.granted t x ino g mode)
+    unfolding cr.granted
+    w_granted t x ino g mode w = w_view t x (cr.grant (cs.forget_wait ino x) ino g mode) (grant_view x ino g mode) w
+
+    pub w_queued : (t : Turn) (x : ClientSession) (now : Stamp) (ino : ℕ) (mode : Mode) → WIn t x → W (cr.queued t x now ino mode)
+    unfolding cr.queued cr.wait_told cr.wait_unless_held
+    w_queued t x now ino mode w = w_view t x (cr.wait_unless_held x ino mode now) (go (Rattle.st_base.specs.Mode.covers (locks.mode_of x.locks ino) mode)) w
+      where
+        go : (b : Bool) → view (Some (if b then x else cr.wait_told x ino mode now)) ≡ view (Some x)
+        go true = refl
+        go false = refl
+
+    pub w_extents : (t : Turn) (x : ClientSession) (ino : ℕ) (rows : List ExtentRow) (asked : Body) → W t → W (cr.extents t x ino rows asked)
+    unfolding cr.extents cr.learn
+    w_extents t x ino rows asked w = if_both W (cr.is_current x.locks asked) _ t w w
+
+    pub w_reasserted : (t : Turn) (x : ClientSession) → WIn t x → W (cr.reasserted t x)
+    unfolding cr.reasserted
+    w_reasserted t x w = w
+
+    pub w_removed : (t : Turn) (x : ClientSession) (file : Option ℕ) → W t → WIn t x → W (cr.removed t x file)
+    unfolding cr.removed cr.drop_held cr.drop_lock
+    w_removed t x None w y = w
+    w_removed t x (Some ino) w y = go (locks.lock_of x.locks ino)
+      where
+        go : (o : Option HeldLock) → W (cr.drop_held t x ino o)
+        go None = w
+        go (Some l) = y
+
+    -- Refusals.
+    pub w_refuse_file : (t : Turn) (a : AppAnswer) (file : Option ℕ) → Plain a → C t → C (cr.refuse_file t a file)
+    unfolding cr.refuse_file
+    w_refuse_file t a None p w = w
+    w_refuse_file t a (Some ino) p w = b_answers t _ a p w
+
+    pub w_refuse_page : (t : Turn) (a : AppAnswer) (file : Option ℕ) (page : Option PageNo) → Plain a → C t → C (cr.refuse_page t a file page)
+    unfolding cr.refuse_page
+    w_refuse_page t a (Some ino) (Some p) k w = b_answers t _ a k w
+    w_refuse_page t a (Some ino) None k w = w
+    w_refuse_page t a None page k w = w
+
+    pub w_refuse_as : (t : Turn) (y : Why) (a b : ℕ) (file : Option ℕ) (asked : Body) → C t → C (cr.refuse_as t y a b file asked)
+    unfolding cr.refuse_as cr.refuse_holder
+    w_refuse_as t why.NoFile a b file asked w = w_refuse_file t _ file (λ op. tt) w
+    w_refuse_as t why.TooManyLocks a b file asked w = w_refuse_file t _ file (λ op. tt) w
+    w_refuse_as t why.NoSpace a b file asked w = w_refuse_page t _ file _ (λ op. tt) w
+    w_refuse_as t why.NotHolder a b file asked w = if_both C (cs.asks_cut_or_remove asked) _ t (b_answers t _ _ (λ op. tt) w) w
+    w_refuse_as t y a b file asked w = w
+
+    -- an operation that is stuck waits no more
+    pub record StuckOf (t : Turn) (o p : Operation) : Type 0 where
+      pub op : p.op ≡ o.op
+      pub ask : p.ask ≡ o.ask
+      pub free : cs.is_asked t.here.server p ≡ true → ⊥
+      pub same : cs.is_of t.here.server o ≡ false → p ≡ o
+
+    pub stuck_is : (t : Turn) (o : Operation) → StuckOf t o (cr.stuck t o)
+    stuck_is t o = go (cs.is_asked t.here.server o) refl
+      where
+        clash : {b : Bool} → b ≡ true → b ≡ false → ⊥
+        clash x y = cc
+
+        stays : (a : Bool) → (a && false) ≡ true → ⊥
+        stays true e = cc
+        stays false e = cc
+
+        go : (b : Bool) → cs.is_asked t.here.server o ≡ b → StuckOf t o (if b then cs.at_stage stages.Stuck o else o)
+        go true e = record { op = refl; ask = refl; free = λ h. stays (cs.is_of t.here.server o) h; same = λ f. absurd (clash (asked_of t.here.server o e).0 f) }
+        go false e = record { op = refl; ask = refl; free = λ h. clash h e; same = λ f. refl }
+
+    abbrev pub From : Turn → Operation → Type 0
+    From t o = (p : Operation) × Has p t.operations × (o ≡ cr.stuck t p)
+
+    pub w_stuck : (t : Turn) → C t → W (cr.leave_stuck t)
+    unfolding cr.leave_stuck
+    w_stuck t b =
+        record {
+          base = record {
+            id_ = b.id_;
+            server = b.server;
+            asked = λ o h. asked o (has_map (cr.stuck t) t.operations o h);
+            others = λ o h e. others o (has_map (cr.stuck t) t.operations o h) e;
+            numbers = b.numbers;
+            sent = b.sent;
+            said = b.said;
+          };
+          waits = λ o h e. absurd (free o (has_map (cr.stuck t) t.operations o h) e);
+        }
+      where
+        asked : (o : Operation) → From t o → Known o.op o.ask
+        asked o (p, h, e) =
+            let z = stuck_is t p in
+            subst (λ (q : Operation). Known q.op q.ask) (sym e) (subst (λ n. Known n (cr.stuck t p).ask) (sym z.op) (subst (λ a. Known p.op a) (sym z.ask) (b.asked p h)))
+
+        of_same : (o p : Operation) → server_of p.ask ≡ server_of o.ask → cs.is_of t.here.server o ≡ false → cs.is_of t.here.server p ≡ false
+        of_same o p e f = ap (λ (x : ServerId). x.0 == t.here.server.0) e ∙ f
+
+        others : (o : Operation) → From t o → cs.is_of t.here.server o ≡ false → Has o B
+        others o (p, h, e) f =
+            let z = stuck_is t p in
+            let g = of_same o p (sym (ap (λ (q : Operation). server_of q.ask) e ∙ ap server_of z.ask)) f in
+            subst (λ q. Has q B) (sym (e ∙ z.same g)) (b.others p h g)
+
+        free : (o : Operation) → From t o → cs.is_asked t.here.server o ≡ true → ⊥
+        free o (p, h, e) f = (stuck_is t p).free (subst (λ q. cs.is_asked t.here.server q ≡ true) e f)
+
+    pub w_refused : (t : Turn) (y : Why) (a b : ℕ) (file : Option ℕ) (asked : Body) → C t → W (cr.refused t y a b file asked)
+    unfolding cr.refused
+    w_refused t y a b file asked w = w_stuck _ (w_refuse_as t y a b file asked w)
+
+    -- A session that begins: nothing is known of its numbers, and nobody waits.
+    pub b_begins : (t : Turn) (x : ClientSession) → t.here.session ≡ None → x.requests ≡ cs.no_requests → W t → WIn t x
+    b_begins t x e n w = free_all t.id t.here.server t.here.life.0 (view (Some x)) t.operations t.out free base
+      where
+        none : Whole s B out0 t.id t.here.server t.here.life.0 None t.operations t.out
+        none = subst (λ o. Whole s B out0 t.id t.here.server t.here.life.0 (view o) t.operations t.out) e w
+
+        free : Free t.here.server t.operations
+        free o h a = none.waits o h a
+
+        counts : Counts (Some (x.epoch.0, cs.no_requests))
+        counts = (omega arith, tt)
+
+        base : CIn t x
+        base = subst (λ r. Base s B out0 t.id t.here.server t.here.life.0 (Some (x.epoch.0, r)) t.operations t.out) (sym n)
+            (record {
+              id_ = none.base.id_;
+              server = none.base.server;
+              asked = none.base.asked;
+              others = none.base.others;
+              numbers = record { lives = none.base.numbers.lives; placed = λ m h b l k. let z = none.base.numbers.placed m h b l in absurd (omega (arith, z, k)); counts = counts };
+              sent = none.base.sent;
+              said = none.base.said;
+            })
+
+    pub w_welcome : (t : Turn) (now : Stamp) (epoch : Epoch) (stamp : Stamp) → t.here.session ≡ None → W t → W (cr.welcome t now epoch stamp)
+    unfolding cr.welcome cr.begin_session cr.note_lease
+    w_welcome t now epoch stamp e w =
+        if_both W (cr.is_timely t now stamp) _ t (w_say (cr.begin_here (cr.new_session epoch stamp) t) _ tt (b_begins t (cr.new_session epoch stamp) e refl w)) w
+
+    pub w_without : (t : Turn) (now : Stamp) (h : Header) (b : Body) → t.here.session ≡ None → W t → W (cr.without_session t now h b)
+    unfolding cr.without_session
+    w_without t now h bodies.Welcome e w = w_welcome t now _ _ e w
+    w_without t now h b e w = w
+
+    -- A newer epoch: its numbers begin anew, and who waited is answered.
+    pub w_newer : (t : Turn) (x : ClientSession) (epoch : Epoch) → t.here.session ≡ Some x → W t → W (cr.newer_epoch t x epoch)
+    unfolding cr.newer_epoch cr.follow_epoch cs.answer_each
+    w_newer t x epoch e w = if_case W (cr.is_newer x epoch) _ t (λ f. follows (Rattle.std.proofs.lemmas.Bool.ltb-true _ _ (and_true (Rattle.std.specs.Prelude.nat_lt x.epoch.0 epoch.0) _ f).0)) (λ f. w)
+      where
+        y : ClientSession
+        y = cr.in_epoch epoch x
+
+        z : WIn t x
+        z = into t x e w
+
+        moved : x.epoch.0 < epoch.0 → CIn t y
+        moved l =
+            record {
+              id_ = z.base.id_;
+              server = z.base.server;
+              asked = z.base.asked;
+              others = z.base.others;
+              numbers = record {
+                lives = z.base.numbers.lives;
+                placed = λ m h b k n. let u = (z.base.numbers.placed m h b k n).up_to in record { up_to = omega (arith, u, l); below = λ q. absurd (omega (arith, u, l, q)); same = λ q. absurd (omega (arith, u, l, q)) };
+                counts = (omega arith, tt);
+              };
+              sent = z.base.sent;
+              said = z.base.said;
+            }
+
+        follows : x.epoch.0 < epoch.0 → W (cs.answer_each (cs.is_asked t.here.server) (answers.Uncertain x.epoch.0 epoch.0) (with_session y t))
+        follows l =
+            record {
+              base = b_answers (with_session y t) (cs.is_asked t.here.server) (answers.Uncertain x.epoch.0 epoch.0) (λ op. tt) (moved l);
+              waits = λ o h a. absurd (freed (with_session y t) (answers.Uncertain x.epoch.0 epoch.0) o h a);
+            }
+
+    pub w_of_other : (t : Turn) (x : ClientSession) (epoch : Epoch) (b : Body) → t.here.session ≡ Some x → W t → W (cr.of_other_epoch t x epoch b)
+    unfolding cr.of_other_epoch
+    w_of_other t x epoch (bodies.Nack why.OtherEpoch u v) e w = w_newer t x epoch e w
+    w_of_other t x epoch (bodies.Nack z u v) e w = w
+    w_of_other t x epoch b e w = w

@@ -1,0 +1,141 @@
+-- Answers are logged: at the start, behind every event, and over whole runs.
+use Rattle.std.proofs.Common.{◌≡◌, ℕ, ◌+◌, ◌⊎◌, List, [], ◌∷◌, ◌++◌, Option, Some, None, Ok, refl, sym, ap, ◌∙◌, subst, inl, inr, arith}
+use Rattle.std.specs.Prelude.{map, length, zero, suc, slice_get, option_map, nat_le}
+use Rattle.std.proofs.lemmas.Bool.{leb-true}
+use Rattle.st_base.specs.declared.config.Config.{Config}
+use Rattle.st_base.specs.declared.ids.ClientId.{ClientId}
+use Rattle.st_base.specs.declared.ids.ServerId.{ServerId}
+use Rattle.st_messages.specs.declared.answer.AppAnswer.TheVariants as answers
+use Rattle.st_messages.specs.declared.event.Event.{Event}
+use Rattle.st_messages.specs.declared.message.Body.TheVariants as bodies
+use Rattle.st_messages.specs.declared.message.Message.{Message}
+use Rattle.st_rules.specs.declared.observation.Observation.{Observation}
+use Rattle.st_rules.specs.declared.observation.Observation.TheVariants as seen
+use Rattle.st_rules.specs.declared.sessions.Session.{Session}
+use Rattle.st_rules.specs.Extents.{numbers}
+use Rattle.st_rules.specs.Keys.{client, server_node}
+use Rattle.st_rules.specs.Client as cl
+use Rattle.st_rules.specs.Server as server
+use Rattle.st_rules.specs.World.{fresh_site, fresh_world, node_at_start, numbered}
+use Rattle.st_rules.specs.Events.{WorldTurn, world_step}
+use Rattle.st_rules.specs.History.{Traced, traced, traced_after}
+use Rattle.st_rules.specs.Safety.{AnswersAreLogged, AreLogged, IsHead, IsLogged, Step, Throughout, step, steps}
+use Rattle.st_lemmas.specs.Lists.{Has}
+use Rattle.st_lemmas.proofs.Lookups.{some_is}
+use Rattle.st_lemmas.proofs.Numbers.{get_map}
+use Rattle.st_lemmas.proofs.Steps.{step_happens, throughout}
+use Rattle.st_lemmas.proofs.Tables.{and_true, has_append, has_map}
+use Rattle.st_laws_leases.specs.Dates.Dates.{messages}
+use Rattle.st_laws_leases.proofs.Dates.Steps.{length_map}
+use Rattle.st_laws_pages.proofs.Disks.Steps.{fates_law}
+use Rattle.st_laws_pages.proofs.Disks.Whole.{fresh_fates}
+use Rattle.st_laws_pages.specs.Asks.Law.{AreWrittenLogged, IsWrittenLogged, WrittenIsLogged}
+use Rattle.st_laws_pages.proofs.Asks.Law.{written_law}
+use Rattle.st_laws_requests.specs.Cuts.Cuts.{Acked, ClientOk, CutsHold, ServerOk}
+use Rattle.st_laws_requests.specs.Cuts.Law.{RunsLogAnswers, CutsAreLogged}
+use Rattle.st_laws_requests.proofs.Cuts.World.{Next, acked_more, happens}
+
+-- Both halves of a line.
+both : (past : List Step) (x : Step) (line : Option Observation) (o : Observation) → IsWrittenLogged past x line o → ((c : ClientId) (op : ℕ) → o ≡ seen.Answered c op answers.Cut → IsLogged past x line o) → IsLogged past x line o
+both past x line (seen.Answered c op answers.Written) w f = w
+both past x line (seen.Answered c op answers.Cut) w f = f c op refl
+both past x line (seen.Answered c op a) w f = tt
+both past x line o w f = tt
+
+all_logged : (past : List Step) (x : Step) (line : Option Observation) (os : List Observation) → AreWrittenLogged past x line os → ((c : ClientId) (op : ℕ) (l : Option Observation) → Has (seen.Answered c op answers.Cut) os → IsLogged past x l (seen.Answered c op answers.Cut)) → AreLogged past x line os
+unfolding AreLogged
+all_logged past x line [] w f = tt
+all_logged past x line (o ∷ os) w f = (both past x line o w.one (λ c op e. subst (IsLogged past x line) (sym e) (f c op line (inl (sym e)))), all_logged past x (Some o) os w.rest (λ c op l h. f c op l (inr h)))
+
+logged : (past : List Step) (x : Step) → WrittenIsLogged past x → CutsAreLogged past x → AnswersAreLogged past x
+logged past x w k = all_logged past x None x.seen w (λ c op l h. k c op h)
+
+-- two promises that are kept throughout
+throughout_both : (es : List Step) (past : List Step) → Throughout WrittenIsLogged past es → Throughout CutsAreLogged past es → Throughout AnswersAreLogged past es
+unfolding Throughout
+throughout_both [] past a b = tt
+throughout_both (x ∷ rest) past a b = (logged past x a.0 b.0, throughout_both rest (past ++ x ∷ []) a.1 b.1)
+
+-- One step.
+next_holds : (past : List Step) (t : Traced) (e : Event) (sc : WorldTurn) (d : CutsHold past t) → world_step t.world e ≡ Ok sc → Next past t e d sc → CutsHold (past ++ step t e sc ∷ []) (traced_after e t sc)
+next_holds past t e sc d q n =
+    record {
+      fates = fates_law t.world e sc q d.fates;
+      grown = λ x h m i. grown x (has_append past _ x h) m i;
+      acks = λ m h ack s r. acks m (n.new m h) ack s r;
+      clients = n.clients;
+      servers = n.servers;
+      few = n.few;
+    }
+  where
+    grown : (x : Step) → Has x past ⊎ Has x (step t e sc ∷ []) → (m : Message) → Has m (messages x.before.world) → Has m (messages sc.world)
+    grown x (inl h) m i = n.old m (d.grown x h m i)
+    grown x (inr (inl r)) m i = n.old m (subst (λ (y : Step). Has m (messages y.before.world)) r i)
+    grown x (inr (inr h)) m i = absurd h
+
+    acks : (m : Message) → Has m (messages t.world) ⊎ (m.body ≡ bodies.Ack → (s : ServerId) → m.header.from ≡ server_node s → Acked (past ++ step t e sc ∷ []) (messages sc.world) (client m.header.to) s m.header.life m.header.epoch m.header.number) →
+        m.body ≡ bodies.Ack → (s : ServerId) → m.header.from ≡ server_node s → Acked (past ++ step t e sc ∷ []) (messages sc.world) (client m.header.to) s m.header.life m.header.epoch m.header.number
+    acks m (inl h) ack s r = acked_more past (step t e sc) (messages t.world) (messages sc.world) n.old (client m.header.to) s m.header.life m.header.epoch m.header.number (d.acks m h ack s r)
+    acks m (inr f) ack s r = f ack s r
+
+pub one : (past : List Step) (t : Traced) (e : Event) (sc : WorldTurn) → CutsHold past t → world_step t.world e ≡ Ok sc → CutsAreLogged past (step t e sc) × CutsHold (past ++ step t e sc ∷ []) (traced_after e t sc)
+one past t e sc d h = let z = step_happens t.world e sc h in go (subst (λ (x : WorldTurn). Next past t e d x) (sym z.1) (happens past t d e z.0))
+  where
+    go : Next past t e d sc → CutsAreLogged past (step t e sc) × CutsHold (past ++ step t e sc ∷ []) (traced_after e t sc)
+    go n = (n.cuts, next_holds past t e sc d h n)
+
+-- The start.
+numbers_get : (a c i m : ℕ) → slice_get (numbers a c) i ≡ Some m → m ≡ a + i
+unfolding numbers
+numbers_get a zero i m e = cc
+numbers_get a (suc c) zero m e = let z = some_is e in omega (arith, z)
+numbers_get a (suc c) (suc i) m e = let z = numbers_get (a + 1) c i m e in omega (arith, z)
+
+numbers_length : (a c : ℕ) → length (numbers a c) ≡ c
+unfolding numbers
+numbers_length a zero = refl
+numbers_length a (suc c) = ap suc (numbers_length (a + 1) c)
+
+-- what goes by a number at the start is the fresh one of that number
+fresh_is : {A : Type 0} (f : ℕ → A) (count n : ℕ) (x : A) → numbered (map f (numbers 1 count)) n ≡ Some x → x ≡ f n
+fresh_is f count zero x e = cc
+fresh_is {A} f count (suc i) x e = at (slice_get (numbers 1 count) i) refl (sym (get_map f (numbers 1 count) i) ∙ e)
+  where
+    at : (o : Option ℕ) → slice_get (numbers 1 count) i ≡ o → option_map f o ≡ Some x → x ≡ f (suc i)
+    at None q e = cc
+    at (Some m) q e = sym (some_is e) ∙ ap f (numbers_get 1 count i m q ∙ (let z : 1 + i ≡ suc i = omega arith in z))
+
+fresh_client : (k : Config) (servers : ℕ) (c : ClientId) → ClientOk [] [] c (fresh_site k servers c.0)
+unfolding cl.fresh_client
+fresh_client k servers c =
+    record {
+      count = refl;
+      asked = λ o h. absurd h;
+      lives = λ a h m i. absurd i;
+      all = λ run a h. let z = has_map cl.fresh_association (numbers 1 servers) a h in
+          subst (Rattle.st_laws_requests.specs.Cuts.Cuts.AssociationOk [] [] c []) (sym z.2) (record { numbers = record { lives = λ m i b. absurd i; placed = λ m i b. absurd i; counts = tt }; waits = λ o i. absurd i });
+    }
+
+fresh_server : (k : Config) (servers disks blocks : ℕ) (s : ServerId) → ServerOk [] [] s (node_at_start k servers disks blocks s.0)
+unfolding server.fresh_server
+fresh_server k servers disks blocks s = record { id = refl; kept = λ c x h. none h }
+  where
+    none : {A : Type 0} {x : Session} → ◌≡◌ {A = Option Session} None (Some x) → A
+    none h = cc
+
+pub fresh_holds : (k : Config) (clients servers disks blocks form : ℕ) → IsHead k clients servers disks blocks form → CutsHold [] (traced (fresh_world k clients servers disks blocks form))
+unfolding fresh_world
+fresh_holds k clients servers disks blocks form head =
+    record {
+      fates = fresh_fates k clients servers disks blocks form;
+      grown = λ x h. absurd h;
+      acks = λ m h. absurd h;
+      clients = λ c site e. subst (ClientOk [] [] c) (sym (fresh_is (fresh_site k servers) clients c.0 site e)) (fresh_client k servers c);
+      servers = λ s node e. subst (ServerOk [] [] s) (sym (fresh_is (node_at_start k servers disks blocks) servers s.0 node e)) (fresh_server k servers disks blocks s);
+      few = let z = length_map (fresh_site k servers) (numbers 1 clients) in let y = numbers_length 1 clients in let q = leb-true clients 16 (and_true (nat_le 1 clients) (nat_le clients 16) head.some_clients).1 in omega (arith, z, y, q);
+    }
+
+pub law : RunsLogAnswers
+law k clients servers disks blocks form es head events =
+    throughout_both (steps es (traced (fresh_world k clients servers disks blocks form))) [] (written_law k clients servers disks blocks form es head)
+    (throughout CutsAreLogged CutsHold one es [] (traced (fresh_world k clients servers disks blocks form)) (fresh_holds k clients servers disks blocks form head))

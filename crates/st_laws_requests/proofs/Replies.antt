@@ -1,0 +1,4 @@
+pub mod Asking
+pub mod Last
+pub mod Replies
+pub mod Served

@@ -1,0 +1,409 @@
+-- Every event keeps what the messages of servers say, and so does every run.
+use Rattle.std.proofs.Common.{◌≡◌, ◌≢◌, ℕ, ◌+◌, ◌≤◌, ◌⊎◌, Bool, true, false, List, [], ◌∷◌, ◌++◌, Option, Some, None, Result, Ok, Err, refl, sym, ap, ◌∙◌, subst, inl, inr, arith, if◌then◌else◌}
+use Rattle.std.specs.Prelude.{map, zero, suc, set, slice_get}
+use Rattle.st_base.specs.declared.ids.ClientId.{ClientId}
+use Rattle.st_base.specs.declared.ids.ServerId.{ServerId}
+use Rattle.st_base.specs.declared.ids.Stamp.{Stamp}
+use Rattle.st_base.specs.declared.ids.NodeId.{NodeId}
+use Rattle.st_base.specs.declared.ids.NodeId.TheVariants as nodes
+use Rattle.st_messages.specs.declared.ask.Ask.{Ask}
+use Rattle.st_messages.specs.declared.message.Message.{Message}
+use Rattle.st_messages.specs.declared.event.Event.{Event}
+use Rattle.st_messages.specs.declared.event.Event.TheVariants as events
+use Rattle.st_messages.specs.declared.output.Output.TheVariants as outputs
+use Rattle.st_rules.specs.declared.client.ClientInput.{ClientInput}
+use Rattle.st_rules.specs.declared.client.ClientInput.TheVariants as inputs
+use Rattle.st_rules.specs.declared.input.ServerInput.{ServerInput}
+use Rattle.st_rules.specs.declared.input.ServerInput.TheVariants as serving
+use Rattle.st_rules.specs.declared.node.StepRefusal.TheVariants.{Crashed}
+use Rattle.st_rules.specs.declared.world.IssuedCommand.{IssuedCommand}
+use Rattle.st_rules.specs.declared.world.SentMessage.{SentMessage}
+use Rattle.st_rules.specs.Keys.{client, server_node}
+use Rattle.st_rules.specs.Client as cl
+use Rattle.st_rules.specs.ClientState.{ClientTurn}
+use Rattle.st_rules.specs.Events as ev
+use Rattle.st_rules.specs.Events.{WorldTurn, world_step, client_says_all, server_says_all}
+use Rattle.st_rules.specs.History.{Traced, traced, traced_after}
+use Rattle.st_rules.specs.declared.observation.WorldRefusal.{WorldRefusal}
+use Rattle.st_rules.specs.Sessions as sessions
+use Rattle.st_rules.specs.Server as server
+use Rattle.st_rules.specs.Server.{ServerNode}
+use Rattle.st_rules.specs.World as world
+use Rattle.st_rules.specs.World.{World, ClientSite, fresh_world, site_of, node_of, numbered, with_numbered, clock_of}
+use Rattle.st_rules.specs.Safety as safety
+use Rattle.st_rules.specs.Safety.{Step, Throughout, step, steps}
+use Rattle.st_lemmas.specs.Lists.{Has}
+use Rattle.st_lemmas.proofs.Lookups.{some_is}
+use Rattle.st_lemmas.proofs.Numbers.{numbered_below, numbered_has, numbered_other, numbered_own}
+use Rattle.st_lemmas.proofs.Tables.{has_map_in, same_or_not}
+use Rattle.st_laws_leases.specs.Dates.Dates.{Dated, message_in, messages}
+use Rattle.st_laws_leases.proofs.Dates.Said.{Alike, Said, client_said, flushed, server_said}
+use Rattle.st_laws_leases.proofs.Dates.Steps.{has_numbered}
+use Rattle.st_lemmas.proofs.Steps.{step_happens}
+use Rattle.st_laws_leases.proofs.Dates.Hearing.{Ever, Held, ever_on, step_held}
+use Rattle.st_laws_leases.proofs.Dates.Law as dates
+use Rattle.st_laws_requests.specs.Replies.Reached.{AtMessage, AtReceiver, AtServer, InputNew, IsBehind, NewOwed, ReassertionsNew, Refusal, RepliesAfter, RepliesAreReached, RepliesSay, Says}
+use Rattle.st_laws_requests.proofs.Replies.Served.{Refused, Served, served}
+
+set_cases : {A : Type 0} (xs : List A) (n m : ℕ) (y z x : A) → numbered xs n ≡ Some y → numbered (with_numbered n z xs) m ≡ Some x → ((m ≡ n) × (x ≡ z)) ⊎ ((m ≢ n) × (numbered xs m ≡ Some x))
+set_cases {A} xs n m y z x at h = go (same_or_not m n)
+  where
+    go : (m ≡ n) ⊎ (m ≢ n) → ((m ≡ n) × (x ≡ z)) ⊎ ((m ≢ n) × (numbered xs m ≡ Some x))
+    go (inl q) = inl (q, some_is (sym h ∙ ap (numbered (with_numbered n z xs)) q ∙ numbered_own xs n z y at))
+    go (inr q) = inr (q, sym (numbered_other xs n m z (numbered_below xs n y at).0 q) ∙ h)
+
+server_not_client : (c s : ℕ) → c ≤ 16 → c ≡ 32768 + s → ⊥
+server_not_client c s l e = omega (arith, l, e)
+
+-- among more messages
+says_more : (ms ns : List Message) → ((m : Message) → Has m ms → Has m ns) → (s : ServerId) (n : ServerNode) (m : Message) → Says ms s n m → Says ns s n m
+says_more ms ns f s n m k = record { up_to = k.up_to; behind = λ run e b l. go (k.behind run e b l) }
+  where
+    go : IsBehind (sessions.session_of n.state.sessions (client m.header.to)) m.header.life m.header.number ⊎ Refusal ms s m →
+        IsBehind (sessions.session_of n.state.sessions (client m.header.to)) m.header.life m.header.number ⊎ Refusal ns s m
+    go (inl h) = inl h
+    go (inr r) = inr (record { by = r.by; among = f r.by r.among; from = r.from; there = r.there; of_life = r.of_life; of_epoch = r.of_epoch; under = r.under; rows = r.rows; asks = r.asks; beyond = r.beyond })
+
+-- a lost message is the same message
+map_set : {A B : Type 0} (f : A → B) (xs : List A) (n : ℕ) (y z : A) → f z ≡ f y → slice_get xs n ≡ Some y → map f (set xs n z) ≡ map f xs
+map_set f [] n y z e q = cc
+map_set f (x ∷ xs) zero y z e q = ap (λ v. v ∷ map f xs) (e ∙ ap f (sym (some_is q)))
+map_set f (x ∷ xs) (suc n) y z e q = ap (λ v. f x ∷ v) (map_set f xs n y z e q)
+
+lost_same : (w : World) (k : ℕ) (m : SentMessage) → world.message_of w k ≡ Some m → messages (ev.with_lost k m w) ≡ messages w
+lost_same w zero m e = cc
+lost_same w (suc n) m e = map_set message_in w.net.messages n m (record m { lost = true }) refl e
+
+-- What stands behind every event.
+pub record RepliesHold (past : List Step) (t : Traced) : Type 0 where
+  pub dated : Dated past t
+  pub replies : RepliesSay t.world
+
+module _ (past : List Step) (t : Traced) (d : RepliesHold past t) where
+  -- An event that leaves servers and messages.
+  still : (v : World) → v.servers ≡ t.world.servers → messages v ≡ messages t.world → RepliesSay v
+  still v ss ms s n at m h r = subst (λ l. Says l s n m) (sym ms) (d.replies s n (ap (λ z. numbered z s.0) (sym ss) ∙ at) m (subst (Has m) ms h) r)
+
+  -- A server at its place is another one, and no message is sent.
+  server_placed : (s : ServerId) (old new : ServerNode) (v : World) → node_of t.world s ≡ Some old → v.servers ≡ with_numbered s.0 new t.world.servers → messages v ≡ messages t.world →
+      ((m : Message) → Says (messages t.world) s old m → Says (messages t.world) s new m) → RepliesSay v
+  server_placed s old new v at ss ms k x n i m h r = subst (λ l. Says l x n m) (sym ms) (it (set_cases t.world.servers s.0 x.0 old new n at (ap (λ z. numbered z x.0) (sym ss) ∙ i)))
+    where
+      it : ((x.0 ≡ s.0) × (n ≡ new)) ⊎ ((x.0 ≢ s.0) × (node_of t.world x ≡ Some n)) → Says (messages t.world) x n m
+      it (inl z) =
+          subst (λ y. Says (messages t.world) x y m) (sym z.1)
+          (subst (λ y. Says (messages t.world) (record { 0 = y }) new m) (sym z.0) (k m (d.replies s old at m (subst (Has m) ms h) (r ∙ ap (λ y. server_node (record { 0 = y })) z.0))))
+      it (inr z) = d.replies x n z.1 m (subst (Has m) ms h) r
+
+  -- A step of a client.
+  Comes : ClientInput → Type 0
+  Comes (inputs.Control m) = Has m (messages t.world)
+  Comes i = Unit {0}
+
+  client_step : (v : World) → v.clients ≡ t.world.clients → v.servers ≡ t.world.servers → v.net ≡ t.world.net → (c : ClientId) (i : ClientInput) (site old : ClientSite) → site.node ≡ old.node → site_of t.world c ≡ Some old → Comes i →
+      RepliesSay (ev.client_takes v c i site).world
+  unfolding ev.client_takes ev.client_took cl.node_step Comes
+  client_step v ps ss net c i site old same at k = go site.node.running
+    where
+      now : Stamp
+      now = clock_of v (nodes.Client c)
+
+      few : c.0 ≤ 16
+      few = let z = (numbered_below t.world.clients c.0 old at).1 in let y = d.dated.few in omega (arith, z, y)
+
+      comes : (i : ClientInput) → Comes i → Rattle.st_laws_leases.proofs.Dates.Hearing.Comes (messages t.world) c now Ever ever_on i
+      comes inputs.Tick k = tt
+      comes (inputs.App op ask) k = tt
+      comes (inputs.Control m) k = k
+      comes (inputs.Done number result) k = tt
+
+      held : Held (messages t.world) c now Ever ever_on (cl.client_step site.node.state now i)
+      held = step_held (messages t.world) c now Ever ever_on site.node.state i (comes i k) (subst (λ (n : cl.ClientNode). Rattle.st_laws_leases.specs.Dates.Dates.ClientDated (messages t.world) c n.state) (sym same) (d.dated.clients c old at)) (λ a h. tt)
+
+      u : ClientTurn
+      u = cl.client_step site.node.state now i
+
+      node : cl.ClientNode
+      node = record site.node { state = u.state }
+
+      a : WorldTurn
+      a = ev.quiet (ev.with_site c (ev.at_node node site) v)
+
+      b : WorldTurn
+      b = ev.client_says_all c site.node.state u.out a
+
+      said : Said a b u.out
+      said = client_said c site.node.state u.out a
+
+      last : World
+      last = ev.flushes c node.state (world.all_servers b.world) b.world
+
+      f : Alike b.world last
+      f = flushed c node.state (world.all_servers b.world) b.world
+
+      msgs : messages last ≡ messages b.world
+      msgs = ap (λ (n : world.Net). map message_in n.messages) f.net
+
+      before : messages a.world ≡ messages t.world
+      before = ap (λ (n : world.Net). map message_in n.messages) net
+
+      grow : (m : Message) → Has m (messages t.world) → Has m (messages last)
+      grow m h = subst (Has m) (sym msgs) (said.old m (subst (Has m) (sym before) h))
+
+      from : (m : Message) → Has m (messages last) → Has m (messages t.world) ⊎ Has (outputs.Send m) u.out
+      from m h = pick (has_numbered (messages b.world) m (subst (Has m) msgs h))
+        where
+          which : (k : ℕ) → (numbered (messages a.world) k ≡ Some m) ⊎ Has (outputs.Send m) u.out → Has m (messages t.world) ⊎ Has (outputs.Send m) u.out
+          which k (inl q) = inl (subst (Has m) before (numbered_has (messages a.world) k m q))
+          which k (inr q) = inr q
+
+          pick : (k : ℕ) × (numbered (messages b.world) k ≡ Some m) → Has m (messages t.world) ⊎ Has (outputs.Send m) u.out
+          pick k = which k.0 (said.get k.0 m k.1)
+
+      taken : RepliesSay last
+      taken s n q m h r = it (from m h)
+        where
+          there : node_of t.world s ≡ Some n
+          there = ap (λ w. numbered w s.0) (sym ss) ∙ ap (λ w. numbered w s.0) (sym (f.servers ∙ said.servers)) ∙ q
+
+          it : Has m (messages t.world) ⊎ Has (outputs.Send m) u.out → Says (messages last) s n m
+          it (inl i) = says_more (messages t.world) (messages last) grow s n m (d.replies s n there m i r)
+          it (inr i) = absurd (server_not_client c.0 s.0 few (sym (held.outs m i).from ∙ r))
+
+      go : (b : Bool) → RepliesSay (ev.client_took v c site (if b then Ok (cl.node_turn site.node u) else Err Crashed)).world
+      go true = taken
+      go false = still v ss before
+
+  -- A step of a server.
+  Brings : ServerInput → Type 0
+  Brings serving.Tick = Unit {0}
+  Brings (serving.Control m) = Has m (messages t.world)
+
+  server_step : (s : ServerId) (i : ServerInput) (node : ServerNode) → node_of t.world s ≡ Some node → Brings i →
+      InputNew (server.thefts (server.turn node.state []) (clock_of (ev.counted t.world) (nodes.Server s))) (clock_of (ev.counted t.world) (nodes.Server s)) i → RepliesSay (ev.server_takes (ev.counted t.world) s i node).world
+  unfolding ev.server_takes ev.server_took server.node_step Brings
+  server_step s i node at brings owed = go node.running
+    where
+      w : World
+      w = ev.counted t.world
+
+      now : Stamp
+      now = clock_of w (nodes.Server s)
+
+      u : server.Turn
+      u = server.server_step node.state now i
+
+      next : ServerNode
+      next = record node { state = u.state }
+
+      a : WorldTurn
+      a = ev.quiet (ev.with_node s next w)
+
+      sc : WorldTurn
+      sc = ev.server_says_all s u.out a
+
+      said : Said a sc u.out
+      said = server_said s u.out a
+
+      M : List Message
+      M = messages t.world
+
+      from : (m : Message) → Has m (messages sc.world) → Has m M ⊎ Has (outputs.Send m) u.out
+      from m h = pick (has_numbered (messages sc.world) m h)
+        where
+          which : (k : ℕ) → (numbered M k ≡ Some m) ⊎ Has (outputs.Send m) u.out → Has m M ⊎ Has (outputs.Send m) u.out
+          which k (inl r) = inl (numbered_has M k m r)
+          which k (inr r) = inr r
+
+          pick : (k : ℕ) × (numbered (messages sc.world) k ≡ Some m) → Has m M ⊎ Has (outputs.Send m) u.out
+          pick k = which k.0 (said.get k.0 m k.1)
+
+      k : Served s node.state.stable.epoch i node.state.sessions u
+      k = served s node.state.stable.epoch i node.state.sessions node.state now owed (record { id = (d.dated.servers s node at).id; epoch = refl; goes = λ c life n h. h; sent = λ y h. absurd h })
+
+      same : u.state.stable.epoch.0 ≡ node.state.stable.epoch.0
+      same = ap (λ (y : Rattle.st_base.specs.declared.ids.Epoch.Epoch). y.0) k.epoch
+
+      -- an old message at this server
+      older : (m : Message) → Says M s node m → Says M s next m
+      older m z = record { up_to = let y = z.up_to in omega (arith, y, same); behind = λ run e b l. on (z.behind run (e ∙ same) b l) }
+        where
+          on : IsBehind (sessions.session_of node.state.sessions (client m.header.to)) m.header.life m.header.number ⊎ Refusal M s m → IsBehind (sessions.session_of u.state.sessions (client m.header.to)) m.header.life m.header.number ⊎ Refusal M s m
+          on (inl h) = inl (k.goes (client m.header.to) m.header.life m.header.number h)
+          on (inr r) = inr r
+
+      -- a message that it sends
+      newer : (m : Message) → Has (outputs.Send m) u.out → Says (messages sc.world) s next m
+      newer m h = let z = k.sent m h in record { up_to = let y = z.1 in omega (arith, y, same); behind = λ run e b l. on z.1 (z.2 b l) }
+        where
+          on : m.header.epoch ≡ node.state.stable.epoch.0 →
+              IsBehind (sessions.session_of u.state.sessions (client m.header.to)) m.header.life m.header.number ⊎ Refused s node.state.stable.epoch i node.state.sessions m.header.to m.header.life m.header.number m.body →
+              IsBehind (sessions.session_of u.state.sessions (client m.header.to)) m.header.life m.header.number ⊎ Refusal (messages sc.world) s m
+          on e (inl h) = inl h
+          on e (inr r) = inr (record { by = r.by; among = said.old r.by (subst Brings r.is brings); from = r.from; there = r.there; of_life = r.of_life; of_epoch = r.of_epoch ∙ sym e; under = r.under; rows = r.rows; asks = r.asks; beyond = r.beyond })
+
+      taken : RepliesSay sc.world
+      taken y n q m h r = it (set_cases t.world.servers s.0 y.0 node next n at (ap (λ z. numbered z y.0) (sym said.servers) ∙ q)) (from m h)
+        where
+          own : (y.0 ≡ s.0) → m.header.from ≡ server_node s
+          own e = r ∙ ap (λ v. server_node (record { 0 = v })) e
+
+          at_own : (y.0 ≡ s.0) → Has m M ⊎ Has (outputs.Send m) u.out → Says (messages sc.world) s next m
+          at_own e (inl h) = says_more M (messages sc.world) said.old s next m (older m (d.replies s node at m h (own e)))
+          at_own e (inr h) = newer m h
+
+          it : ((y.0 ≡ s.0) × (n ≡ next)) ⊎ ((y.0 ≢ s.0) × (node_of t.world y ≡ Some n)) → Has m M ⊎ Has (outputs.Send m) u.out → Says (messages sc.world) y n m
+          it (inl z) o = subst (λ v. Says (messages sc.world) y v m) (sym z.1) (subst (λ v. Says (messages sc.world) (record { 0 = v }) next m) (sym z.0) (at_own z.0 o))
+          it (inr z) (inl h) = says_more M (messages sc.world) said.old y n m (d.replies y n z.1 m h r)
+          it (inr z) (inr h) = let f = (k.sent m h).0 in absurd (z.0 (omega (arith, f, r)))
+
+      go : (b : Bool) → RepliesSay (ev.server_took w s (if b then Ok (server.node_turn node u) else Err Crashed)).world
+      go true = taken
+      go false = still w refl refl
+
+  -- Every event.
+  w : World
+  w = ev.counted t.world
+
+  at_client : (c : ClientId) (i : ClientInput) → Comes i → RepliesSay (ev.at_client w c i (site_of w c)).world
+  unfolding ev.at_client w
+  at_client c i k = go (site_of w c) refl
+    where
+      go : (o : Option ClientSite) → site_of w c ≡ o → RepliesSay (ev.at_client w c i o).world
+      go None r = still w refl refl
+      go (Some site) r = client_step w refl refl refl c i site site refl r k
+
+  at_server : (s : ServerId) (i : ServerInput) → Brings i → ((node : ServerNode) → node_of w s ≡ Some node → InputNew (server.thefts (server.turn node.state []) (clock_of w (nodes.Server s))) (clock_of w (nodes.Server s)) i) → RepliesSay (ev.at_server w s i (node_of w s)).world
+  unfolding ev.at_server w
+  at_server s i k owed = go (node_of w s) refl
+    where
+      go : (o : Option ServerNode) → node_of w s ≡ o → RepliesSay (ev.at_server w s i o).world
+      go None r = still w refl refl
+      go (Some node) r = server_step s i node r k (owed node r)
+
+  asks_happen : (c : ClientId) (ask : Ask) → RepliesSay (ev.asks_at w c ask (site_of w c)).world
+  unfolding ev.asks_at w Comes
+  asks_happen c ask = go (site_of w c) refl
+    where
+      go : (o : Option ClientSite) → site_of w c ≡ o → RepliesSay (ev.asks_at w c ask o).world
+      go None r = still w refl refl
+      go (Some site) r = client_step w refl refl refl c (inputs.App (site.asks + 1) ask) (ev.asked_once_more site) site refl r tt
+
+  delivers : (k : ℕ) → AtMessage w (world.message_of w k) → RepliesSay (ev.delivers w (world.message_of w k)).world
+  unfolding ev.delivers ev.delivers_to w Comes Brings
+  delivers k = go (world.message_of w k) refl
+    where
+      to : (m : Message) (n : NodeId) → Has m (messages t.world) → AtReceiver w m n → RepliesSay (ev.delivers_to w m n).world
+      to m (nodes.Client c) h f = at_client c (inputs.Control m) h
+      to m (nodes.Server s) h f = at_server s (serving.Control m) h (λ node q. subst (AtServer w m s) q f)
+
+      go : (o : Option SentMessage) → world.message_of w k ≡ o → AtMessage w o → RepliesSay (ev.delivers w o).world
+      go None q f = still w refl refl
+      go (Some m) q f = to m.message (world.receiver_of m) (has_map_in message_in t.world.net.messages m (numbered_has t.world.net.messages k m q)) f
+
+  loses : (k : ℕ) → RepliesSay (ev.loses_message w k (world.message_of w k))
+  unfolding ev.loses_message w
+  loses k = go (world.message_of w k) refl
+    where
+      go : (o : Option SentMessage) → world.message_of w k ≡ o → RepliesSay (ev.loses_message w k o)
+      go None q = still w refl refl
+      go (Some m) q = still (ev.with_lost k m w) refl (lost_same w k m q)
+
+  reports : (k : ℕ) (ok : Bool) → RepliesSay (ev.reports_of w k ok).world
+  unfolding ev.reports_of ev.tells ev.tells_client ev.tells_site w Comes
+  reports k ok = go (world.issued_of w k)
+    where
+      v : World
+      v = ev.with_disks (ev.disks_after w.disks (Rattle.st_rules.specs.Disks.done w.disks k ok)) w
+
+      none : RepliesSay v
+      none = still v refl refl
+
+      comes : (x : IssuedCommand) → Comes (ev.end_told v k ok x)
+      comes x = tt
+
+      same : (x : IssuedCommand) (site : ClientSite) → site_of w x.client ≡ Some site → (b : Bool) → RepliesSay (if b then ev.client_takes v x.client (ev.end_told v k ok x) site else ev.quiet v).world
+      same x site q true = client_step v refl refl refl x.client (ev.end_told v k ok x) site site refl q (comes x)
+      same x site q false = none
+
+      at : (x : IssuedCommand) (o : Option ClientSite) → site_of w x.client ≡ o → RepliesSay (ev.tells_client v k ok x o).world
+      at x None q = none
+      at x (Some site) q = same x site q (ev.is_same_instance x site)
+
+      go : (o : Option IssuedCommand) → RepliesSay (ev.tells v k ok o).world
+      go None = none
+      go (Some x) = at x (site_of w x.client) refl
+
+  crashes_client : (c : ClientId) → RepliesSay (ev.crashes_client w c (site_of w c)).world
+  unfolding ev.crashes_client ev.marks w
+  crashes_client c = go (site_of w c)
+    where
+      go : (o : Option ClientSite) → RepliesSay (ev.crashes_client w c o).world
+      go None = still w refl refl
+      go (Some site) = still (ev.crashes_client w c (Some site)).world refl refl
+
+  starts_client : (c : ClientId) → RepliesSay (ev.starts_client w c (site_of w c))
+  unfolding ev.starts_client w
+  starts_client c = go (site_of w c)
+    where
+      go : (o : Option ClientSite) → RepliesSay (ev.starts_client w c o)
+      go None = still w refl refl
+      go (Some site) = still (ev.starts_client w c (Some site)) refl refl
+
+  crashes_server : (s : ServerId) → RepliesSay (ev.crashes_server w s (node_of w s))
+  unfolding ev.crashes_server server.crash w
+  crashes_server s = go (node_of w s) refl
+    where
+      off : {A : Type 0} → false ≡ true → A
+      off e = cc
+
+      go : (o : Option ServerNode) → node_of w s ≡ o → RepliesSay (ev.crashes_server w s o)
+      go None q = still w refl refl
+      go (Some node) q = server_placed s node (server.crash_node node) (ev.crashes_server w s (Some node)) q refl refl (λ m z. record { up_to = z.up_to; behind = λ run. off run })
+
+  starts_server : (s : ServerId) → RepliesSay (ev.starts_server w s (node_of w s))
+  unfolding ev.starts_server server.start server.begin_epoch w
+  starts_server s = go (node_of w s) refl
+    where
+      go : (o : Option ServerNode) → node_of w s ≡ o → RepliesSay (ev.starts_server w s o)
+      go None q = still w refl refl
+      go (Some node) q =
+          server_placed s node (server.start_node node (clock_of w (nodes.Server s))) (ev.starts_server w s (Some node)) q refl refl
+          (λ m z. record { up_to = let y = z.up_to in omega (arith, y); behind = λ run e. let y = z.up_to in absurd (omega (arith, y, e)) })
+
+  happens : (e : Event) → NewOwed w e → RepliesSay (ev.happens w e).world
+  unfolding ev.happens ev.ticks ev.crashes ev.starts ev.advances ev.effects ev.marks w Comes Brings
+  happens (events.Tick (nodes.Client c)) f = at_client c inputs.Tick tt
+  happens (events.Tick (nodes.Server s)) f = at_server s serving.Tick tt (λ node q. tt)
+  happens (events.App c ask) f = asks_happen c ask
+  happens (events.Deliver k) f = delivers k f
+  happens (events.Lose k) f = loses k
+  happens (events.Cut from to) f = still (ev.happens w (events.Cut from to)).world refl refl
+  happens (events.Heal from to) f = still (ev.happens w (events.Heal from to)).world refl refl
+  happens (events.Advance steps) f = still (ev.happens w (events.Advance steps)).world refl refl
+  happens (events.Effect k) f = still (ev.happens w (events.Effect k)).world refl refl
+  happens (events.Report k ok) f = reports k ok
+  happens (events.Crash (nodes.Client c)) f = crashes_client c
+  happens (events.Crash (nodes.Server s)) f = crashes_server s
+  happens (events.Start (nodes.Client c)) f = starts_client c
+  happens (events.Start (nodes.Server s)) f = starts_server s
+
+pub one : (past : List Step) (t : Traced) (e : Event) (sc : WorldTurn) → RepliesHold past t → ReassertionsNew past (step t e sc) → world_step t.world e ≡ Ok sc → RepliesHold (past ++ step t e sc ∷ []) (traced_after e t sc)
+unfolding w
+one past t e sc d f h =
+    record { dated = (dates.one past t e sc d.dated h).1; replies = let z = step_happens t.world e sc h in subst (λ (x : WorldTurn). RepliesSay x.world) (sym z.1) (happens past t d e f) }
+
+run : (es : List Event) (past : List Step) (t : Traced) → RepliesHold past t → Throughout ReassertionsNew past (steps es t) → Throughout RepliesAfter past (steps es t)
+unfolding steps safety.steps_on Throughout
+run [] past t d f = tt
+run (e ∷ es) past t d f = go (world_step t.world e) refl f (run es)
+  where
+    go : (r : Result WorldTurn WorldRefusal) → world_step t.world e ≡ r → Throughout ReassertionsNew past (safety.steps_on (steps es) t e r) →
+        ((past : List Step) (t : Traced) → RepliesHold past t → Throughout ReassertionsNew past (steps es t) → Throughout RepliesAfter past (steps es t)) → Throughout RepliesAfter past (safety.steps_on (steps es) t e r)
+    go (Err r) q f k = tt
+    go (Ok sc) q f k = let z = one past t e sc d f.0 q in (z.replies, k (past ++ step t e sc ∷ []) (traced_after e t sc) z f.1)
+
+pub law : RepliesAreReached
+unfolding fresh_world
+law c clients servers disks blocks form es head f =
+    run es [] (traced (fresh_world c clients servers disks blocks form)) (record { dated = dates.fresh_dated c clients servers disks blocks form head; replies = λ s n at m h. absurd h }) f

@@ -1,0 +1,164 @@
+-- Why `cut` is logged: what stands of the messages, of each client and of each server behind every event.
+use Rattle.std.specs.Prelude.{◌≡◌, ℕ, ◌≤◌, ◌<◌, true, List, filter_map, length, map, Option, Some, None}
+use Rattle.st_base.specs.declared.ids.ClientId.{ClientId}
+use Rattle.st_base.specs.declared.ids.ServerId.{ServerId}
+use Rattle.st_base.specs.declared.ids.PageNo.{PageNo}
+use Rattle.st_messages.specs.declared.ask.Ask.{Ask}
+use Rattle.st_messages.specs.declared.ask.Ask.TheVariants as asks
+use Rattle.st_messages.specs.declared.message.Message.{Message}
+use Rattle.st_messages.specs.declared.message.Body.{Body}
+use Rattle.st_messages.specs.declared.message.Body.TheVariants as bodies
+use Rattle.st_rules.specs.declared.client.Operation.{Operation}
+use Rattle.st_rules.specs.declared.client.Request.{Request}
+use Rattle.st_rules.specs.declared.observation.Observation.TheVariants as seen
+use Rattle.st_rules.specs.declared.sessions.Session.{Session}
+use Rattle.st_rules.specs.declared.sessions.SessionState.{SessionState}
+use Rattle.st_rules.specs.declared.sessions.SessionState.TheVariants as states
+use Rattle.st_rules.specs.Keys.{client, server_node}
+use Rattle.st_rules.specs.ClientState.{Association, ClientSession, Requests, is_asked}
+use Rattle.st_rules.specs.Server.{ServerNode}
+use Rattle.st_rules.specs.Sessions.{session_of}
+use Rattle.st_rules.specs.World.{ClientSite, node_of, numbered, site_of}
+use Rattle.st_rules.specs.History.{Traced}
+use Rattle.st_rules.specs.Safety.{Step, ask_in, event_of, is_after_ask}
+use Rattle.st_lemmas.specs.Lists.{Has}
+use Rattle.st_laws_leases.specs.Dates.Dates.{messages}
+use Rattle.st_laws_pages.specs.Disks.Owed.{FatesHold}
+
+-- The messages.
+
+-- from a client to a server
+abbrev pub Between : ClientId → ServerId → Message → Type 0
+Between c s m = (m.header.from ≡ c.0) × (m.header.to ≡ server_node s)
+
+-- a client's message to a server in a life and an epoch, under a number
+pub record Keyed (c : ClientId) (s : ServerId) (life epoch number : ℕ) (m : Message) : Type 0 where
+  pub between : Between c s m
+  pub of_life : m.header.life ≡ life
+  pub of_epoch : m.header.epoch ≡ epoch
+  pub under : m.header.number ≡ number
+
+-- a file was cut from a page at one of these steps, before which a message of this key had been sent
+pub record IsCutDone (past : List Step) (c : ClientId) (s : ServerId) (life epoch number ino : ℕ) (p : PageNo) : Type 0 where
+  pub at : Step
+  pub among : Has at past
+  pub index : ℕ
+  pub cut : Has (seen.CutAt index (record { server = s; ino = ino }) p) at.seen
+  pub by : Message
+  pub before : Has by (messages at.before.world)
+  pub is : Keyed c s life epoch number by
+
+-- what a request asks was done, where it is a cut
+abbrev pub Fulfilled : List Step → ClientId → ServerId → ℕ → ℕ → ℕ → Body → Type 0
+Fulfilled past c s life epoch number (bodies.Cut ino g p) = IsCutDone past c s life epoch number ino p
+Fulfilled past c s life epoch number body = Unit {0}
+
+-- a message of this key was sent, and what it asks was done
+pub record Acked (past : List Step) (ms : List Message) (c : ClientId) (s : ServerId) (life epoch number : ℕ) : Type 0 where
+  pub by : Message
+  pub among : Has by ms
+  pub is : Keyed c s life epoch number by
+  pub done : Fulfilled past c s life epoch number by.body
+
+-- The clients.
+
+-- before each of these steps before which a message of this key had been sent, the client had had this ask
+abbrev pub Early : List Step → ClientId → ServerId → ℕ → ℕ → ℕ → ℕ → Type 0
+Early past c s life epoch number op =
+    (x : Step) (m : Message) → Has x past → Has m (messages x.before.world) → Keyed c s life epoch number m → is_after_ask c op x ≡ true
+
+-- the epoch and the requests of a session
+abbrev pub view : Option ClientSession → Option (ℕ × Requests)
+view None = None
+view (Some x) = Some (x.epoch.0, x.requests)
+
+-- a message under the number of the outstanding request has its body
+abbrev pub SameBody : Option Request → Message → Type 0
+SameBody None m = Unit {0}
+SameBody (Some q) m = m.header.number ≡ q.number → m.body ≡ q.body
+
+-- a message is of no later epoch than the session's, and in that epoch its number was given
+pub record Numbered (epoch : ℕ) (r : Requests) (m : Message) : Type 0 where
+  pub up_to : m.header.epoch ≤ epoch
+  pub below : m.header.epoch ≡ epoch → m.header.number < r.next
+  pub same : m.header.epoch ≡ epoch → SameBody r.asked m
+
+-- a request of the present life
+abbrev pub Placed : ℕ → Option (ℕ × Requests) → Message → Type 0
+Placed life None m = m.header.life ≡ life → m.header.number ≡ 0
+Placed life (Some v) m = m.header.life ≡ life → 1 ≤ m.header.number → Numbered v.0 v.1 m
+
+-- the outstanding request has a number that was given
+abbrev pub Given : ℕ → Option Request → Type 0
+Given next None = Unit {0}
+Given next (Some q) = (1 ≤ q.number) × (q.number < next)
+
+-- numbers are given from 1 on
+abbrev pub Counts : Option (ℕ × Requests) → Type 0
+Counts None = Unit {0}
+Counts (Some v) = (1 ≤ v.1.next) × Given v.1.next v.1.asked
+
+-- what was sent to a server is of no later life, and its numbers are the session's
+pub record Numbers (S : Message → Type 0) (c : ClientId) (s : ServerId) (life : ℕ) (v : Option (ℕ × Requests)) : Type 0 where
+  pub lives : (m : Message) → S m → Between c s m → m.header.life ≤ life
+  pub placed : (m : Message) → S m → Between c s m → Placed life v m
+  pub counts : Counts v
+
+-- a request is that of an ask: the cut that was asked, or a name
+abbrev pub AsksFor : Ask → Body → Type 0
+AsksFor (asks.Cut f p) (bodies.Cut ino g q) = (f.ino ≡ ino) × (p ≡ q)
+AsksFor (asks.Name s ask) (bodies.Name op) = Unit {0}
+AsksFor ask body = ⊥
+
+-- an operation whose request is the outstanding one waits for its reply
+abbrev pub WaitsAt : (ServerId → ℕ → ℕ → ℕ → ℕ → Type 0) → ServerId → ℕ → ℕ → Option Request → Operation → Type 0
+WaitsAt E s life epoch None o = ⊥
+WaitsAt E s life epoch (Some q) o = AsksFor o.ask q.body × E s life epoch q.number o.op
+
+-- in a session
+abbrev pub Waits : (ServerId → ℕ → ℕ → ℕ → ℕ → Type 0) → ServerId → ℕ → Option (ℕ × Requests) → Operation → Type 0
+Waits E s life None o = ⊥
+Waits E s life (Some v) o = WaitsAt E s life v.0 v.1.asked o
+
+-- each operation that was sent waits for the reply to the outstanding request, which is its own
+abbrev pub AllWait : (ServerId → ℕ → ℕ → ℕ → ℕ → Type 0) → ServerId → ℕ → Option (ℕ × Requests) → List Operation → Type 0
+AllWait E s life v ops = (o : Operation) → Has o ops → is_asked s o ≡ true → Waits E s life v o
+
+-- what a client was asked in these steps
+abbrev pub asks_of : List Step → ClientId → List Ask
+asks_of past c = filter_map (ask_in c) (map event_of past)
+
+-- what stands of what a running client has of a server
+pub record AssociationOk (past : List Step) (ms : List Message) (c : ClientId) (ops : List Operation) (a : Association) : Type 0 where
+  pub numbers : Numbers (λ m. Has m ms) c a.server a.life.0 (view a.session)
+  pub waits : AllWait (Early past c) a.server a.life.0 (view a.session) ops
+
+-- what stands of a client
+pub record ClientOk (past : List Step) (ms : List Message) (c : ClientId) (site : ClientSite) : Type 0 where
+  pub count : length (asks_of past c) ≡ site.asks
+  pub asked : (o : Operation) → Has o site.node.state.operations → numbered (asks_of past c) o.op ≡ Some o.ask
+  pub lives : (a : Association) → Has a site.node.state.associations → (m : Message) → Has m ms → Between c a.server m → m.header.life ≤ a.life.0
+  pub all : site.node.running ≡ true → (a : Association) → Has a site.node.state.associations → AssociationOk past ms c site.node.state.operations a
+
+-- The servers.
+
+-- a kept acknowledgement is of a request that was sent, and what it asks was done
+abbrev pub KeptState : (ℕ → Type 0) → SessionState → Type 0
+KeptState A (states.Live last (Some bodies.Ack)) = A last
+KeptState A state = Unit {0}
+
+-- what stands of a server
+pub record ServerOk (past : List Step) (ms : List Message) (s : ServerId) (node : ServerNode) : Type 0 where
+  pub id : node.state.id ≡ s
+  pub kept : (c : ClientId) (x : Session) → session_of node.state.sessions c ≡ Some x →
+      KeptState (Acked past ms c s x.life.0 node.state.stable.epoch.0) x.state
+
+-- Behind every event: each acknowledgement is of a request that was sent, and what it asks was done; and so is each that is kept.
+pub record CutsHold (past : List Step) (t : Traced) : Type 0 where
+  pub fates : FatesHold t.world
+  pub grown : (x : Step) → Has x past → (m : Message) → Has m (messages x.before.world) → Has m (messages t.world)
+  pub acks : (m : Message) → Has m (messages t.world) → m.body ≡ bodies.Ack → (s : ServerId) → m.header.from ≡ server_node s →
+      Acked past (messages t.world) (client m.header.to) s m.header.life m.header.epoch m.header.number
+  pub clients : (c : ClientId) (site : ClientSite) → site_of t.world c ≡ Some site → ClientOk past (messages t.world) c site
+  pub servers : (s : ServerId) (node : ServerNode) → node_of t.world s ≡ Some node → ServerOk past (messages t.world) s node
+  pub few : length t.world.clients ≤ 16

@@ -1,0 +1,16 @@
+//! Requests in every run: which of them a server served, which replies say so, and why `cut` is answered.
+#![tactic(auto)]
+
+ghost use Rattle.st_laws_requests.specs.Cuts.Law.{RunsLogAnswers};
+ghost use Rattle.st_laws_requests.specs.Replies.Last.{RequestsAreLast};
+
+/// In every run, the outstanding request of each session of each client is the one with the last number that the session gave.
+pub fn requests_are_last()
+    ensures { RequestsAreLast }
+{}
+
+/// In every run answers are logged: `written` follows directly the line of the change that was asked, and `cut` comes only after a cut
+/// of the file from the page that was asked, since then.
+pub fn answers_are_logged()
+    ensures { RunsLogAnswers }
+{}

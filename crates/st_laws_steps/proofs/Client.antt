@@ -1,0 +1,13 @@
+pub mod Asking
+pub mod Calm
+pub mod Changes
+pub mod Dirtying
+pub mod Losing
+pub mod Nexts
+pub mod Noting
+pub mod Only
+pub mod Passing
+pub mod Replying
+pub mod Sessions
+pub mod Stepping
+pub mod Working

@@ -1,0 +1,216 @@
+-- The requests of a client at a server are lists of changes; and all passes together.
+use Rattle.std.proofs.Common.{◌≡◌, ℕ, Bool, true, false, List, [], ◌∷◌, Option, Some, None, refl, sym, ap, ◌∙◌, subst, inl, inr, arith, if◌then◌else◌}
+use Rattle.std.specs.Prelude.{is_some}
+use Rattle.st_base.specs.declared.ids.GrantNo.{GrantNo}
+use Rattle.st_base.specs.declared.ids.PageNo.{PageNo}
+use Rattle.st_base.specs.declared.ids.Stamp.{Stamp}
+use Rattle.st_base.specs.declared.mode.Mode.{Mode}
+use Rattle.st_base.specs.Mode.{covers}
+use Rattle.st_messages.specs.declared.ask.Ask.{Ask}
+use Rattle.st_messages.specs.declared.ask.Ask.TheVariants as asks
+use Rattle.st_messages.specs.declared.message.Body.{Body}
+use Rattle.st_messages.specs.declared.message.Body.TheVariants as bodies
+use Rattle.st_rules.specs.declared.client.HeldLock.{HeldLock}
+use Rattle.st_rules.specs.declared.client.KnownExtent.{KnownExtent}
+use Rattle.st_rules.specs.declared.client.Operation.{Operation}
+use Rattle.st_rules.specs.declared.client.Release.{Release}
+use Rattle.st_rules.specs.declared.client.Request.{Request}
+use Rattle.st_rules.specs.Keys.{page_no}
+use Rattle.st_rules.specs.ClientLease as lease
+use Rattle.st_rules.specs.ClientLocks as locks
+use Rattle.st_rules.specs.ClientPages as pages
+use Rattle.st_rules.specs.ClientPages.{Store}
+use Rattle.st_rules.specs.ClientPasses as cp
+use Rattle.st_rules.specs.ClientState.{ClientSession, Turn, with_session, with_store, with_operations, is_serving, wait_of, file_of, send}
+use Rattle.st_laws_steps.specs.Client.Client as client
+use Rattle.st_laws_steps.specs.Client.Client.{map_in}
+use Rattle.st_laws_steps.proofs.Client.Passing.{changes, Says, Operates, Follows, Forgets, Changes, Still}
+use Rattle.st_lemmas.proofs.Lookups.{or_false}
+use Rattle.st_laws_steps.proofs.Client.Passing.{one, both, if_changes}
+use Rattle.st_laws_steps.proofs.Client.Working.{p_operations, p_reductions, p_writes, p_greeting}
+
+-- what an operation asks: where a page lies, only where nothing is known of it; and a file is cut where it is idle
+record Wants (st : Store) (w : cp.Wanted) : Type 0 where
+  pub asks : (x : ℕ × PageNo) → map_in w.body ≡ Some x → pages.known_of st.extents x.0 x.1 ≡ None
+  pub cuts : (c : ℕ × PageNo) → w.cut ≡ Some c → (pages.is_idle st c.0 ≡ true) × (map_in w.body ≡ None)
+
+abbrev WantsAt : Store → Option cp.Wanted → Type 0
+WantsAt st None = Unit {0}
+WantsAt st (Some w) = Wants st w
+
+abbrev AskingAt : Store → Option cp.Asking → Type 0
+AskingAt st None = Unit {0}
+AskingAt st (Some a) = Wants st a.wanted
+
+no_map : (st : Store) (body : Body) (own : Bool) → map_in body ≡ None → Wants st (record { body = body; own = own; cut = None })
+no_map st body own e = record { asks = λ x q. absurd (no x (sym e ∙ q)); cuts = λ c q. absurd (none c q) }
+  where
+    no : (x : ℕ × PageNo) → ◌≡◌ {A = Option (ℕ × PageNo)} None (Some x) → ⊥
+    no x q = cc
+
+    none : (c : ℕ × PageNo) → ◌≡◌ {A = Option (ℕ × PageNo)} None (Some c) → ⊥
+    none c q = cc
+
+if_wants : (st : Store) (b : Bool) (u v : Option cp.Wanted) → (b ≡ true → WantsAt st u) → (b ≡ false → WantsAt st v) → WantsAt st (if b then u else v)
+if_wants st true u v f g = f refl
+if_wants st false u v f g = g refl
+
+none_known : (o : Option KnownExtent) → is_some o ≡ false → o ≡ None
+none_known None e = refl
+none_known (Some e) q = cc
+
+w_lock : (t : Turn) (s : ClientSession) (now : Stamp) (ino : ℕ) (mode : Mode) → WantsAt t.here.store (cp.want_lock t s now ino mode)
+unfolding cp.want_lock
+w_lock t s now ino mode = if_wants t.here.store (cp.is_wait_old t.config now mode (wait_of s.waits ino)) _ None (λ e. no_map t.here.store (bodies.Acquire ino mode) false refl) (λ e. tt)
+
+w_map : (t : Turn) (ino : ℕ) (g : GrantNo) (p : PageNo) → WantsAt t.here.store (cp.want_map t ino g p)
+unfolding cp.want_map
+w_map t ino g p = if_wants t.here.store (cp.is_at_hand t ino p) None _ (λ e. tt) (λ e. record { asks = λ x q. known e x q; cuts = λ c q. absurd (none c q) })
+  where
+    none : (c : ℕ × PageNo) → ◌≡◌ {A = Option (ℕ × PageNo)} None (Some c) → ⊥
+    none c q = cc
+
+    pair_is : (x : ℕ × PageNo) → ◌≡◌ {A = Option (ℕ × PageNo)} (Some (ino, p)) (Some x) → (ino, p) ≡ x
+    pair_is x q = cc
+
+    known : cp.is_at_hand t ino p ≡ false → (x : ℕ × PageNo) → ◌≡◌ {A = Option (ℕ × PageNo)} (Some (ino, p)) (Some x) → pages.known_of t.here.store.extents x.0 x.1 ≡ None
+    known e x q =
+        subst (λ (z : ℕ × PageNo). pages.known_of t.here.store.extents z.0 z.1 ≡ None) (pair_is x q)
+        (none_known (pages.known_of t.here.store.extents ino p) (or_false (is_some (pages.cached t.here.store.pages ino p)) (pages.is_known t.here.store.extents ino p) e).1)
+
+w_block : (t : Turn) (ino : ℕ) (g : GrantNo) (p : PageNo) → WantsAt t.here.store (cp.want_block t ino g p)
+unfolding cp.want_block
+w_block t ino g p = if_wants t.here.store (pages.is_mapped t.here.store.extents ino p) None _ (λ e. tt) (λ e. no_map t.here.store (bodies.Allocate ino g p 1) false refl)
+
+w_cut : (t : Turn) (ino : ℕ) (body : Body) (p : PageNo) → map_in body ≡ None → WantsAt t.here.store (cp.want_cut t ino body p)
+unfolding cp.want_cut
+w_cut t ino body p m = if_wants t.here.store (pages.is_idle t.here.store ino) _ None (λ e. record { asks = λ x q. absurd (no x (sym m ∙ q)); cuts = λ c q. (ap (pages.is_idle t.here.store) (sym (ino_is c q)) ∙ e, m) }) (λ e. tt)
+  where
+    no : (x : ℕ × PageNo) → ◌≡◌ {A = Option (ℕ × PageNo)} None (Some x) → ⊥
+    no x q = cc
+
+    pair_is : (c : ℕ × PageNo) → ◌≡◌ {A = Option (ℕ × PageNo)} (Some (ino, p)) (Some c) → (ino, p) ≡ c
+    pair_is c q = cc
+
+    ino_is : (c : ℕ × PageNo) → ◌≡◌ {A = Option (ℕ × PageNo)} (Some (ino, p)) (Some c) → ino ≡ c.0
+    ino_is c q = ap (λ (z : ℕ × PageNo). z.0) (pair_is c q)
+
+w_held : (t : Turn) (ask : Ask) (ino : ℕ) (g : GrantNo) → WantsAt t.here.store (cp.want_held t ask ino g)
+unfolding cp.want_held
+w_held t (asks.Read f p) ino g = w_map t ino g p
+w_held t (asks.Write f p bytes) ino g = w_block t ino g p
+w_held t (asks.Patch f p at bytes) ino g = w_block t ino g p
+w_held t (asks.Cut f p) ino g = w_cut t ino (bodies.Cut ino g p) p refl
+w_held t (asks.Name server ask) ino g = w_cut t ino (bodies.Name (cp.name_op ask g)) (page_no 0) refl
+w_held t (asks.Sync f) ino g = tt
+
+w_on : (t : Turn) (s : ClientSession) (now : Stamp) (ask : Ask) (ino : ℕ) → WantsAt t.here.store (cp.want_on t s now ask ino)
+unfolding cp.want_on cp.want_by cp.want_under
+w_on t s now ask ino = go (locks.lock_of s.locks ino)
+  where
+    go : (o : Option HeldLock) → WantsAt t.here.store (cp.want_by t s now ask ino o)
+    go None = w_lock t s now ino (cp.need ask)
+    go (Some l) = if_wants t.here.store (covers l.mode (cp.need ask)) _ _ (λ e. w_held t ask ino l.g) (λ e. w_lock t s now ino (cp.need ask))
+
+w_name : (t : Turn) (ask : Ask) → WantsAt t.here.store (cp.want_name ask)
+unfolding cp.want_name
+w_name t (asks.Name server ask) = no_map t.here.store (bodies.Name (cp.name_op ask locks.no_grant)) true refl
+w_name t ask = tt
+
+w_at : (t : Turn) (s : ClientSession) (now : Stamp) (ask : Ask) (o : Option ℕ) → WantsAt t.here.store (cp.want_at t s now ask o)
+unfolding cp.want_at
+w_at t s now ask None = w_name t ask
+w_at t s now ask (Some ino) = w_on t s now ask ino
+
+w_want : (t : Turn) (s : ClientSession) (now : Stamp) (ask : Ask) → WantsAt t.here.store (cp.want t s now ask)
+unfolding cp.want
+w_want t s now (asks.Sync f) = tt
+w_want t s now ask = w_at t s now ask (file_of ask)
+
+w_asked : (t : Turn) (s : ClientSession) (now : Stamp) (o : Operation) → WantsAt t.here.store (cp.asked_by t s now o)
+unfolding cp.asked_by
+w_asked t s now o = if_wants t.here.store (cp.may_ask t s o) _ None (λ e. w_want t s now o.ask) (λ e. tt)
+
+w_first : (t : Turn) (s : ClientSession) (now : Stamp) (os : List Operation) → AskingAt t.here.store (cp.first_asking t s now os)
+unfolding cp.first_asking cp.asks_or
+w_first t s now [] = tt
+w_first t s now (o ∷ os) = go (cp.asked_by t s now o) (w_asked t s now o) (cp.first_asking t s now os) (w_first t s now os)
+  where
+    go : (w : Option cp.Wanted) → WantsAt t.here.store w → (a : Option cp.Asking) → AskingAt t.here.store a → AskingAt t.here.store (cp.asks_or o os a w)
+    go None w None a = tt
+    go None w (Some x) a = record { asks = a.asks; cuts = a.cuts }
+    go (Some x) w a k = record { asks = w.asks; cuts = w.cuts }
+
+module _ (now : Stamp) where
+  abbrev C : Turn → Turn → Type 0
+  C t u = Changes now t u
+
+  -- a request is sent, by a session that is as the one at hand but for what waits to be sent
+  c_ask : (t : Turn) (s0 s : ClientSession) (body : Body) (cutting : Option ℕ) → t.here.session ≡ Some s0 → s0.lease.date ≡ s.lease.date → ((x : ℕ × PageNo) → map_in body ≡ Some x → pages.known_of t.here.store.extents x.0 x.1 ≡ None) → C t (cp.ask t s now body cutting)
+  unfolding cp.ask send Rattle.st_rules.specs.ClientState.asking
+  c_ask t s0 s body cutting se d f =
+      both (one (Follows t s0 (cp.asking_session s now body cutting) se (record { date = let z = ap (λ (x : Stamp). x.0) d in omega (arith, z); asks = λ x e. inr (f x e) }))) (one (Says (with_session (cp.asking_session s now body cutting) t) _ tt))
+
+  c_alive : (t : Turn) (s : ClientSession) → t.here.session ≡ Some s → C t (cp.keep_alive t s now)
+  unfolding cp.keep_alive
+  c_alive t s se = if_changes (lease.is_renewing (lease.phase_of t.config s.lease now)) t _ _ (λ e. c_ask t s s bodies.KeepAlive None se refl (λ x q. absurd (no x q))) (λ e. Still t)
+    where
+      no : (x : ℕ × PageNo) → ◌≡◌ {A = Option (ℕ × PageNo)} None (Some x) → ⊥
+      no x q = cc
+
+  -- the request of an operation
+  c_ask_for : (t : Turn) (s : ClientSession) (a : cp.Asking) → t.here.session ≡ Some s → Wants t.here.store a.wanted → C t (cp.ask_for t s now a)
+  unfolding cp.ask_for
+  c_ask_for t s a se w = both (one (Operates t a.operations)) (go a.wanted.cut refl)
+    where
+      u : Turn
+      u = with_operations a.operations t
+
+      go : (c : Option (ℕ × PageNo)) → a.wanted.cut ≡ c → C u (cp.ask (with_store (cp.cut_store c t.here.store) u) s now a.wanted.body (cp.file_cut c))
+      go None e = c_ask u s s a.wanted.body None se refl w.asks
+      go (Some c) e =
+          both (one (Forgets u c.0 c.1 (w.cuts c e).0))
+          (c_ask (with_store (pages.forget_from t.here.store c.0 c.1) u) s s a.wanted.body (Some c.0) se refl (λ x q. absurd (no x (sym (w.cuts c e).1 ∙ q))))
+        where
+          no : (x : ℕ × PageNo) → ◌≡◌ {A = Option (ℕ × PageNo)} None (Some x) → ⊥
+          no x q = cc
+
+  c_ask_new : (t : Turn) (s : ClientSession) → t.here.session ≡ Some s → C t (cp.ask_new t s now)
+  unfolding cp.ask_new cp.reassert cp.ask_by cp.ask_release cp.ask_next cp.ask_for_or
+  c_ask_new t s se = if_changes s.due t _ _ (λ e. c_ask t s s _ None se refl (λ x q. absurd (no x q))) (λ e. by s.releases)
+    where
+      no : (x : ℕ × PageNo) → ◌≡◌ {A = Option (ℕ × PageNo)} None (Some x) → ⊥
+      no x q = cc
+
+      or : (a : Option cp.Asking) → AskingAt t.here.store a → C t (cp.ask_for_or t s now a)
+      or None w = c_alive t s se
+      or (Some a) w = c_ask_for t s a se w
+
+      by : (rs : List Release) → C t (cp.ask_by t s now rs)
+      by [] = if_changes (is_serving t.config s now) t _ _ (λ e. or (cp.first_asking t s now t.operations) (w_first t s now t.operations)) (λ e. c_alive t s se)
+      by (r ∷ rs) = c_ask t s (record s { releases = rs }) _ None se refl (λ x q. absurd (no x q))
+
+  pub p_requests : (tick : Bool) (t : Turn) → C t (cp.requests now tick t)
+  unfolding cp.requests cp.requests_by cp.requests_under cp.requests_at cp.repeat cp.ask_again send
+  p_requests tick t = go t.here.session refl
+    where
+      again : (s : ClientSession) (q : Request) → t.here.session ≡ Some s → s.requests.asked ≡ Some q → C t (cp.repeat t s now tick q)
+      again s q se e =
+          if_changes (cp.is_old t.config now tick q) t _ _
+          (λ b. both (one (Follows t s (cp.again_session s now q) se (record { date = omega arith; asks = λ x i. inl (ap (λ o. Rattle.st_laws_steps.specs.Client.Client.map_asked o) e ∙ i) }))) (one (Says (with_session (cp.again_session s now q) t) _ tt))) (λ b. Still t)
+
+      at : (s : ClientSession) (q : Option Request) → t.here.session ≡ Some s → s.requests.asked ≡ q → C t (cp.requests_at t s now tick q)
+      at s None se e = c_ask_new t s se
+      at s (Some q) se e = again s q se e
+
+      go : (x : Option ClientSession) → t.here.session ≡ x → C t (cp.requests_by t now tick x)
+      go None e = Still t
+      go (Some s) e = if_changes s.lease.condemned t t _ (λ b. Still t) (λ b. at s s.requests.asked e refl)
+
+  -- all passes
+  pub p_passes : (tick : Bool) (t : Turn) → C t (cp.passes now tick t)
+  unfolding cp.passes
+  p_passes tick t = both (p_operations now t) (both (p_reductions now _) (both (p_writes now tick _) (both (p_greeting now tick _) (p_requests tick _))))
+
+pub c_passes : (now : Stamp) (tick : Bool) (t : Turn) → client.Changes now t (cp.passes now tick t)
+c_passes now tick t = changes (p_passes now tick t)

@@ -1,0 +1,4 @@
+pub mod Clash
+pub mod Client
+pub mod Lives
+pub mod Server

@@ -1,0 +1,14 @@
+pub mod Tests
+pub mod Walk
+pub mod Edits
+pub mod Robbing
+pub mod Granting
+pub mod Demanding
+pub mod Steps
+pub mod Chasing
+pub mod Chases
+pub mod Ends
+pub mod Events
+pub mod Splits
+pub mod Standing
+pub mod Runs

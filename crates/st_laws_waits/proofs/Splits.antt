@@ -1,0 +1,77 @@
+-- What a law over whole runs needs of lists: a list with one more item is split at its last item or earlier, so a fact of all moments since an
+-- earlier one is carried from step to step.
+use Rattle.std.proofs.Common.{◌≡◌, ℕ, true, List, [], ◌∷◌, ◌++◌, Ok, Err, refl, sym, ap, subst, inl, inr}
+use Rattle.std.specs.Prelude.{Result}
+use Rattle.std.specs.List.{list_all}
+use Rattle.st_base.specs.declared.ids.ServerId.{ServerId}
+use Rattle.st_messages.specs.declared.event.Event.{Event}
+use Rattle.st_rules.specs.declared.observation.WorldRefusal.{WorldRefusal}
+use Rattle.st_rules.specs.Events.{WorldTurn, world_step}
+use Rattle.st_rules.specs.History.{Traced, traced_after}
+use Rattle.st_rules.specs.Safety.{Promise, Step, Throughout, is_event, step, steps, steps_on}
+use Rattle.st_lemmas.specs.Lists.{Has}
+use Rattle.st_lemmas.proofs.Tables.{and_true}
+use Rattle.st_laws_waits.specs.Waits.{last_tick, ticked}
+
+-- a list with one more, split
+pub data Split {A : Type 0} (past : List A) (x : A) (before : List A) (i : A) (during : List A) : Type 0 where
+  At_last : before ≡ past → i ≡ x → during ≡ [] → Split past x before i during
+  Earlier : (some : List A) → during ≡ some ++ x ∷ [] → past ≡ before ++ i ∷ some → Split past x before i during
+
+pub head_is : {A : Type 0} (x y : A) (xs ys : List A) → x ∷ xs ≡ y ∷ ys → x ≡ y
+head_is x y xs ys e = cc
+
+pub tail_is : {A : Type 0} (x y : A) (xs ys : List A) → x ∷ xs ≡ y ∷ ys → xs ≡ ys
+tail_is x y xs ys e = cc
+
+pub not_empty : {A : Type 0} (xs : List A) (y : A) (ys : List A) → [] ≡ xs ++ y ∷ ys → ⊥
+not_empty [] y ys e = cc
+not_empty (x ∷ xs) y ys e = cc
+
+pub split : {A : Type 0} (past : List A) (x : A) (before : List A) (i : A) (during : List A) → past ++ x ∷ [] ≡ before ++ i ∷ during →
+    Split past x before i during
+split [] x [] i during e = At_last refl (sym (head_is x i [] during e)) (sym (tail_is x i [] during e))
+split [] x (b ∷ bs) i during e = absurd (not_empty bs i during (tail_is x b [] (bs ++ i ∷ during) e))
+split (p ∷ ps) x [] i during e = Earlier ps (sym (tail_is p i (ps ++ x ∷ []) during e)) (ap (λ y. y ∷ ps) (head_is p i (ps ++ x ∷ []) during e))
+split (p ∷ ps) x (b ∷ bs) i during e = go (split ps x bs i during (tail_is p b (ps ++ x ∷ []) (bs ++ i ∷ during) e))
+  where
+    same : p ≡ b
+    same = head_is p b (ps ++ x ∷ []) (bs ++ i ∷ during) e
+
+    go : Split ps x bs i during → Split (p ∷ ps) x (b ∷ bs) i during
+    go (At_last f g h) = At_last ((λ j. sym same j ∷ f j)) g h
+    go (Earlier d f g) = Earlier d f (λ j. same j ∷ g j)
+
+pub has_last : {A : Type 0} (xs : List A) (x : A) → Has x (xs ++ x ∷ [])
+has_last [] x = inl refl
+has_last (y ∷ ys) x = inr (has_last ys x)
+
+pub has_more : {A : Type 0} (xs : List A) (y x : A) → Has y xs → Has y (xs ++ x ∷ [])
+has_more [] y x h = elim h [ ]
+has_more (z ∷ zs) y x (inl e) = inl e
+has_more (z ∷ zs) y x (inr h) = inr (has_more zs y x h)
+
+pub last_in : {A : Type 0} (past : List A) (x : A) (before : List A) (i : A) (during : List A) → Split past x before i during → Has x (i ∷ during)
+last_in past x before i during (At_last f g h) = inl (sym g)
+last_in {A} past x before i during (Earlier d f g) = inr (subst (Has x) (sym f) (has_last d x))
+
+-- the last tick after one more step
+pub last_more : (s : ServerId) (t : ℕ) (past : List Step) (x : Step) → last_tick s t (past ++ x ∷ []) ≡ ticked s (last_tick s t past) x
+unfolding last_tick
+last_more s t [] x = refl
+last_more s t (y ∷ ys) x = last_more s (ticked s t y) ys x
+
+-- A promise under another one.
+pub throughout_under : (count : ℕ) (given promise : Promise) (Stands : List Step → Traced → Type 0) →
+    ((past : List Step) (t : Traced) (e : Event) (sc : WorldTurn) → is_event count e ≡ true → Stands past t → world_step t.world e ≡ Ok sc → given past (step t e sc) → promise past (step t e sc) × Stands (past ++ step t e sc ∷ []) (traced_after e t sc)) →
+    (es : List Event) → list_all (is_event count) es ≡ true → (past : List Step) (t : Traced) → Stands past t → Throughout given past (steps es t) →
+    Throughout promise past (steps es t)
+unfolding steps steps_on Throughout
+throughout_under count given promise Stands one [] all past t s g = tt
+throughout_under count given promise Stands one (e ∷ es) all past t s g = go (world_step t.world e) refl g (λ past t s g. throughout_under count given promise Stands one es (and_true _ _ all).1 past t s g)
+  where
+    go : (r : Result WorldTurn WorldRefusal) → world_step t.world e ≡ r → Throughout given past (steps_on (steps es) t e r) →
+        ((past : List Step) (t : Traced) → Stands past t → Throughout given past (steps es t) → Throughout promise past (steps es t)) →
+        Throughout promise past (steps_on (steps es) t e r)
+    go (Err r) f g h = tt
+    go (Ok sc) f g h = let q = one past t e sc (and_true _ _ all).0 s f g.0 in (q.0, h _ _ q.1 g.1)

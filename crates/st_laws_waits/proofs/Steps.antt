@@ -1,0 +1,95 @@
+-- A whole step of a server that ticks in time keeps what stands of it since its last tick, and a tick makes it stand since now: the thefts and the
+-- suspicions look at every timer and every demand.
+use Rattle.std.proofs.Common.{◌≡◌, ℕ, ◌+◌, ◌≤◌, ◌⊎◌, Bool, true, false, [], refl, sym, ap, ◌∙◌, subst, inl, inr, arith}
+use Rattle.std.specs.Prelude.{cond, Option, Some, None}
+use Rattle.std.proofs.lemmas.Bool.{ltb-true, lt-ltb}
+use Rattle.st_base.specs.declared.config.Config.{Config}
+use Rattle.st_base.specs.declared.ids.Stamp.{Stamp}
+use Rattle.st_messages.specs.declared.message.Message.{Message}
+use Rattle.st_rules.specs.declared.input.ServerInput.{ServerInput}
+use Rattle.st_rules.specs.declared.input.ServerInput.TheVariants.{Tick, Control}
+use Rattle.st_rules.specs.Grace as grace
+use Rattle.st_rules.specs.Grace.{Grace}
+use Rattle.st_rules.specs.Leases.{steal_wait}
+use Rattle.st_rules.specs.Server.{ServerState, Turn, demanding, granting, grant_waiting, in_grace, server_step, suspecting, suspecting_on, take_input, thefts, turn}
+use Rattle.st_laws_refine.specs.Server.Edits.{WishInput}
+use Rattle.st_laws_waits.proofs.Walk.{w_demanding, w_granting, w_message, w_suspecting}
+use Rattle.st_laws_refine.proofs.Server.Walk.{thefts_quiet}
+use Rattle.st_laws_waits.specs.Bounds.{AllBlocked, InTime, RowsHaveSessions}
+use Rattle.st_laws_waits.specs.Going.{Going}
+use Rattle.st_laws_waits.proofs.Demanding.{pass_blocked, pass_demanded}
+use Rattle.st_laws_waits.proofs.Edits.{edit}
+use Rattle.st_laws_waits.proofs.Granting.{waiting_blocked}
+use Rattle.st_laws_waits.proofs.Robbing.{stolen, ticked}
+
+-- grace that is on at a moment was on before
+pub graced_before : (g : Option Grace) (last now : ℕ) → last ≤ now → grace.is_on g (record { 0 = now }) ≡ true → grace.is_on g (record { 0 = last }) ≡ true
+graced_before None last now l e = e
+graced_before (Some g) last now l e = let z = ltb-true now (g.start.0 + g.wait) e in lt-ltb last (g.start.0 + g.wait) (omega (arith, l, z))
+
+-- a granting pass outside grace leaves each first waiter blocked
+granting_blocked : (t : Turn) (now : Stamp) → (grace.is_on t.state.grace now ≡ true) ⊎ AllBlocked (granting t now).state.locks
+unfolding granting
+granting_blocked t now = go (in_grace t now) refl
+  where
+    go : (b : Bool) → in_grace t now ≡ b → (grace.is_on t.state.grace now ≡ true) ⊎ AllBlocked (cond b t (grant_waiting t)).state.locks
+    go true e = inl e
+    go false e = inr (waiting_blocked t)
+
+module _ (k : Config) (now : Stamp) (n : ServerState) (i : ServerInput) (p : 1 ≤ k.demand) (q : 1 ≤ steal_wait k) (rp : 1 ≤ k.retry) where
+  -- the passes behind the suspicions
+  passes : (last : ℕ) (t : Turn) → last ≤ now.0 → Going k (steal_wait k) last now n.grace t →
+      Going k (steal_wait k) last now n.grace (demanding (granting t now) now i)
+  passes last t l o =
+      w_demanding n now i (Going k (steal_wait k) last now n.grace) (λ t u e o. edit k (steal_wait k) last now n.grace n i t u p q l e o) (granting t now)
+      (w_granting n now i (Going k (steal_wait k) last now n.grace) (λ t u e o. edit k (steal_wait k) last now n.grace n i t u p q l e o) t o)
+
+  granted : (last : ℕ) (t : Turn) → last ≤ now.0 → Going k (steal_wait k) last now n.grace t → Going k (steal_wait k) last now n.grace (granting t now)
+  granted last t l o = w_granting n now i (Going k (steal_wait k) last now n.grace) (λ t u e o. edit k (steal_wait k) last now n.grace n i t u p q l e o) t o
+
+  -- what stands behind the passes
+  behind : (last : ℕ) (t : Turn) → last ≤ now.0 → Going k (steal_wait k) last now n.grace t → InTime k last now.0 (demanding (granting t now) now i).state
+  behind last t l o =
+      record {
+        config = z.config;
+        wait = z.wait_is;
+        past = l;
+        rows = z.rows;
+        timers = λ x h. let y = z.timers x h in let y1 = y.1 in (y.0, omega (arith, l, y1));
+        demanded = pass_demanded (granting t now) now i retries;
+        blocked = by (granting_blocked t now);
+      }
+    where
+      retries : 1 ≤ (granting t now).state.config.retry
+      retries = subst (λ (kb : Config). 1 ≤ kb.retry) (sym (granted last t l o).config) rp
+
+      z : Going k (steal_wait k) last now n.grace (demanding (granting t now) now i)
+      z = passes last t l o
+
+      by : (grace.is_on t.state.grace now ≡ true) ⊎ AllBlocked (granting t now).state.locks →
+          (grace.is_on (demanding (granting t now) now i).state.grace (record { 0 = last }) ≡ true) ⊎ AllBlocked (demanding (granting t now) now i).state.locks
+      by (inl e) = inl (graced_before _ last now.0 l (ap (λ g. grace.is_on g now) (z.grace ∙ sym o.grace) ∙ e))
+      by (inr b) = inr (pass_blocked (granting t now) now i retries b)
+
+module _ (k : Config) (last : ℕ) (now : Stamp) (n : ServerState) (p : 1 ≤ k.demand) (q : 1 ≤ steal_wait k) (rp : 1 ≤ k.retry) (known : RowsHaveSessions n) (s : InTime k last now.0 n) where
+  -- behind the thefts
+  pub robbed : Going k (steal_wait k) last now n.grace (thefts (turn n []) now)
+  robbed = stolen k (steal_wait k) last now n known s.config s.wait s.rows s.timers
+
+  -- behind a tick's suspicions
+  pub suspected : Going k (steal_wait k) now.0 now n.grace (suspecting (thefts (turn n []) now) now)
+  suspected =
+      ticked k (steal_wait k) last now n.grace (thefts (turn n []) now) robbed.config
+      (w_suspecting n now Tick (Going k (steal_wait k) last now n.grace) (λ t u e o. edit k (steal_wait k) last now n.grace n Tick t u p q s.past e o) (thefts (turn n []) now) (thefts_quiet n now) robbed)
+
+  -- behind a message's rule
+  pub heard : (m : Message) → WishInput (Control m) → Going k (steal_wait k) last now n.grace (take_input (thefts (turn n []) now) now (Control m))
+  heard m w = w_message n now m (Going k (steal_wait k) last now n.grace) (λ t u e o. edit k (steal_wait k) last now n.grace n (Control m) t u p q s.past e o) w robbed
+
+  pub tick_in_time : InTime k now.0 now.0 (server_step n now Tick).state
+  unfolding server_step take_input suspecting_on
+  tick_in_time = behind k now n Tick p q rp now.0 (suspecting (thefts (turn n []) now) now) (omega arith) suspected
+
+  pub message_in_time : (m : Message) → WishInput (Control m) → InTime k last now.0 (server_step n now (Control m)).state
+  unfolding server_step suspecting_on
+  message_in_time m w = behind k now n (Control m) p q rp last (take_input (thefts (turn n []) now) now (Control m)) s.past (heard m w)

@@ -1,0 +1,6 @@
+pub mod Edits
+pub mod Bounds
+pub mod Going
+pub mod Chase
+pub mod Ends
+pub mod Waits

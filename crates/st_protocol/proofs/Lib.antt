@@ -1,0 +1,10 @@
+pub mod Born
+pub mod Claims
+pub mod Exact
+pub mod Invariant
+pub mod Lists
+pub mod Lives
+pub mod Locks
+pub mod Steps
+pub mod Timing
+pub mod World
