@@ -22,10 +22,10 @@ use Rattle.st_rules.specs.declared.client.IoKind.{IoKind}
 use Rattle.st_rules.specs.declared.client.IoKind.TheVariants.{Read, Write}
 use Rattle.st_rules.specs.declared.client.PageCommand.{PageCommand}
 use Rattle.st_rules.specs.Client as rules
-use Rattle.st_rules.specs.Client.{filled_by, hardened, mark_failed, failed_as, finish_as, ended_by, finish_command, done_by, finish_by, finish_at, finish, tell_lost, lose_session, lose_over, lose_by, lose, pend, take_sync, take_by, take_ask}
+use Rattle.st_rules.specs.Client.{filled_by, hardened, mark_failed, failed_as, finish_as, ended_by, finish_command, done_by, finish_by, finish_at, finish, tell_lost, lose_session, lose_over, lose_by, lose, enqueue, take_sync, take_by, take_ask}
 use Rattle.st_rules.specs.ClientInvariants.{all_last, lasts_here, lasts_in}
 use Rattle.st_rules.specs.ClientPages as pages
-use Rattle.st_rules.specs.ClientReplies.{hear}
+use Rattle.st_rules.specs.ClientReplies.{receive_at}
 use Rattle.st_rules.specs.ClientState.{Association, ClientSession, ClientTurn, Turn, answer_each, at_each, at_these, enter, is_at, leave, only_at}
 
 both_true : (a b : Bool) → a ≡ true → b ≡ true → (a && b) ≡ true
@@ -99,18 +99,18 @@ losses_last now t =
 
 -- Messages.
 
-pub heard_last : (now : Stamp) (h : Header) (body : Body) (t : ClientTurn) → all_last t.state now ≡ true → all_last (at_each (hear now h body) t).state now ≡ true
+pub heard_last : (now : Stamp) (h : Header) (body : Body) (t : ClientTurn) → all_last t.state now ≡ true → all_last (at_each (receive_at now h body) t).state now ≡ true
 heard_last now h body t l =
-    each_last now (λ k a. lasts_here k now a) (hear now h body) (λ u e. by_before now u (hear now h body u) (hear_grows now h body u) (hear_lasts now h body u e)) t l
+    each_last now (λ k a. lasts_here k now a) (receive_at now h body) (λ u e. by_before now u (receive_at now h body u) (hear_grows now h body u) (hear_lasts now h body u e)) t l
 
 -- Asks.
 
 sync_last : (t : Turn) (op : ℕ) (ask : Ask) (f : FileId) (now : Stamp) → Here now t → Here now (take_sync t op ask f)
-unfolding take_sync tell_lost pend
-sync_last t op ask f now h = either_last now (pages.has_lost t.here.lost f.ino) (tell_lost t op f.ino) (pend t op ask) h h
+unfolding take_sync tell_lost enqueue
+sync_last t op ask f now h = either_last now (pages.has_lost t.here.lost f.ino) (tell_lost t op f.ino) (enqueue t op ask) h h
 
 take_by_last : (t : Turn) (op : ℕ) (ask other : Ask) (now : Stamp) → Here now t → Here now (take_by t op ask other)
-unfolding take_by pend
+unfolding take_by enqueue
 take_by_last t op ask (asks.Sync f) now h = sync_last t op ask f now h
 take_by_last t op ask (asks.Write f p bytes) now h = h
 take_by_last t op ask (asks.Read f p) now h = h

@@ -5,7 +5,7 @@ use Rattle.std.proofs.lemmas.List.{drop_more}
 use Rattle.std.specs.Prelude.{Option, Some, None, is_some, cond, find, Result, Ok, Err, OnOk}
 use Rattle.std.specs.List.{list_all, list_any}
 use Rattle.st_lemmas.proofs.Tables.{cond_either, cond_false}
-use Rattle.st_association.specs.Associations.{has_room_at}
+use Rattle.st_client_association.specs.Associations.{has_room_at}
 use Rattle.st_base.specs.declared.config.Config.{Config}
 use Rattle.st_base.specs.declared.ids.ClientId.{ClientId}
 use Rattle.st_base.specs.declared.ids.Life.{Life}

@@ -42,7 +42,7 @@ use Rattle.st_rules.specs.declared.client.HeldLock.{HeldLock}
 use Rattle.st_rules.specs.declared.client.IoKind.{IoKind}
 use Rattle.st_rules.specs.declared.client.IoKind.TheVariants as io
 use Rattle.st_rules.specs.declared.client.KnownExtent.{KnownExtent}
-use Rattle.st_rules.specs.declared.client.Mapping.{Mapping}
+use Rattle.st_rules.specs.declared.client.MappedBlock.{MappedBlock}
 use Rattle.st_rules.specs.declared.client.Operation.{Operation}
 use Rattle.st_rules.specs.declared.client.PageCommand.{PageCommand}
 use Rattle.st_rules.specs.declared.client.Release.{Release}
@@ -71,7 +71,7 @@ or_right false b e = e
 
 module _ (v : ServerId) (known : BlockAt → Bool) (os : List Operation) where
   -- what is known of a page is at a block of another server
-  abbrev pub lies : Option Mapping → Bool
+  abbrev pub lies : Option MappedBlock → Bool
   lies None = true
   lies (Some m) = known m.at
 
@@ -360,8 +360,8 @@ module _ (v : ServerId) (known : BlockAt → Bool) (os : List Operation) where
         let u = begun_used t s e w in
         usable (cr.with_a_session t s now h b) (u_session t s now h b (tells t.here.server f u.cond) u)
 
-    pub g_hear : (t : Turn) → G t → S (cr.hear now h b t)
-    unfolding cr.hear
+    pub g_hear : (t : Turn) → G t → S (cr.receive_at now h b t)
+    unfolding cr.receive_at
     g_hear t w = go (cr.is_heard t now h) refl
       where
         go : (z : Bool) → cr.is_heard t now h ≡ z → S (if z then cr.by_session t now h b t.here.session else t)
@@ -414,13 +414,13 @@ module _ (v : ServerId) (known : BlockAt → Bool) (os : List Operation) where
     unfolding cl.tell_lost
     w_tell t op ino w = w_say C t (outputs.Answer op (answers.Lost (pages.told_rows t.here.lost ino))) refl w
 
-    w_pend : (t : Turn) (op : ℕ) (ask : Ask) → is_fine (cs.new_operation op ask) ≡ true → Stands C t → Stands C (cl.pend t op ask)
-    unfolding cl.pend
+    w_pend : (t : Turn) (op : ℕ) (ask : Ask) → is_fine (cs.new_operation op ask) ≡ true → Stands C t → Stands C (cl.enqueue t op ask)
+    unfolding cl.enqueue
     w_pend t op ask f w = record { placed = w.placed; operations = all_last is_fine t.operations (cs.new_operation op ask) w.operations f; out = w.out; cond = w.cond }
 
     w_take_by : (t : Turn) (op : ℕ) (ask other : Ask) → is_fine (cs.new_operation op ask) ≡ true → Stands C t → Stands C (cl.take_by t op ask other)
     unfolding cl.take_by cl.take_sync
-    w_take_by t op ask (asks.Sync f) e w = one_of (Stands C) (pages.has_lost t.here.lost f.ino) (cl.tell_lost t op f.ino) (cl.pend t op ask) (w_tell t op f.ino w) (w_pend t op ask e w)
+    w_take_by t op ask (asks.Sync f) e w = one_of (Stands C) (pages.has_lost t.here.lost f.ino) (cl.tell_lost t op f.ino) (cl.enqueue t op ask) (w_tell t op f.ino w) (w_pend t op ask e w)
     w_take_by t op ask other e w = w_pend t op ask e w
 
     pub w_take : (s : ServerId) (op : ℕ) (ask : Ask) → is_fine (cs.new_operation op ask) ≡ true → (t : Turn) → Stands C t → Stands C (cs.only_at s (cl.take_ask op ask) t)
@@ -429,10 +429,10 @@ module _ (v : ServerId) (known : BlockAt → Bool) (os : List Operation) where
 
   -- Operations.
 
-  placed_at : (xs : List KnownExtent) (ino : ℕ) (p : PageNo) (m : Mapping) → list_all is_placed xs ≡ true → pages.mapping_of xs ino p ≡ Some m → known m.at ≡ true
+  placed_at : (xs : List KnownExtent) (ino : ℕ) (p : PageNo) (m : MappedBlock) → list_all is_placed xs ≡ true → pages.mapping_of xs ino p ≡ Some m → known m.at ≡ true
   placed_at xs ino p m h e = go (pages.known_of xs ino p) refl e
     where
-      none : ◌≡◌ {A = Option Mapping} None (Some m) → known m.at ≡ true
+      none : ◌≡◌ {A = Option MappedBlock} None (Some m) → known m.at ≡ true
       none q = cc
 
       go : (o : Option KnownExtent) → pages.known_of xs ino p ≡ o → pages.mapping_at o ≡ Some m → known m.at ≡ true
@@ -467,7 +467,7 @@ module _ (v : ServerId) (known : BlockAt → Bool) (os : List Operation) where
   u_write t s o f p bytes k e w =
       one_of U (cp.may_write t s f p) _ (cs.keep o t) (u_change t o f p (notes.Accepted f p bytes) (pages.write t.here.store.pages f.ino p bytes) e w) (u_keep t o k w)
 
-  u_fetch_at : (t : Turn) (f : FileId) (p : PageNo) (m : Option Mapping) → pages.mapping_of t.here.store.extents f.ino p ≡ m → U t → U (cp.fetch_at t f p m)
+  u_fetch_at : (t : Turn) (f : FileId) (p : PageNo) (m : Option MappedBlock) → pages.mapping_of t.here.store.extents f.ino p ≡ m → U t → U (cp.fetch_at t f p m)
   unfolding cp.fetch_at cp.fetch_mapped cp.submit_read cp.submit_command
   u_fetch_at t f p None e w = w
   u_fetch_at t f p (Some m) e w =
@@ -492,7 +492,7 @@ module _ (v : ServerId) (known : BlockAt → Bool) (os : List Operation) where
   u_patch t s o f p at bytes k e w =
       one_of U (cp.may_write t s f p) _ (cs.keep o t) (u_patch_at t o f p at bytes (pages.cached t.here.store.pages f.ino p) k e w) (u_keep t o k w)
 
-  u_known : (t : Turn) (o : Operation) (f : FileId) (p : PageNo) (x : KnownExtent) (m : Option Mapping) → is_fine o ≡ true → list_any (is_other_operation v o.op) os ≡ true → U t →
+  u_known : (t : Turn) (o : Operation) (f : FileId) (p : PageNo) (x : KnownExtent) (m : Option MappedBlock) → is_fine o ≡ true → list_any (is_other_operation v o.op) os ≡ true → U t →
       U (cp.read_known t o f p x m)
   unfolding cp.read_known
   u_known t o f p x None k e w = w_say Used t (outputs.Answer o.op (answers.Read (filled 0))) (use_clear o (answers.Read (filled 0)) e) w
@@ -601,7 +601,7 @@ module _ (v : ServerId) (known : BlockAt → Bool) (os : List Operation) where
 
   -- Writes.
 
-  u_out_at : (t : Turn) (d : DirtyPage) (m : Option Mapping) → pages.mapping_of t.here.store.extents d.ino d.page ≡ m → U t → U (cp.write_out_at t d m)
+  u_out_at : (t : Turn) (d : DirtyPage) (m : Option MappedBlock) → pages.mapping_of t.here.store.extents d.ino d.page ≡ m → U t → U (cp.write_out_at t d m)
   unfolding cp.write_out_at cp.submit_write cp.submit_command
   u_out_at t d None e w = w
   u_out_at t d (Some m) e w =

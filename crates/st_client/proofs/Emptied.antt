@@ -135,16 +135,16 @@ lose_bare k now a over t c e = subst (λ b. Bare b (cl.lose now t).here) e (by t
 -- The input.
 
 take_bare : (a : Association) (s : ServerId) (op : ℕ) (ask : Ask) (t : Turn) → Bare a t.here → Bare a (only_at s (cl.take_ask op ask) t).here
-unfolding only_at cl.take_ask cl.take_by cl.take_sync cl.pend cl.tell_lost
+unfolding only_at cl.take_ask cl.take_by cl.take_sync cl.enqueue cl.tell_lost
 take_bare a s op ask t b = if_here (Bare a) (is_at s t.here) (cl.take_by t op ask ask) t (by ask) b
   where
     by : (z : Ask) → Bare a (cl.take_by t op ask z).here
     by (asks.Sync f) =
-        if_here (Bare a) (pages.has_lost t.here.lost f.ino) (cl.tell_lost t op f.ino) (cl.pend t op ask) (record { life = b.life; session = b.session; greeting = b.greeting; store = b.store }) b
+        if_here (Bare a) (pages.has_lost t.here.lost f.ino) (cl.tell_lost t op f.ino) (cl.enqueue t op ask) (record { life = b.life; session = b.session; greeting = b.greeting; store = b.store }) b
     by z = b
 
-hear_bare : (a : Association) (now : Stamp) (h : Header) (body : Body) (t : Turn) → Bare a t.here → Bare a (cr.hear now h body t).here
-unfolding cr.hear cr.by_session cr.without_session cr.welcome
+hear_bare : (a : Association) (now : Stamp) (h : Header) (body : Body) (t : Turn) → Bare a t.here → Bare a (cr.receive_at now h body t).here
+unfolding cr.receive_at cr.by_session cr.without_session cr.welcome
 hear_bare a now h body t b = if_here (Bare a) (cr.is_heard t now h) (cr.by_session t now h body t.here.session) t (subst (λ o. Bare a (cr.by_session t now h body o).here) (sym b.session) (by body)) b
   where
     late : (stamp : Stamp) → cr.is_timely t now stamp ≡ false
@@ -225,8 +225,8 @@ input_found v a t now (App op ask) p =
     (one_of (FoundLeft v a) (cl.is_configured t.state (server_of ask)) (at_each (only_at (server_of ask) (cl.take_ask op ask)) t) (cl.answered_at_once t op answers.NoFile)
     (found_each v (only_at (server_of ask) (cl.take_ask op ask)) (take_server (server_of ask) op ask) t.state.config (Bare a) (Bare a) (λ u c b. take_bare a (server_of ask) op ask u b) t refl p) p)
 input_found v a t now (Control m) p =
-    one_of (FoundLeft v a) (m.header.to == t.state.id.0) (at_each (cr.hear now m.header m.body) t) t
-    (found_each v (cr.hear now m.header m.body) (λ u. (hear_grows now m.header m.body u).2) t.state.config (Bare a) (Bare a) (λ u c b. hear_bare a now m.header m.body u b) t refl p) p
+    one_of (FoundLeft v a) (m.header.to == t.state.id.0) (at_each (cr.receive_at now m.header m.body) t) t
+    (found_each v (cr.receive_at now m.header m.body) (λ u. (hear_grows now m.header m.body u).2) t.state.config (Bare a) (Bare a) (λ u c b. hear_bare a now m.header m.body u b) t refl p) p
 input_found v a t now (Done number result) p =
     found_each v (cl.finish number result) (λ u. (finish_grows number result u).2) t.state.config (Bare a) (Bare a) (λ u c b. finish_bare a number result u b) t refl p
 

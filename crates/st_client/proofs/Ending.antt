@@ -8,7 +8,7 @@ use Rattle.std.proofs.lemmas.List.{drop_more, get_or-set_same, get_or-set_other,
 use Rattle.std.proofs.Math.ListN.{get_or-map}
 use Rattle.std.proofs.lemmas.Option.{unwrap_or-slice_get}
 use Rattle.st_lemmas.proofs.Tables.{and_true, cond_false, cond_true}
-use Rattle.st_association.specs.Associations.{ClientAssociation}
+use Rattle.st_client_association.specs.Associations.{ClientAssociation}
 use Rattle.st_base.specs.declared.config.Config.{Config}
 use Rattle.st_base.specs.declared.ids.ClientId.{ClientId}
 use Rattle.st_base.specs.declared.ids.ServerId.{ServerId}

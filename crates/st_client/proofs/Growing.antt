@@ -1,9 +1,9 @@
 -- What always stands of associations stands where numbers of commands and outputs grow.
 use Rattle.std.proofs.Common.{◌≡◌, ℕ, suc, zero, ◌+◌, ◌<◌, ◌≤◌, List, [], ◌∷◌, ◌++◌, length, map, ap, subst, ◌∙◌, arith}
 use Rattle.std.specs.Prelude.{Option, Some, None}
-use Rattle.st_association.proofs.Kept.{below_more}
-use Rattle.st_association.specs.Associations.{ClientAssociation, IsCounted, RequestsBelow}
-use Rattle.st_association.specs.Turns.{most_of}
+use Rattle.st_client_association.proofs.Kept.{below_more}
+use Rattle.st_client_association.specs.Associations.{ClientAssociation, IsCounted, RequestsBelow}
+use Rattle.st_client_association.specs.Turns.{most_of}
 use Rattle.st_base.specs.declared.config.Config.{Config}
 use Rattle.st_base.specs.declared.ids.ClientId.{ClientId}
 use Rattle.st_messages.specs.declared.output.Output.{Output}

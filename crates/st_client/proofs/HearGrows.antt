@@ -22,7 +22,7 @@ use Rattle.st_rules.specs.declared.client.Asked.TheVariants.{Reduce, NotHeld, St
 use Rattle.st_rules.specs.declared.client.HeldLock.{HeldLock}
 use Rattle.st_rules.specs.declared.client.Request.{Request}
 use Rattle.st_rules.specs.ClientLease.{ClientLease, is_renewal, new_lease, renewed}
-use Rattle.st_rules.specs.ClientReplies.{acknowledged, begin_here, begin_session, ended_by, in_epoch, name_answer, new_session, by_request, by_session, condemn, count_reply, counted, demand, demand_as, demand_by, drop_held, drop_lock, effect, end_request, extents, follow_epoch, grant_or_reply, granted, hear, is_counting, is_current, is_heard, is_newer, is_timely, learn, leave_stuck, nack, named, named_as, newer_epoch, note_lease, note_renewal, of_epoch, of_other_epoch, queued, reasserted, refuse_as, refuse_file, refuse_holder, refuse_page, refused, refused_in, refuses_reassertion, removed, reply_of, reply_to, see_demand, welcome, with_a_session, without_session}
+use Rattle.st_rules.specs.ClientReplies.{acknowledged, begin_here, begin_session, ended_by, in_epoch, name_answer, new_session, by_request, by_session, condemn, count_reply, counted, demand, demand_as, demand_by, drop_held, drop_lock, effect, end_request, extents, follow_epoch, grant_or_reply, granted, receive_at, is_counting, is_current, is_heard, is_newer, is_timely, learn, leave_stuck, nack, named, named_as, newer_epoch, note_lease, note_renewal, of_epoch, of_other_epoch, queued, reasserted, refuse_as, refuse_file, refuse_holder, refuse_page, refused, refused_in, refuses_reassertion, removed, reply_of, reply_to, see_demand, welcome, with_a_session, without_session}
 use Rattle.st_rules.specs.ClientState.{ClientSession, Turn, answer_each, asks_cut_or_remove, file_asked, is_asked, send, with_session}
 use Rattle.st_rules.specs.ClientLocks as locks
 
@@ -284,6 +284,6 @@ unfolding by_session
 by_grows t now h body None = without_grows t now h body
 by_grows t now h body (Some s) = session_grows t s now h body
 
-pub hear_grows : (now : Stamp) (h : Header) (body : Body) (t : Turn) → Advances t (hear now h body t)
-unfolding hear
+pub hear_grows : (now : Stamp) (h : Header) (body : Body) (t : Turn) → Advances t (receive_at now h body t)
+unfolding receive_at
 hear_grows now h body t = either (is_heard t now h) _ t t (by_grows t now h body t.here.session) (stays t)

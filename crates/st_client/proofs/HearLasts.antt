@@ -31,7 +31,7 @@ use Rattle.st_rules.specs.declared.client.Asked.TheVariants.{Reduce, NotHeld, St
 use Rattle.st_rules.specs.declared.client.HeldLock.{HeldLock}
 use Rattle.st_rules.specs.declared.client.Operation.{Operation}
 use Rattle.st_rules.specs.declared.client.Request.{Request}
-use Rattle.st_rules.specs.ClientReplies.{acknowledged, begin_session, ended_by, in_epoch, name_answer, by_request, by_session, condemn, count_reply, counted, demand, demand_as, demand_by, drop_held, drop_lock, effect, end_request, extents, follow_epoch, grant_or_reply, granted, hear, is_counting, is_current, is_heard, is_newer, is_timely, learn, leave_stuck, nack, named, named_as, newer_epoch, note_lease, of_epoch, of_other_epoch, queued, reasserted, refuse_as, refuse_file, refuse_holder, refuse_page, refused, refused_in, refuses_reassertion, removed, reply_of, reply_to, see_demand, welcome, with_a_session, without_session}
+use Rattle.st_rules.specs.ClientReplies.{acknowledged, begin_session, ended_by, in_epoch, name_answer, by_request, by_session, condemn, count_reply, counted, demand, demand_as, demand_by, drop_held, drop_lock, effect, end_request, extents, follow_epoch, grant_or_reply, granted, receive_at, is_counting, is_current, is_heard, is_newer, is_timely, learn, leave_stuck, nack, named, named_as, newer_epoch, note_lease, of_epoch, of_other_epoch, queued, reasserted, refuse_as, refuse_file, refuse_holder, refuse_page, refused, refused_in, refuses_reassertion, removed, reply_of, reply_to, see_demand, welcome, with_a_session, without_session}
 use Rattle.st_rules.specs.ClientState.{ClientSession, Turn, answer_each, asks_cut_or_remove, file_asked, is_asked, send, with_session}
 use Rattle.st_rules.specs.ClientLocks as locks
 
@@ -356,6 +356,6 @@ unfolding by_session
 by_lasts t now h body None e l = without_lasts t now h body l
 by_lasts t now h body (Some s) e l = session_lasts t s now h body l (ap (lasts_in t.config now) (sym e) ∙ l)
 
-pub hear_lasts : (now : Stamp) (h : Header) (body : Body) (t : Turn) → Here now t → Here now (hear now h body t)
-unfolding hear
+pub hear_lasts : (now : Stamp) (h : Header) (body : Body) (t : Turn) → Here now t → Here now (receive_at now h body t)
+unfolding receive_at
 hear_lasts now h body t l = either now (is_heard t now h) _ t (by_lasts t now h body t.here.session refl l) l

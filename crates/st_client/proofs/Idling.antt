@@ -3,7 +3,7 @@ use Rattle.std.proofs.Common.{◌≡◌, List, [], ◌∷◌, ◌++◌, length, 
 use Rattle.std.specs.Prelude.{⊤}
 use Rattle.st_base.specs.declared.config.Config.{Config}
 use Rattle.st_rules.specs.declared.client.Operation.{Operation}
-use Rattle.st_association.specs.Associations.{ClientAssociation}
+use Rattle.st_client_association.specs.Associations.{ClientAssociation}
 use Rattle.st_rules.specs.ClientState.{Association, ClientTurn, Turn, at_each, at_these, enter, leave, with_associations}
 use Rattle.st_client.specs.Idle.{IsIdle}
 use Rattle.st_client.specs.Machines.{AreIn, here_of}

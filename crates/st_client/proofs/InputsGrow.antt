@@ -14,7 +14,7 @@ use Rattle.st_rules.specs.declared.client.IoKind.TheVariants.{Read, Write}
 use Rattle.st_rules.specs.declared.client.Operation.{Operation}
 use Rattle.st_rules.specs.declared.client.PageCommand.{PageCommand}
 use Rattle.st_rules.specs.Client as rules
-use Rattle.st_rules.specs.Client.{filled_by, hardened, mark_failed, failed_as, finish_as, ended_by, finish_command, done_by, finish_by, finish_at, finish, tell_lost, end_sync, end_unsent, end_operation, end_each, end_operations, lose_session, lose_over, lose_by, lose, pend, take_sync, take_by, take_ask}
+use Rattle.st_rules.specs.Client.{filled_by, hardened, mark_failed, failed_as, finish_as, ended_by, finish_command, done_by, finish_by, finish_at, finish, tell_lost, end_sync, end_unsent, end_operation, end_each, end_operations, lose_session, lose_over, lose_by, lose, enqueue, take_sync, take_by, take_ask}
 use Rattle.st_rules.specs.ClientPages as pages
 use Rattle.st_rules.specs.ClientState.{ClientSession, Turn, is_of, is_sent, note, with_operations}
 use Rattle.st_client.proofs.Advancing.{either, says, stays, then_more, told}
@@ -69,11 +69,11 @@ finish_grows number result t = grow_finish_at t (pages.command_of t.here.store.c
 -- Asks.
 
 grow_sync : (t : Turn) (op : ℕ) (ask : Ask) (f : FileId) → Advances t (take_sync t op ask f)
-unfolding take_sync tell_lost pend
+unfolding take_sync tell_lost enqueue
 grow_sync t op ask f = either (pages.has_lost t.here.lost f.ino) _ _ t (says t _) (stays t)
 
 grow_take_by : (t : Turn) (op : ℕ) (ask other : Ask) → Advances t (take_by t op ask other)
-unfolding take_by pend
+unfolding take_by enqueue
 grow_take_by t op ask (asks.Sync f) = grow_sync t op ask f
 grow_take_by t op ask (asks.Write f p bytes) = stays t
 grow_take_by t op ask (asks.Read f p) = stays t

@@ -14,7 +14,7 @@ use Rattle.st_messages.specs.declared.message.Body.TheVariants as bodies
 use Rattle.st_messages.specs.declared.output.Note.{Note}
 use Rattle.st_messages.specs.declared.output.Note.TheVariants as notes
 use Rattle.st_rules.specs.declared.client.KnownExtent.{KnownExtent}
-use Rattle.st_rules.specs.declared.client.Mapping.{Mapping}
+use Rattle.st_rules.specs.declared.client.MappedBlock.{MappedBlock}
 use Rattle.st_rules.specs.declared.client.Operation.{Operation}
 use Rattle.st_rules.specs.declared.client.Release.{Release}
 use Rattle.st_rules.specs.declared.client.Request.{Request}
@@ -50,7 +50,7 @@ grow_write : (t : Turn) (s : ClientSession) (o : Operation) (f : FileId) (p : Pa
 unfolding write change_page
 grow_write t s o f p bytes = either (passes.may_write t s f p) _ _ t (grow_change t o f p (notes.Accepted f p bytes) (pages.write t.here.store.pages f.ino p bytes)) (stays t)
 
-grow_fetch_at : (t : Turn) (f : FileId) (p : PageNo) (m : Option Mapping) → Advances t (fetch_at t f p m)
+grow_fetch_at : (t : Turn) (f : FileId) (p : PageNo) (m : Option MappedBlock) → Advances t (fetch_at t f p m)
 unfolding fetch_at fetch_mapped submit_read submit_command
 grow_fetch_at t f p None = stays t
 grow_fetch_at t f p (Some m) = either (pages.is_being_read t.here.store.commands f.ino p) _ _ t (stays t) (submitted t _)
@@ -68,7 +68,7 @@ grow_patch : (t : Turn) (s : ClientSession) (o : Operation) (f : FileId) (p : Pa
 unfolding patch
 grow_patch t s o f p at bytes = either (passes.may_write t s f p) _ _ t (grow_patch_at t o f p at bytes (pages.cached t.here.store.pages f.ino p)) (stays t)
 
-grow_read_known : (t : Turn) (o : Operation) (f : FileId) (p : PageNo) (e : KnownExtent) (m : Option Mapping) → Advances t (read_known t o f p e m)
+grow_read_known : (t : Turn) (o : Operation) (f : FileId) (p : PageNo) (e : KnownExtent) (m : Option MappedBlock) → Advances t (read_known t o f p e m)
 unfolding read_known
 grow_read_known t o f p e None = says t _
 grow_read_known t o f p e (Some m) = grow_fetch t o f p
@@ -152,7 +152,7 @@ reductions_grow t = grow_reduce_each (passes.files_demanded t.here.session) t
 
 -- Writes.
 
-grow_out_at : (t : Turn) (d : DirtyPage) (m : Option Mapping) → Advances t (write_out_at t d m)
+grow_out_at : (t : Turn) (d : DirtyPage) (m : Option MappedBlock) → Advances t (write_out_at t d m)
 unfolding write_out_at submit_write submit_command
 grow_out_at t d None = stays t
 grow_out_at t d (Some m) = submitted t _

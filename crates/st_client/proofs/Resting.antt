@@ -3,8 +3,8 @@ use Rattle.std.proofs.Common.{◌≡◌, ℕ, ◌<◌, ◌^◌, Bool, true, List
 use Rattle.std.specs.Prelude.{Option, Some, None, nat_lt, IsTrue, ◌↔◌}
 use Rattle.std.specs.List.{list_all}
 use Rattle.std.proofs.lemmas.Bool.{and_parts, and_from, lt-ltb, ltb-true}
-use Rattle.st_association.specs.Associations.{ClientAssociation, IsCounted, RequestsBelow, has_room_at, may_ask}
-use Rattle.st_association.specs.Turns.{most_of}
+use Rattle.st_client_association.specs.Associations.{ClientAssociation, IsCounted, RequestsBelow, has_room_at, may_ask}
+use Rattle.st_client_association.specs.Turns.{most_of}
 use Rattle.st_base.specs.declared.config.Config.{Config}
 use Rattle.st_base.specs.declared.ids.ClientId.{ClientId}
 use Rattle.st_base.specs.declared.ids.Life.{Life}

@@ -4,7 +4,7 @@ use Rattle.std.specs.List.{list_all}
 use Rattle.st_lemmas.proofs.Tables.{and_true}
 use Rattle.st_base.specs.declared.config.Config.{Config}
 use Rattle.st_rules.specs.ClientState.{Association, ClientTurn, Turn, at_each, at_these, enter, leave, with_associations}
-use Rattle.st_association.specs.Associations.{ClientAssociation}
+use Rattle.st_client_association.specs.Associations.{ClientAssociation}
 use Rattle.st_client.specs.Machines.{at_first, first_of, here_of, is_first}
 
 -- This many are left: the rule at each of them leads to the same, and each of them is ready.

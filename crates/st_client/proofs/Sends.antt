@@ -3,7 +3,7 @@ use Rattle.std.proofs.Common.{◌≡◌, ℕ, suc, zero, ◌+◌, ◌^◌, ◌<�
 use Rattle.std.specs.Prelude.{◌&&◌, map, nat_lt, Option, Some, None, ⊤}
 use Rattle.std.specs.List.{list_all}
 use Rattle.std.proofs.lemmas.Bool.{ltb-true}
-use Rattle.st_association.specs.Associations.{has_room_at, may_ask}
+use Rattle.st_client_association.specs.Associations.{has_room_at, may_ask}
 use Rattle.st_base.specs.declared.config.Config.{Config}
 use Rattle.st_base.specs.declared.ids.ClientId.{ClientId}
 use Rattle.st_base.specs.declared.ids.Stamp.{Stamp}
@@ -25,7 +25,7 @@ use Rattle.st_rules.specs.declared.client.ClientInput.{ClientInput}
 use Rattle.st_rules.specs.declared.client.ClientInput.TheVariants.{Tick, App, Control, Done}
 use Rattle.st_rules.specs.Client.{answered_at_once, app, app_known, client_step, crash, crashed_association, done, finish, fresh_association, fresh_client, is_configured, is_full, is_tick, lose, losses, start, started_association, take_ask, take_input, work}
 use Rattle.st_rules.specs.ClientPasses as passes
-use Rattle.st_rules.specs.ClientReplies.{hear, receive, receive_here}
+use Rattle.st_rules.specs.ClientReplies.{receive_at, receive, receive_here}
 use Rattle.st_rules.specs.ClientState.{Association, ClientSession, ClientState, ClientTurn, Turn, at_each, at_these, client_turn, enter, leave, only_at, server_of, with_associations}
 use Rattle.st_rules.specs.Extents.{numbers}
 
@@ -75,8 +75,8 @@ input_fit most low high t now (App op ask) e h =
     (each_fit most most (only_at (server_of ask) (take_ask op ask)) (asked_fit most (server_of ask) op ask e) t h) (once_fit most t op answers.NoFile h))
 input_fit most low high t now (Control m) e h =
     let p = fits_parts m.header m.body e in
-    one_of (FitClient most) (m.header.to == t.state.id.0) (at_each (hear now m.header m.body) t) t
-    (each_fit most most (hear now m.header m.body) (hear_fit most low high now m.header m.body p.0 p.1) t h) h
+    one_of (FitClient most) (m.header.to == t.state.id.0) (at_each (receive_at now m.header m.body) t) t
+    (each_fit most most (receive_at now m.header m.body) (hear_fit most low high now m.header m.body p.0 p.1) t h) h
 input_fit most low high t now (Done number result) e h = each_fit most most (finish number result) (finish_fit most number result) t h
 
 -- The whole step.

@@ -12,7 +12,7 @@ use Rattle.st_rules.specs.declared.client.ClientInput.TheVariants.{Tick, App, Co
 use Rattle.st_rules.specs.Client as client
 use Rattle.st_rules.specs.Client.{app, app_known, client_step, done, finish, is_configured, is_full, losses, lose, take_ask, take_input, work}
 use Rattle.st_rules.specs.ClientPasses as passes
-use Rattle.st_rules.specs.ClientReplies.{hear, receive, receive_here}
+use Rattle.st_rules.specs.ClientReplies.{receive_at, receive, receive_here}
 use Rattle.st_rules.specs.ClientState.{Association, ClientState, ClientTurn, Turn, at_each, at_these, client_turn, enter, is_at, leave, only_at, server_of, with_associations}
 use Rattle.st_client.proofs.Advancing.{either, stays}
 use Rattle.st_client.proofs.HearGrows.{hear_grows}
@@ -63,7 +63,7 @@ app_keeps t op ask =
 
 heard_keeps : (t : ClientTurn) (now : Stamp) (h : Header) (b : Body) → IsKept t.state (receive t now h b).state
 unfolding receive receive_here
-heard_keeps t now h b = one_of (h.to == t.state.id.0) _ _ t.state (each_keeps (hear now h b) (hear_grows now h b) t) (same t.state)
+heard_keeps t now h b = one_of (h.to == t.state.id.0) _ _ t.state (each_keeps (receive_at now h b) (hear_grows now h b) t) (same t.state)
 
 input_keeps : (t : ClientTurn) (now : Stamp) (input : ClientInput) → IsKept t.state (take_input t now input).state
 unfolding take_input done

@@ -32,7 +32,7 @@ use Rattle.st_rules.specs.declared.client.Request.{Request}
 use Rattle.st_rules.specs.declared.client.Stage.TheVariants.{Stuck}
 use Rattle.st_rules.specs.ClientLease.{ClientLease, condemned, is_renewal, new_lease, renewed}
 use Rattle.st_rules.specs.ClientLocks as locks
-use Rattle.st_rules.specs.ClientReplies.{acknowledged, begin_here, begin_session, by_request, by_session, condemn, count_reply, counted, demand, demand_as, demand_by, drop_held, drop_lock, effect, end_request, ended_by, extents, follow_epoch, grant, grant_or_reply, granted, hear, in_epoch, is_counting, is_current, is_heard, is_newer, is_timely, learn, leave_stuck, nack, name_answer, named, named_as, new_session, newer_epoch, note_lease, note_renewal, of_epoch, of_other_epoch, queued, reasserted, refuse_as, refuse_file, refuse_holder, refuse_page, refused, refused_in, refuses_reassertion, release_unheld, removed, reply_of, reply_to, see_demand, stuck, wait_told, wait_unless_held, welcome, with_a_session, without_session}
+use Rattle.st_rules.specs.ClientReplies.{acknowledged, begin_here, begin_session, by_request, by_session, condemn, count_reply, counted, demand, demand_as, demand_by, drop_held, drop_lock, effect, end_request, ended_by, extents, follow_epoch, grant, grant_or_reply, granted, receive_at, in_epoch, is_counting, is_current, is_heard, is_newer, is_timely, learn, leave_stuck, nack, name_answer, named, named_as, new_session, newer_epoch, note_lease, note_renewal, of_epoch, of_other_epoch, queued, reasserted, refuse_as, refuse_file, refuse_holder, refuse_page, refused, refused_in, refuses_reassertion, release_unheld, removed, reply_of, reply_to, see_demand, stuck, wait_told, wait_unless_held, welcome, with_a_session, without_session}
 use Rattle.st_rules.specs.ClientState.{ClientSession, Turn, answer_each, asks_cut_or_remove, at_stage, file_asked, forget_wait, is_asked, with_cache, with_lease, with_release, with_session}
 
 module _ (most : ℕ) (low : 1 ≤ most) (high : most < 2 ^ 64) where
@@ -271,7 +271,7 @@ module _ (most : ℕ) (low : 1 ≤ most) (high : most < 2 ^ 64) where
   by_fit t now m body None k e l h = without_fit t now m body k h
   by_fit t now m body (Some s) k e l h = session_fit t s now m body k e l h
 
-  pub hear_fit : (now : Stamp) (m : Header) (body : Body) → is_header (kind_of_body body) m ≡ true → is_body body ≡ true → (t : Turn) → Fit most t → Fit most (hear now m body t)
-  unfolding hear
+  pub hear_fit : (now : Stamp) (m : Header) (body : Body) → is_header (kind_of_body body) m ≡ true → is_body body ≡ true → (t : Turn) → Fit most t → Fit most (receive_at now m body t)
+  unfolding receive_at
   hear_fit now m body k e t h =
       one_of (Fit most) (is_heard t now m) (by_session t now m body t.here.session) t (by_fit t now m body t.here.session k e h.here.session h) h

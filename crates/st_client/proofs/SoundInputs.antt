@@ -21,7 +21,7 @@ use Rattle.st_rules.specs.declared.client.IoKind.TheVariants.{Read, Write}
 use Rattle.st_rules.specs.declared.client.Operation.{Operation}
 use Rattle.st_rules.specs.declared.client.PageCommand.{PageCommand}
 use Rattle.st_rules.specs.Client as rules
-use Rattle.st_rules.specs.Client.{filled_by, hardened, mark_failed, failed_as, finish_as, ended_by, finish_command, done_by, finish_by, finish_at, finish, tell_lost, end_sync, end_unsent, end_operation, end_each, end_operations, lose_session, lose_over, lose_by, lose, pend, take_sync, take_by, take_ask}
+use Rattle.st_rules.specs.Client.{filled_by, hardened, mark_failed, failed_as, finish_as, ended_by, finish_command, done_by, finish_by, finish_at, finish, tell_lost, end_sync, end_unsent, end_operation, end_each, end_operations, lose_session, lose_over, lose_by, lose, enqueue, take_sync, take_by, take_ask}
 use Rattle.st_rules.specs.ClientPages as pages
 use Rattle.st_rules.specs.ClientState.{ClientSession, Turn, is_at, is_of, is_sent, new_operation, note, only_at, with_operations}
 
@@ -75,13 +75,13 @@ tell_fit : (most : ℕ) (t : Turn) (op ino : ℕ) → Fit most t → Fit most (t
 unfolding tell_lost
 tell_fit most t op ino h = says_fit most t (outputs.Answer op (answers.Lost (pages.told_rows t.here.lost ino))) refl h
 
-pend_fit : (most : ℕ) (t : Turn) (op : ℕ) (ask : Ask) → is_ask ask ≡ true → Fit most t → Fit most (pend t op ask)
-unfolding pend
+pend_fit : (most : ℕ) (t : Turn) (op : ℕ) (ask : Ask) → is_ask ask ≡ true → Fit most t → Fit most (enqueue t op ask)
+unfolding enqueue
 pend_fit most t op ask a h = record { id = h.id; here = h.here; operations = all_last is_sound_operation t.operations (new_operation op ask) h.operations a; out = h.out }
 
 take_fit : (most : ℕ) (t : Turn) (op : ℕ) (ask other : Ask) → is_ask ask ≡ true → Fit most t → Fit most (take_by t op ask other)
 unfolding take_by take_sync
-take_fit most t op ask (asks.Sync f) a h = one_of (Fit most) (pages.has_lost t.here.lost f.ino) (tell_lost t op f.ino) (pend t op ask) (tell_fit most t op f.ino h) (pend_fit most t op ask a h)
+take_fit most t op ask (asks.Sync f) a h = one_of (Fit most) (pages.has_lost t.here.lost f.ino) (tell_lost t op f.ino) (enqueue t op ask) (tell_fit most t op f.ino h) (pend_fit most t op ask a h)
 take_fit most t op ask other a h = pend_fit most t op ask a h
 
 pub asked_fit : (most : ℕ) (s : ServerId) (op : ℕ) (ask : Ask) → is_ask ask ≡ true → (t : Turn) → Fit most t → Fit most (only_at s (take_ask op ask) t)

@@ -65,8 +65,8 @@ installed_sound c ino g mode i e m p h =
       demanded = all_filter is_sound_demand (λ d. not (is_demand_on ino d)) c.demanded h.demanded;
     }
 
-see_sound : (c : LockCache) (ino : ℕ) (g : GrantNo) → AreSoundLocks c → AreSoundLocks (locks.see c ino g)
-unfolding locks.see
+see_sound : (c : LockCache) (ino : ℕ) (g : GrantNo) → AreSoundLocks c → AreSoundLocks (locks.observe c ino g)
+unfolding locks.observe
 see_sound c ino g h = h
 
 grant_new_fit : (most : ℕ) (s : ClientSession) (ino : ℕ) (g : GrantNo) (mode : Mode) → is_ino ino ≡ true → is_grant g ≡ true → is_mode 1 2 mode ≡ true → FitSession most s →
@@ -75,7 +75,7 @@ unfolding grant_new accept_grant decline
 grant_new_fit most s ino g mode i e m h =
     cond_either (FitSession most) (locks.has_place s.locks ino) (accept_grant s ino g mode) (decline s ino g)
     (λ p. cache_fit most s (locks.installed s.locks ino g mode) (installed_sound s.locks ino g mode i e m p h.sound.locks) h)
-    (λ p. release_fit most (with_cache (locks.see s.locks ino g) s) ino g modes.None i e refl (cache_fit most s (locks.see s.locks ino g) (see_sound s.locks ino g h.sound.locks) h))
+    (λ p. release_fit most (with_cache (locks.observe s.locks ino g) s) ino g modes.None i e refl (cache_fit most s (locks.observe s.locks ino g) (see_sound s.locks ino g h.sound.locks) h))
 
 pub grant_fit : (most : ℕ) (s : ClientSession) (ino : ℕ) (g : GrantNo) (mode : Mode) → is_ino ino ≡ true → is_grant g ≡ true → is_mode 1 2 mode ≡ true → FitSession most s →
     FitSession most (grant s ino g mode)
@@ -111,7 +111,7 @@ demand_lock_sound c ino g to l i e m f h =
     }
 
 pub demand_sound : (c : LockCache) (ino : ℕ) (g : GrantNo) (to : Mode) → is_ino ino ≡ true → is_grant g ≡ true → is_mode 0 1 to ≡ true → AreSoundLocks c → AreSoundLocks (locks.demand c ino g to).locks
-unfolding locks.demand locks.demand_at locks.demand_unheld locks.demand_held locks.demand_stale locks.see
+unfolding locks.demand locks.demand_at locks.demand_unheld locks.demand_held locks.demand_stale locks.observe
 demand_sound c ino g to i e m h = by (locks.lock_of c ino) refl
   where
     by : (o : Option HeldLock) → locks.lock_of c ino ≡ o → AreSoundLocks (locks.demand_at c ino g to o).locks

@@ -26,7 +26,7 @@ use Rattle.st_messages.specs.declared.output.Output.TheVariants as outputs
 use Rattle.st_messages.specs.Fits.{has_length, is_ask, is_body, is_file, is_grant, is_ino, is_mode, is_page}
 use Rattle.st_messages.specs.Kinds.{between}
 use Rattle.st_rules.specs.declared.client.KnownExtent.{KnownExtent}
-use Rattle.st_rules.specs.declared.client.Mapping.{Mapping}
+use Rattle.st_rules.specs.declared.client.MappedBlock.{MappedBlock}
 use Rattle.st_rules.specs.declared.client.Operation.{Operation}
 use Rattle.st_rules.specs.declared.client.WriteRefusal.{WriteRefusal}
 use Rattle.st_rules.specs.declared.pages.DirtyPage.{DirtyPage}
@@ -73,7 +73,7 @@ module _ (most : ℕ) where
   write_fit t s o f p bytes k h =
       one_of (Fit most) (passes.may_write t s f p) _ (keep o t) (change_fit t o f p (notes.Accepted f p bytes) (pages.write t.here.store.pages f.ino p bytes) refl h) (keep_fit t o k h)
 
-  fetch_at_fit : (t : Turn) (f : FileId) (p : PageNo) (m : Option Mapping) → Fit most t → Fit most (fetch_at t f p m)
+  fetch_at_fit : (t : Turn) (f : FileId) (p : PageNo) (m : Option MappedBlock) → Fit most t → Fit most (fetch_at t f p m)
   unfolding fetch_at fetch_mapped submit_read submit_command
   fetch_at_fit t f p None h = h
   fetch_at_fit t f p (Some m) h = one_of (Fit most) (pages.is_being_read t.here.store.commands f.ino p) t _ h
@@ -95,7 +95,7 @@ module _ (most : ℕ) where
   patch_fit t s o f p at bytes e k h =
       one_of (Fit most) (passes.may_write t s f p) _ (keep o t) (patch_at_fit t o f p at bytes (pages.cached t.here.store.pages f.ino p) e k h) (keep_fit t o k h)
 
-  read_known_fit : (t : Turn) (o : Operation) (f : FileId) (p : PageNo) (e : KnownExtent) (m : Option Mapping) → is_sound_operation o ≡ true → Fit most t → Fit most (read_known t o f p e m)
+  read_known_fit : (t : Turn) (o : Operation) (f : FileId) (p : PageNo) (e : KnownExtent) (m : Option MappedBlock) → is_sound_operation o ≡ true → Fit most t → Fit most (read_known t o f p e m)
   unfolding read_known
   read_known_fit t o f p e None k h = says_fit most t _ refl h
   read_known_fit t o f p e (Some m) k h = fetch_fit t o f p k h
@@ -181,7 +181,7 @@ module _ (most : ℕ) where
 
   -- Writes.
 
-  out_at_fit : (t : Turn) (d : DirtyPage) (m : Option Mapping) → Fit most t → Fit most (write_out_at t d m)
+  out_at_fit : (t : Turn) (d : DirtyPage) (m : Option MappedBlock) → Fit most t → Fit most (write_out_at t d m)
   unfolding write_out_at submit_write submit_command
   out_at_fit t d None h = h
   out_at_fit t d (Some m) h =

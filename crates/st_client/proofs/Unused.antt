@@ -26,7 +26,7 @@ use Rattle.st_messages.specs.declared.output.Output.TheVariants as outputs
 use Rattle.st_rules.specs.declared.client.ClientInput.{ClientInput}
 use Rattle.st_rules.specs.declared.client.ClientInput.TheVariants.{Tick, App, Control, Done}
 use Rattle.st_rules.specs.declared.client.KnownExtent.{KnownExtent}
-use Rattle.st_rules.specs.declared.client.Mapping.{Mapping}
+use Rattle.st_rules.specs.declared.client.MappedBlock.{MappedBlock}
 use Rattle.st_rules.specs.declared.client.Operation.{Operation}
 use Rattle.st_rules.specs.Client as cl
 use Rattle.st_rules.specs.Client.{client_step}
@@ -196,8 +196,8 @@ module _ (v : ServerId) (known : BlockAt → Bool) (os : List Operation) where
       (λ u c a w. by_stands G G (only_at (server_of ask) (cl.take_ask op ask)) (w_take v known os G (server_of ask) op ask e) u a w) t refl h)
       (at_once (At G) t op answers.NoFile refl h)))
   input_holds t now (Control m) e h =
-      one_of (Holds (At S)) (m.header.to == t.state.id.0) (at_each (cr.hear now m.header m.body) t) t
-      (each_holds t.state.config (At G) (At S) (cr.hear now m.header m.body) (λ u c a w. by_stands G S (cr.hear now m.header m.body) (g_hear v known os now m.header m.body e) u a w) t refl h)
+      one_of (Holds (At S)) (m.header.to == t.state.id.0) (at_each (cr.receive_at now m.header m.body) t) t
+      (each_holds t.state.config (At G) (At S) (cr.receive_at now m.header m.body) (λ u c a w. by_stands G S (cr.receive_at now m.header m.body) (g_hear v known os now m.header m.body e) u a w) t refl h)
       (usable_all t h)
   input_holds t now (Done number result) e h =
       usable_all (cl.done t number result)
@@ -230,7 +230,7 @@ module _ (v : ServerId) (c : ClientState) (input : ClientInput) where
   placed_here : (a : Association) → Has a c.associations → is_at v a ≡ false → list_all (is_placed v Known pending) a.store.extents ≡ true
   placed_here a i q = all_pass (is_placed v Known pending) a.store.extents (λ e j. by e j e.mapping refl)
     where
-      by : (e : KnownExtent) → Has e a.store.extents → (o : Option Mapping) → e.mapping ≡ o → lies v Known pending o ≡ true
+      by : (e : KnownExtent) → Has e a.store.extents → (o : Option MappedBlock) → e.mapping ≡ o → lies v Known pending o ≡ true
       by e j None m = refl
       by e j (Some x) m =
           let there : is_known_at x.at e ≡ true = rw m (block_self x.at) in

@@ -17,7 +17,7 @@ use Rattle.st_messages.specs.declared.output.Output.TheVariants as outputs
 use Rattle.st_rules.specs.declared.client.ClientInput.{ClientInput}
 use Rattle.st_rules.specs.declared.client.ClientInput.TheVariants.{App, Control}
 use Rattle.st_rules.specs.declared.client.KnownExtent.{KnownExtent}
-use Rattle.st_rules.specs.declared.client.Mapping.{Mapping}
+use Rattle.st_rules.specs.declared.client.MappedBlock.{MappedBlock}
 use Rattle.st_rules.specs.declared.client.Operation.{Operation}
 use Rattle.st_rules.specs.Client.{association_with, next_life}
 use Rattle.st_rules.specs.ClientLease.{must_discard, standing_of}
@@ -54,7 +54,7 @@ IsEmptiedIn a (Some b) = IsEmptied a b
 -- Which block is of another server: one of its associations knew it before the step, or the message that came from it tells it.
 
 -- a mapping at this block
-abbrev pub is_mapping_at : BlockAt → Option Mapping → Bool
+abbrev pub is_mapping_at : BlockAt → Option MappedBlock → Bool
 is_mapping_at at None = false
 is_mapping_at at (Some m) = same_block m.at at
 

@@ -1,6 +1,6 @@
 -- A rule that does nothing at an association.
 use Rattle.std.specs.Prelude.{◌≡◌, List}
-use Rattle.st_association.specs.Associations.{ClientAssociation}
+use Rattle.st_client_association.specs.Associations.{ClientAssociation}
 use Rattle.st_rules.specs.declared.client.Operation.{Operation}
 use Rattle.st_rules.specs.ClientState.{Turn}
 

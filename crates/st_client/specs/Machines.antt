@@ -1,12 +1,12 @@
 -- A client's machine: what it has of each server, and what always stands of it.
 use Rattle.std.specs.Prelude.{◌≡◌, ℕ, ◌<◌, Bool, true, List, [], ◌∷◌, map, ⊤}
-use Rattle.st_association.specs.Associations.{ClientAssociation, Grows, IsCounted}
-use Rattle.st_association.specs.Turns.{most_of}
+use Rattle.st_client_association.specs.Associations.{ClientAssociation, Grows, IsCounted}
+use Rattle.st_client_association.specs.Turns.{most_of}
 use Rattle.st_base.specs.declared.config.Config.{Config}
 use Rattle.st_base.specs.declared.ids.ClientId.{ClientId}
 use Rattle.st_messages.specs.declared.output.Output.{Output}
 use Rattle.st_rules.specs.ClientState.{Association, ClientState, ClientTurn, Turn, client_turn, enter, leave, with_associations}
-use Rattle.st_client.specs.declared.parts.Parts.{Parts}
+use Rattle.st_client.specs.declared.parts.ClientParts.{ClientParts}
 
 -- the definitions' association
 abbrev pub here_of : ClientAssociation → Association
@@ -29,15 +29,15 @@ pub record IsMachine (id : ClientId) (config : Config) (next : ℕ) (out : List 
   pub each : AreIn id config next out associations
 
 -- so is a machine of these parts
-abbrev pub IsMachineOf : Parts → Type 0
+abbrev pub IsMachineOf : ClientParts → Type 0
 IsMachineOf p = IsMachine p.id p.config p.next_command p.out.items p.associations.items
 
 -- the client of these parts
-abbrev pub client_of : Parts → ClientState
+abbrev pub client_of : ClientParts → ClientState
 client_of p = record { id = p.id; config = p.config; associations = map here_of p.associations.items; operations = p.operations; next_command = p.next_command }
 
 -- and its turn
-abbrev pub turn_of : Parts → ClientTurn
+abbrev pub turn_of : ClientParts → ClientTurn
 turn_of p = client_turn (client_of p) p.out.items
 
 -- the rule at the first of these associations, which goes last

@@ -1,7 +1,7 @@
 -- A node between steps: what always stands of it, and what a crash leaves.
 use Rattle.std.specs.Prelude.{◌≡◌, ℕ, ◌≤◌, Bool, true, false, if◌then◌else◌, nat_lt, ◌^◌, List, [], ◌∷◌, ◌++◌, length, map, Option, Some, None, is_some, Ok, ⊤}
 use Rattle.std.specs.List.{list_all}
-use Rattle.st_association.specs.Associations.{ClientAssociation}
+use Rattle.st_client_association.specs.Associations.{ClientAssociation}
 use Rattle.st_base.specs.Config.{check}
 use Rattle.st_base.specs.declared.config.Config.{Config}
 use Rattle.st_base.specs.declared.ids.ClientId.{ClientId}
@@ -13,7 +13,7 @@ use Rattle.st_rules.specs.Client.{ClientNode, association_of, life_of_associatio
 use Rattle.st_rules.specs.ClientInvariants.{is_below}
 use Rattle.st_rules.specs.ClientState.{Association, ClientState}
 use Rattle.st_rules.specs.Keys.{same_server}
-use Rattle.st_client.specs.declared.parts.Parts.{Parts}
+use Rattle.st_client.specs.declared.parts.ClientParts.{ClientParts}
 use Rattle.st_client.specs.Sound.{IsSound}
 
 -- An association of this client, with these settings: the numbers of its commands were given.
@@ -28,7 +28,7 @@ AreGiven id config next [] = ⊤
 AreGiven id config next (a ∷ more) = IsGiven id config next a × AreGiven id config next more
 
 -- What always stands of a client between its steps: it has no output.
-pub record IsResting (p : Parts) : Type 0 where
+pub record IsResting (p : ClientParts) : Type 0 where
   pub given : AreGiven p.id p.config p.next_command p.associations.items
   pub empty : p.out.items ≡ []
 

@@ -1,7 +1,7 @@
 -- The counters that a step of a client may raise.
 use Rattle.std.specs.Prelude.{◌≡◌, ◌<◌, ◌^◌, Bool, true, ◌&&◌, nat_lt}
 use Rattle.std.specs.List.{list_all}
-use Rattle.st_association.specs.Associations.{has_room_at}
+use Rattle.st_client_association.specs.Associations.{has_room_at}
 use Rattle.st_rules.specs.ClientState.{ClientState}
 
 -- A step may be taken: the number of the next command is below 2^62, and so are, at each server, the next version of a page,

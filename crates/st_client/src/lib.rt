@@ -14,6 +14,6 @@ mod state;
 mod step;
 
 pub use ends::LeaseEnds;
-pub use machine::Machine;
+pub use machine::ClientMachine;
 pub use node::ClientNode;
 pub use st_rules::{ClientInput, Phase};

@@ -4,20 +4,20 @@ ghost use Rattle.st_client.specs.Idle.{IsIdle};
 ghost use Rattle.st_client.specs.Machines.{IsIn, at_first, is_first};
 ghost use Rattle.st_rules.specs.ClientState as client;
 
-use crate::parts::Parts;
+use crate::parts::ClientParts;
 use crate::rule::Rule;
-use st_association::Association;
+use st_client_association::Association;
 use std::alloc::AllocError;
 use std::marker::Model;
 use std::mem;
 
 /// A client, with the outputs of the step so far. Contracts see it as a turn.
 #[derive(Drop)]
-pub struct Machine {
-    pub(crate) parts: Box<Parts>,
+pub struct ClientMachine {
+    pub(crate) parts: Box<ClientParts>,
 }
 
-impl Model for Machine {
+impl Model for ClientMachine {
     ghost use Rattle.st_client.specs.Machines.{IsMachineOf, turn_of};
     ghost use Rattle.st_rules.specs.ClientState as shared;
 
@@ -28,15 +28,15 @@ impl Model for Machine {
     ghost invariant = { λ m. IsMachineOf m.parts.value };
 }
 
-impl Machine {
+impl ClientMachine {
     /// A rule at one association, which goes last then.
-    fn at_one<R: Rule>(self, rule: &R, a: Association) -> Result<Machine, AllocError>
+    fn at_one<R: Rule>(self, rule: &R, a: Association) -> Result<ClientMachine, AllocError>
         requires one { IsIn self.state.id self.state.config self.state.next_command self.out a }
         requires ready { R.is_ready rule.now self.state.config a.here ≡ true }
         ensures { IfOk result (λ m. m ≡ client.leave self (R.run rule.now (client.enter self a.here))) }
     {
-        let Machine { mut parts } = self;
-        let here: &mut Parts = &mut parts;
+        let ClientMachine { mut parts } = self;
+        let here: &mut ClientParts = &mut parts;
         let operations = here.operations.take_all();
         let out = mem::replace(&mut here.out, Vec::new(here.alloc));
         let mut turn = a.enter(here.alloc, operations, here.next_command, out);
@@ -46,17 +46,17 @@ impl Machine {
         here.next_command = next_command;
         here.out = out;
         here.associations.push_back(a)?;
-        Ok(Machine { parts })
+        Ok(ClientMachine { parts })
     }
 
     /// An association where nothing is done goes last.
-    fn passed_by(self, a: Association) -> Result<Machine, AllocError>
+    fn passed_by(self, a: Association) -> Result<ClientMachine, AllocError>
         requires one { IsIn self.state.id self.state.config self.state.next_command self.out a }
         ensures { IfOk result (λ m. m ≡ client.leave self (client.enter self a.here)) }
     {
-        let Machine { mut parts } = self;
+        let ClientMachine { mut parts } = self;
         parts.associations.push_back(a)?;
-        Ok(Machine { parts })
+        Ok(ClientMachine { parts })
     }
 
     /// Whether a rule may do anything at an association.
@@ -67,7 +67,7 @@ impl Machine {
     }
 
     /// A rule at one association, where it may do anything there; the association goes last.
-    fn at_next<R: Rule>(self, rule: &R, a: Association) -> Result<Machine, AllocError>
+    fn at_next<R: Rule>(self, rule: &R, a: Association) -> Result<ClientMachine, AllocError>
         requires one { IsIn self.state.id self.state.config self.state.next_command self.out a }
         requires ready { R.is_ready rule.now self.state.config a.here ≡ true }
         ensures { IfOk result (λ m. m ≡ client.leave self (R.run rule.now (client.enter self a.here))) }
@@ -80,13 +80,13 @@ impl Machine {
     }
 
     /// A rule at the first association, which goes last.
-    fn at_first<R: Rule>(self, rule: &R) -> Result<Machine, AllocError>
+    fn at_first<R: Rule>(self, rule: &R) -> Result<ClientMachine, AllocError>
         requires { is_first (R.is_ready rule.now self.state.config) self.state.associations ≡ true }
         ensures { IfOk result (λ m. m ≡ at_first (R.run rule.now) self) }
     {
-        let Machine { mut parts } = self;
+        let ClientMachine { mut parts } = self;
         let first = parts.associations.pop_front();
-        let machine = Machine { parts };
+        let machine = ClientMachine { parts };
         match first {
             Some(a) => machine.at_next(rule, a),
             None => Ok(machine),
@@ -101,7 +101,7 @@ impl Machine {
     }
 
     /// A rule at each association, in order.
-    pub(crate) fn at_each<R: Rule>(self, rule: &R) -> Result<Machine, AllocError>
+    pub(crate) fn at_each<R: Rule>(self, rule: &R) -> Result<ClientMachine, AllocError>
         requires { list_all (R.is_ready rule.now self.state.config) self.state.associations ≡ true }
         ensures { IfOk result (λ m. m ≡ client.at_each (R.run rule.now) self) }
     {
@@ -126,7 +126,7 @@ impl Machine {
     }
 
     /// A rule at each association, in order. Where it does nothing anywhere, they stay as they are.
-    pub(crate) fn at_any<R: Rule>(self, rule: &R) -> Result<Machine, AllocError>
+    pub(crate) fn at_any<R: Rule>(self, rule: &R) -> Result<ClientMachine, AllocError>
         requires { list_all (R.is_ready rule.now self.state.config) self.state.associations ≡ true }
         ensures { IfOk result (λ m. m ≡ client.at_each (R.run rule.now) self) }
     {

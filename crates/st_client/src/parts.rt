@@ -1,6 +1,6 @@
 // The parts of a client.
-use st_association::Association;
 use st_base::{ClientId, Config};
+use st_client_association::Association;
 use st_messages::Output;
 use st_operations::Operations;
 use std::alloc::Global;
@@ -8,7 +8,7 @@ use std::collections::VecDeque;
 
 /// The parts of a client. They stay where they are as it goes from hand to hand.
 #[derive(Drop)]
-pub struct Parts {
+pub struct ClientParts {
     pub(crate) alloc: Global,
     pub(crate) id: ClientId,
     pub(crate) config: Config,

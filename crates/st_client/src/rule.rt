@@ -3,7 +3,7 @@ ghost use Rattle.std.specs.Prelude.{◌≡◌, true, false, OnOk};
 ghost use Rattle.st_client.specs.Idle.{IsIdle};
 ghost use Rattle.st_client.specs.Machines.{Advances};
 
-use st_association::{Association, Turn};
+use st_client_association::{Association, Turn};
 use st_operations::Operations;
 use std::alloc::AllocError;
 

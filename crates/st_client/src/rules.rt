@@ -3,11 +3,10 @@ ghost use Rattle.std.specs.Prelude.{◌≡◌, ◌==◌, true};
 ghost use Rattle.st_rules.specs.Keys.{same_server, server_node};
 
 use crate::rule::Rule;
-use st_association::{Association, Turn};
 use st_base::{PageBytes, ServerId, Stamp, Tag};
-use st_client_inputs::{finish, lose, take_ask};
+use st_client_association::{Association, Turn};
 use st_client_passes::passes;
-use st_client_replies::hear;
+use st_client_rules::{finish, lose, receive_at, take_ask};
 use st_messages::{Ask, Header, Message};
 use st_operations::{Operations, server_of};
 use std::alloc::AllocError;
@@ -85,7 +84,7 @@ impl<'a> Rule for Hear<'a> {
     ghost use Rattle.st_rules.specs.ClientInvariants.{lasts_here};
     ghost use Rattle.st_rules.specs.ClientReplies as replies;
 
-    ghost run = { λ r t. replies.hear r.now r.message.now.header r.message.now.body t };
+    ghost run = { λ r t. replies.receive_at r.now r.message.now.header r.message.now.body t };
 
     ghost is_ready = { λ r k a. nat_le r.now.0 (2 ^ 62) && lasts_here k r.now a };
 
@@ -94,7 +93,7 @@ impl<'a> Rule for Hear<'a> {
     }
 
     fn apply(&self, turn: &mut Turn) -> Result<(), AllocError> {
-        hear(turn, self.now, self.message.header, &self.message.body)
+        receive_at(turn, self.now, self.message.header, &self.message.body)
     }
 }
 

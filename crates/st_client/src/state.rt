@@ -13,10 +13,10 @@ ghost use Rattle.st_rules.specs.ClientState.{client_turn};
 ghost use Rattle.st_rules.specs.World as world;
 
 use crate::ends::LeaseEnds;
-use crate::machine::Machine;
-use crate::parts::Parts;
-use st_association::Association;
+use crate::machine::ClientMachine;
+use crate::parts::ClientParts;
 use st_base::{ClientId, Config, Life, ServerId, Stamp};
+use st_client_association::Association;
 use st_messages::Outputs;
 use st_operations::Operations;
 use st_rules::{ClientInput, LeaseLife, Phase};
@@ -28,7 +28,7 @@ use std::mem;
 /// A client that runs, between its steps. Contracts see the definitions' client.
 #[derive(Drop)]
 pub struct State {
-    pub(crate) parts: Box<Parts>,
+    pub(crate) parts: Box<ClientParts>,
 }
 
 impl Model for State {
@@ -45,12 +45,12 @@ impl Model for State {
 
 impl State {
     /// A step begins.
-    fn begin(self) -> Machine
+    fn begin(self) -> ClientMachine
         requires { HasRoom self }
         ensures { result ≡ client_turn self [] }
     {
         let State { parts } = self;
-        Machine { parts }
+        ClientMachine { parts }
     }
 
     /// A step: what it leaves, and its outputs.
@@ -196,7 +196,7 @@ impl State {
     pub(crate) fn new(alloc: Global, id: ClientId, config: &Config) -> Result<State, AllocError>
         ensures { IfOk result (λ s. s ≡ record { id = id; config = config.now; associations = []; operations = []; next_command = 1 }) }
     {
-        let parts = Parts {
+        let parts = ClientParts {
             alloc,
             id,
             config: *config,
@@ -217,20 +217,20 @@ impl State {
         ensures { IfOk result (λ s. s ≡ with_more (client.association_of life server ∷ []) self) }
     {
         let State { mut parts } = self;
-        let here: &mut Parts = &mut parts;
+        let here: &mut ClientParts = &mut parts;
         let a = Association::new(here.alloc, here.id, &here.config, server, life)?;
         here.associations.push_back(a)?;
         Ok(State { parts })
     }
 }
 
-impl Machine {
+impl ClientMachine {
     /// A step ends: what the machine rests in, and its outputs.
     pub(crate) fn rest(self) -> (State, Outputs)
         ensures { client_turn result.0 result.1 ≡ self }
     {
-        let Machine { mut parts } = self;
-        let here: &mut Parts = &mut parts;
+        let ClientMachine { mut parts } = self;
+        let here: &mut ClientParts = &mut parts;
         let out = mem::replace(&mut here.out, Vec::new(here.alloc));
         let state = State { parts };
         (state, Outputs::from_vec(out))

@@ -8,7 +8,7 @@ ghost use Rattle.st_rules.specs.ClientPasses as passes;
 ghost use Rattle.st_rules.specs.ClientReplies as replies;
 ghost use Rattle.st_rules.specs.ClientState as each;
 
-use crate::machine::Machine;
+use crate::machine::ClientMachine;
 use crate::rules::{Finish, Hear, Lose, Passes, TakeAsk};
 use st_base::{PageBytes, ServerId, Stamp, Tag};
 use st_messages::{AppAnswer, Ask, Header, Message, Output};
@@ -16,10 +16,10 @@ use st_operations::server_of;
 use st_rules::ClientInput;
 use std::alloc::AllocError;
 
-impl Machine {
+impl ClientMachine {
     /// The losses.
     #[tactic(auto, unfolding(st_rules::specs::Client::losses), using(crate::proofs::AllLast::losses_last, crate::proofs::AllLast::all_same))]
-    pub(crate) fn losses(self, now: Stamp) -> Result<Machine, AllocError>
+    pub(crate) fn losses(self, now: Stamp) -> Result<ClientMachine, AllocError>
         ensures rule { IfOk result (λ m. m ≡ client.losses self now) }
         ensures last { IfOk result (λ m. all_last m.state now ≡ true) }
     {
@@ -28,7 +28,7 @@ impl Machine {
 
     /// A message, at each server.
     #[tactic(auto, unfolding(st_rules::specs::ClientReplies::receive_here))]
-    fn hear_here(self, now: Stamp, message: &Message) -> Result<Machine, AllocError>
+    fn hear_here(self, now: Stamp, message: &Message) -> Result<ClientMachine, AllocError>
         requires last { all_last self.state now ≡ true }
         requires time { now.0 ≤ 2 ^ 62 }
         ensures rule { IfOk result (λ t. t ≡ replies.receive_here self now message.now.header message.now.body) }
@@ -46,7 +46,7 @@ impl Machine {
 
     /// A message, where it is to this client.
     #[tactic(auto, unfolding(st_rules::specs::ClientReplies::receive))]
-    pub(crate) fn receive(self, now: Stamp, message: &Message) -> Result<Machine, AllocError>
+    pub(crate) fn receive(self, now: Stamp, message: &Message) -> Result<ClientMachine, AllocError>
         requires last { all_last self.state now ≡ true }
         requires time { now.0 ≤ 2 ^ 62 }
         ensures rule { IfOk result (λ t. t ≡ replies.receive self now message.now.header message.now.body) }
@@ -66,7 +66,7 @@ impl Machine {
         now: Stamp,
         number: u64,
         ended: &Option<Option<(Tag, PageBytes)>>,
-    ) -> Result<Machine, AllocError>
+    ) -> Result<ClientMachine, AllocError>
         requires last { all_last self.state now ≡ true }
         ensures rule { IfOk result (λ t. t ≡ client.done self number ended.now) }
         ensures last { IfOk result (λ t. all_last t.state now ≡ true) }
@@ -83,18 +83,23 @@ impl Machine {
         now: Stamp,
         op: u32,
         answer: AppAnswer,
-    ) -> Result<Machine, AllocError>
+    ) -> Result<ClientMachine, AllocError>
         requires last { all_last self.state now ≡ true }
         ensures rule { IfOk result (λ t. t ≡ client.answered_at_once self op answer) }
         ensures last { IfOk result (λ t. all_last t.state now ≡ true) }
     {
-        let Machine { mut parts } = self;
+        let ClientMachine { mut parts } = self;
         parts.out.push(Output::Answer { op, answer })?;
-        Ok(Machine { parts })
+        Ok(ClientMachine { parts })
     }
 
     /// An ask, at its server.
-    pub(crate) fn ask_each(self, now: Stamp, op: u32, ask: &Ask) -> Result<Machine, AllocError>
+    pub(crate) fn ask_each(
+        self,
+        now: Stamp,
+        op: u32,
+        ask: &Ask,
+    ) -> Result<ClientMachine, AllocError>
         requires last { all_last self.state now ≡ true }
         requires fits { is_ask ask.now ≡ true }
         ensures rule { IfOk result (λ t. t ≡ each.at_each (each.only_at (each.server_of ask.now) (client.take_ask op ask.now)) self) }
@@ -123,7 +128,7 @@ impl Machine {
 
     /// An ask for which there is a place.
     #[tactic(auto, unfolding(st_rules::specs::Client::app_known))]
-    fn app_known(self, now: Stamp, op: u32, ask: &Ask) -> Result<Machine, AllocError>
+    fn app_known(self, now: Stamp, op: u32, ask: &Ask) -> Result<ClientMachine, AllocError>
         requires last { all_last self.state now ≡ true }
         requires fits { is_ask ask.now ≡ true }
         ensures rule { IfOk result (λ t. t ≡ client.app_known self op ask.now) }
@@ -138,7 +143,7 @@ impl Machine {
 
     /// An ask.
     #[tactic(auto, unfolding(st_rules::specs::Client::app))]
-    fn app(self, now: Stamp, op: u32, ask: &Ask) -> Result<Machine, AllocError>
+    fn app(self, now: Stamp, op: u32, ask: &Ask) -> Result<ClientMachine, AllocError>
         requires last { all_last self.state now ≡ true }
         requires fits { is_ask ask.now ≡ true }
         ensures rule { IfOk result (λ t. t ≡ client.app self op ask.now) }
@@ -153,7 +158,7 @@ impl Machine {
 
     /// The rule for the input.
     #[tactic(auto, unfolding(st_rules::specs::Client::take_input))]
-    fn take_input(self, now: Stamp, input: &ClientInput) -> Result<Machine, AllocError>
+    fn take_input(self, now: Stamp, input: &ClientInput) -> Result<ClientMachine, AllocError>
         requires last { all_last self.state now ≡ true }
         requires time { now.0 ≤ 2 ^ 62 }
         requires fits { comes_fit input.now ≡ true }
@@ -170,7 +175,7 @@ impl Machine {
 
     /// The passes at each server.
     #[tactic(auto, unfolding(st_rules::specs::Client::work))]
-    pub(crate) fn work(self, now: Stamp, tick: bool) -> Result<Machine, AllocError>
+    pub(crate) fn work(self, now: Stamp, tick: bool) -> Result<ClientMachine, AllocError>
         requires last { all_last self.state now ≡ true }
         ensures rule { IfOk result (λ t. t ≡ each.at_each (passes.passes now tick) self) }
     {
@@ -179,7 +184,7 @@ impl Machine {
 
     /// The losses, the rule for the input, and then the passes at each server in turn.
     #[tactic(auto, unfolding(st_rules::specs::Client::client_step, st_rules::specs::Client::work))]
-    pub(crate) fn step(self, now: Stamp, input: &ClientInput) -> Result<Machine, AllocError>
+    pub(crate) fn step(self, now: Stamp, input: &ClientInput) -> Result<ClientMachine, AllocError>
         requires time { now.0 ≤ 2 ^ 62 }
         requires fits { comes_fit input.now ≡ true }
         requires empty { self.out ≡ [] }

@@ -10,7 +10,7 @@ use Rattle.st_messages.specs.declared.ask.Ask.TheVariants as asks
 use Rattle.st_messages.specs.declared.output.Note.{Note}
 use Rattle.st_messages.specs.declared.output.Note.TheVariants as notes
 use Rattle.st_rules.specs.declared.client.KnownExtent.{KnownExtent}
-use Rattle.st_rules.specs.declared.client.Mapping.{Mapping}
+use Rattle.st_rules.specs.declared.client.MappedBlock.{MappedBlock}
 use Rattle.st_rules.specs.declared.client.Operation.{Operation}
 use Rattle.st_rules.specs.declared.client.WriteRefusal.{WriteRefusal}
 use Rattle.st_rules.specs.FlatLog.{overlay}
@@ -25,7 +25,7 @@ abbrev pub behind : List Operation → Turn → Turn
 behind ks t = with_operations (ks ++ t.operations) t
 
 -- a fetch leaves the pending operations
-pub fetch_leaves : (t : Turn) (f : FileId) (p : PageNo) (m : Option Mapping) → (fetch_at t f p m).operations ≡ t.operations
+pub fetch_leaves : (t : Turn) (f : FileId) (p : PageNo) (m : Option MappedBlock) → (fetch_at t f p m).operations ≡ t.operations
 unfolding fetch_at fetch_mapped submit_read submit_command
 fetch_leaves t f p None = refl
 fetch_leaves t f p (Some m) = by (pages.is_being_read t.here.store.commands f.ino p)
@@ -61,7 +61,7 @@ module _ (ks : List Operation) where
   behind_write t s o f p bytes =
       behind_either (passes.may_write t s f p) _ _ _ _ (behind_change t o f p (notes.Accepted f p bytes) (pages.write t.here.store.pages f.ino p bytes)) (behind_keep o t)
 
-  behind_fetch_at : (t : Turn) (f : FileId) (p : PageNo) (m : Option Mapping) → fetch_at (behind ks t) f p m ≡ behind ks (fetch_at t f p m)
+  behind_fetch_at : (t : Turn) (f : FileId) (p : PageNo) (m : Option MappedBlock) → fetch_at (behind ks t) f p m ≡ behind ks (fetch_at t f p m)
   unfolding fetch_at fetch_mapped submit_read submit_command
   behind_fetch_at t f p None = refl
   behind_fetch_at t f p (Some m) = behind_either (pages.is_being_read t.here.store.commands f.ino p) _ _ _ _ refl refl
@@ -83,7 +83,7 @@ module _ (ks : List Operation) where
   behind_patch t s o f p at bytes =
       behind_either (passes.may_write t s f p) _ _ _ _ (behind_patch_at t o f p at bytes (pages.cached t.here.store.pages f.ino p)) (behind_keep o t)
 
-  behind_known : (t : Turn) (o : Operation) (f : FileId) (p : PageNo) (e : KnownExtent) (m : Option Mapping) → read_known (behind ks t) o f p e m ≡ behind ks (read_known t o f p e m)
+  behind_known : (t : Turn) (o : Operation) (f : FileId) (p : PageNo) (e : KnownExtent) (m : Option MappedBlock) → read_known (behind ks t) o f p e m ≡ behind ks (read_known t o f p e m)
   unfolding read_known
   behind_known t o f p e None = refl
   behind_known t o f p e (Some m) = behind_fetch t o f p

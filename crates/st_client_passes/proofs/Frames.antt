@@ -13,7 +13,7 @@ use Rattle.st_messages.specs.declared.ask.Ask.TheVariants as asks
 use Rattle.st_messages.specs.declared.output.Note.{Note}
 use Rattle.st_messages.specs.declared.output.Note.TheVariants as notes
 use Rattle.st_rules.specs.declared.client.KnownExtent.{KnownExtent}
-use Rattle.st_rules.specs.declared.client.Mapping.{Mapping}
+use Rattle.st_rules.specs.declared.client.MappedBlock.{MappedBlock}
 use Rattle.st_rules.specs.declared.client.Operation.{Operation}
 use Rattle.st_rules.specs.declared.client.WriteRefusal.{WriteRefusal}
 use Rattle.st_rules.specs.FlatLog.{overlay}
@@ -52,7 +52,7 @@ same_write : (t : Turn) (s : ClientSession) (o : Operation) (f : FileId) (p : Pa
 unfolding write change_page
 same_write t s o f p bytes = either (passes.may_write t s f p) _ _ t (same_change t o f p (notes.Accepted f p bytes) (pages.write t.here.store.pages f.ino p bytes)) refl
 
-same_fetch_at : (t : Turn) (f : FileId) (p : PageNo) (m : Option Mapping) → lease_frame (fetch_at t f p m) ≡ lease_frame t
+same_fetch_at : (t : Turn) (f : FileId) (p : PageNo) (m : Option MappedBlock) → lease_frame (fetch_at t f p m) ≡ lease_frame t
 unfolding fetch_at fetch_mapped submit_read submit_command
 same_fetch_at t f p None = refl
 same_fetch_at t f p (Some m) = either (pages.is_being_read t.here.store.commands f.ino p) _ _ t refl refl
@@ -70,7 +70,7 @@ same_patch : (t : Turn) (s : ClientSession) (o : Operation) (f : FileId) (p : Pa
 unfolding patch
 same_patch t s o f p at bytes = either (passes.may_write t s f p) _ _ t (same_patch_at t o f p at bytes (pages.cached t.here.store.pages f.ino p)) refl
 
-same_read_known : (t : Turn) (o : Operation) (f : FileId) (p : PageNo) (e : KnownExtent) (m : Option Mapping) → lease_frame (read_known t o f p e m) ≡ lease_frame t
+same_read_known : (t : Turn) (o : Operation) (f : FileId) (p : PageNo) (e : KnownExtent) (m : Option MappedBlock) → lease_frame (read_known t o f p e m) ≡ lease_frame t
 unfolding read_known
 same_read_known t o f p e None = refl
 same_read_known t o f p e (Some m) = same_fetch t o f p

@@ -20,7 +20,7 @@ use Rattle.st_rules.specs.ClientPasses as passes
 use Rattle.st_rules.specs.ClientPasses.{operate, operate_each, operate_on, operations, is_due, write_due, write_page, write_each, writes_by, writes, is_wanted, is_sync_on, is_cut_on}
 use Rattle.st_rules.specs.ClientState.{ClientSession, Turn, is_of, is_on, is_sync, is_cut_or_name, is_sent, is_file, file_of, keep, with_operations}
 use Rattle.st_rules.specs.Keys.{past, placed, rising, with_key}
-use Rattle.st_association.specs.Turns.{has_session}
+use Rattle.st_client_association.specs.Turns.{has_session}
 use Rattle.st_client_passes.specs.Passing.{wants_writes}
 use Rattle.st_client_passes.proofs.Sessions.{operate_without}
 

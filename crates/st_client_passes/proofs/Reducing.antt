@@ -8,7 +8,7 @@ use Rattle.st_rules.specs.ClientLocks as locks
 use Rattle.st_rules.specs.ClientLocks.{LockCache, reduce_at, reduce_lock}
 use Rattle.st_rules.specs.ClientPasses.{reduce_by, reduce_given, reduce_to}
 use Rattle.st_rules.specs.ClientState.{Turn, with_cache, with_session}
-use Rattle.st_association.specs.Turns.{has_session, session_of}
+use Rattle.st_client_association.specs.Turns.{has_session, session_of}
 use Rattle.st_client_passes.proofs.Sessions.{session_is}
 
 -- where nothing is given up the locks stay

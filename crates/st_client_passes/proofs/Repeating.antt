@@ -7,7 +7,7 @@ use Rattle.st_rules.specs.declared.client.Request.{Request}
 use Rattle.st_rules.specs.declared.client.Release.{Release}
 use Rattle.st_rules.specs.ClientPasses.{repeat, requests_at, ask_by, ask_release, ask, ask_new, ask_next}
 use Rattle.st_rules.specs.ClientState.{ClientSession, Turn, with_session}
-use Rattle.st_association.specs.Turns.{again_if_due, session_of}
+use Rattle.st_client_association.specs.Turns.{again_if_due, session_of}
 
 module _ (t : Turn) (s : ClientSession) (now : Stamp) where
   pub on_tick : (tick : Bool) (q : Option Request) → tick ≡ true → not (is_some q) ≡ false → again_if_due t s now q ≡ requests_at t s now tick q

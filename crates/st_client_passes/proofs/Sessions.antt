@@ -12,7 +12,7 @@ use Rattle.st_rules.specs.ClientLocks.{LockCache}
 use Rattle.st_rules.specs.ClientPages as pages
 use Rattle.st_rules.specs.ClientPasses.{operate_by, operate_under, reduce, reduce_idle, reductions, reduce_each, files_demanded, writes, writes_by, write_each, greeting, greeting_by, greet, requests, requests_by, requests_under}
 use Rattle.st_rules.specs.ClientState.{ClientSession, Turn, keep, is_serving}
-use Rattle.st_association.specs.Turns.{has_session, session_of}
+use Rattle.st_client_association.specs.Turns.{has_session, session_of}
 
 -- with this session, or none
 abbrev with_it : Option ClientSession → Turn → Turn

@@ -6,7 +6,7 @@ use Rattle.std.proofs.lemmas.Bool.{and_parts, eqb-true, not-true}
 use Rattle.st_base.specs.declared.ids.PageNo.{PageNo}
 use Rattle.st_base.specs.declared.ids.Stamp.{Stamp}
 use Rattle.st_rules.specs.Keys.{same_page}
-use Rattle.st_rules.specs.declared.client.Mapping.{Mapping}
+use Rattle.st_rules.specs.declared.client.MappedBlock.{MappedBlock}
 use Rattle.st_rules.specs.declared.pages.DirtyPage.{DirtyPage}
 use Rattle.st_rules.specs.ClientInvariants.{lasts_here, lasts_in}
 use Rattle.st_rules.specs.ClientPages as pages
@@ -14,7 +14,7 @@ use Rattle.st_rules.specs.ClientPages.{is_dirty_of}
 use Rattle.st_rules.specs.ClientPasses as passes
 use Rattle.st_rules.specs.ClientPasses.{is_writable, submit_command, submit_write, write_out, write_out_at, write_due, write_each, write_page}
 use Rattle.st_rules.specs.ClientState.{ClientSession, Turn}
-use Rattle.st_association.specs.Turns.{has_session, session_of}
+use Rattle.st_client_association.specs.Turns.{has_session, session_of}
 use Rattle.st_client_passes.specs.Passing.{SameSession}
 
 -- what is found at a place is of that place
@@ -41,7 +41,7 @@ pub out_none : (t : Turn) (ino : ℕ) (p : PageNo) (d : DirtyPage) → pages.dir
 unfolding write_out_at
 out_none t ino p d e m = ap (write_out_at t d) m ∙ sym (out_at t ino p d e)
 
-pub out_some : (t : Turn) (ino : ℕ) (p : PageNo) (d : DirtyPage) (n : Mapping) → pages.dirty_of t.here.store.pages ino p ≡ Some d → Some n ≡ pages.mapping_of t.here.store.extents ino p → submit_write t d n ≡ write_out t d
+pub out_some : (t : Turn) (ino : ℕ) (p : PageNo) (d : DirtyPage) (n : MappedBlock) → pages.dirty_of t.here.store.pages ino p ≡ Some d → Some n ≡ pages.mapping_of t.here.store.extents ino p → submit_write t d n ≡ write_out t d
 unfolding write_out_at
 out_some t ino p d n e m = ap (write_out_at t d) m ∙ sym (out_at t ino p d e)
 
@@ -68,7 +68,7 @@ module _ (t : Turn) (s : ClientSession) (now : Stamp) (tick : Bool) where
   not_due (Some d) h = sym (ap (λ (b : Bool). if b then write_out t d else t) h)
 
   -- a write leaves the settings and the session
-  out_keeps : (d : DirtyPage) (m : Option Mapping) → SameSession t (write_out_at t d m)
+  out_keeps : (d : DirtyPage) (m : Option MappedBlock) → SameSession t (write_out_at t d m)
   unfolding write_out_at submit_write submit_command
   out_keeps d None = record { config = refl; session = refl }
   out_keeps d (Some m) = record { config = refl; session = refl }

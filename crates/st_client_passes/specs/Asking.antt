@@ -4,7 +4,7 @@ use Rattle.st_base.specs.declared.ids.Stamp.{Stamp}
 use Rattle.st_rules.specs.declared.client.Operation.{Operation}
 use Rattle.st_rules.specs.ClientPasses.{Asking, Wanted, asked_by, behind}
 use Rattle.st_rules.specs.ClientState.{Turn}
-use Rattle.st_association.specs.Turns.{session_of}
+use Rattle.st_client_association.specs.Turns.{session_of}
 use Rattle.st_operations.specs.Pending.{marked}
 
 -- no request is outstanding

@@ -9,7 +9,7 @@ use Rattle.st_rules.specs.Client.{lease_of_session}
 use Rattle.st_rules.specs.ClientLease.{ClientLease, may_drain, standing_of}
 use Rattle.st_rules.specs.ClientLocks.{demanded_files}
 use Rattle.st_rules.specs.ClientState.{Turn, is_cut_or_name, is_of, is_sent, is_serving, is_sync, keep}
-use Rattle.st_association.specs.Turns.{session_of}
+use Rattle.st_client_association.specs.Turns.{session_of}
 
 -- the operation stays pending, or it was answered
 abbrev pub put_back : Operation → Bool → Turn → Turn

@@ -2,15 +2,15 @@
 //! `docs/PROTOCOL.md`, "The client", has the rules.
 #![tactic(auto)]
 
-mod asking;
-mod changing;
-mod greeting;
+mod greetings;
+mod next_request;
 mod operations;
-mod passing;
-mod reading;
+mod page_changes;
+mod page_reads;
 mod reductions;
 mod requests;
-mod wanted;
+mod step_end;
+mod wants;
 mod writes;
 
-pub use passing::passes;
+pub use step_end::passes;

@@ -1,15 +1,15 @@
 // The pass over the pending operations: each is answered, or stays pending.
 ghost use Rattle.std.specs.Prelude.{◌≡◌, ◌+◌, ◌<◌, ◌^◌, [], true, if◌then◌else◌, length, remove, slice_get, IfOk, IfSome, OnOk};
-ghost use Rattle.st_association.specs.Turns.{has_session, session_of};
+ghost use Rattle.st_client_association.specs.Turns.{has_session, session_of};
 ghost use Rattle.st_operations.specs.Pending.{is_fit};
 ghost use Rattle.st_rules.specs.ClientPasses as passes;
 ghost use Rattle.st_rules.specs.ClientState as client_state;
 ghost use Rattle.st_client_passes.specs.Passing.{is_serving_at, put_back};
 
-use crate::changing::{answer, patch, write};
-use crate::reading::read;
-use st_association::Turn;
+use crate::page_changes::{answer, patch, write};
+use crate::page_reads::read;
 use st_base::{FileId, Stamp};
+use st_client_association::Turn;
 use st_messages::{AppAnswer, Ask};
 use st_operations::{Operations, file_of, is_of, is_sent};
 use st_rules::Operation;

@@ -1,12 +1,12 @@
 // Reductions: a demanded file that is idle and not busy is reduced to what is demanded.
 ghost use Rattle.std.specs.Prelude.{◌≡◌, true, Some, IfOk, OnOk};
-ghost use Rattle.st_association.specs.Turns.{has_session, session_of};
+ghost use Rattle.st_client_association.specs.Turns.{has_session, session_of};
 ghost use Rattle.st_rules.specs.ClientLocks as locks;
 ghost use Rattle.st_rules.specs.ClientPasses as passes;
 ghost use Rattle.st_rules.specs.ClientState as client_state;
 
-use st_association::Turn;
 use st_base::{GrantNo, Mode, PageNo};
+use st_client_association::Turn;
 use std::alloc::AllocError;
 
 /// Where the lock is gone, the clean pages and extents of the file go too.

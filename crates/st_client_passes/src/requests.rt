@@ -1,15 +1,15 @@
 // Requests to a server: the outstanding one again, or a new one.
 ghost use Rattle.std.specs.Prelude.{◌≡◌, false, true, OnOk};
-ghost use Rattle.st_association.specs.Turns.{has_session, session_of};
+ghost use Rattle.st_client_association.specs.Turns.{has_session, session_of};
 ghost use Rattle.st_rules.specs.ClientLease as leases;
 ghost use Rattle.st_rules.specs.ClientPasses as passes;
 ghost use Rattle.st_rules.specs.ClientState as client_state;
 ghost use Rattle.st_client_passes.specs.Asking.{asking_at, is_free, marked_if};
 
-use crate::asking::first_asking;
-use crate::wanted::Wanted;
-use st_association::Turn;
+use crate::next_request::first_asking;
+use crate::wants::Wanted;
 use st_base::{PageNo, Stamp};
+use st_client_association::Turn;
 use st_messages::Body;
 use st_rules::Phase;
 use std::alloc::AllocError;

@@ -1,15 +1,15 @@
 // Writes of dirty pages to their disks.
 ghost use Rattle.std.specs.Prelude.{◌≡◌, false, true, IfOk, OnOk};
 ghost use Rattle.std.specs.Option.{option_map_or};
-ghost use Rattle.st_association.specs.Turns.{has_session, session_of};
+ghost use Rattle.st_client_association.specs.Turns.{has_session, session_of};
 ghost use Rattle.st_rules.specs.ClientInvariants.{lasts_here};
 ghost use Rattle.st_rules.specs.declared.pages.DirtyPage.{DirtyPage};
 ghost use Rattle.st_rules.specs.ClientPages as pages;
 ghost use Rattle.st_rules.specs.ClientPasses as passes;
 ghost use Rattle.st_client_passes.specs.Passing.{MayRest, drains_at};
 
-use st_association::Turn;
 use st_base::{Mode, PageNo, ServerId, Stamp};
+use st_client_association::Turn;
 use st_operations::{CutOn, SyncOn, Test, is_cut_or_name, is_of, is_sent, is_sync};
 use st_rules::{DirtyPage, Operation, StandingKind};
 use std::alloc::AllocError;

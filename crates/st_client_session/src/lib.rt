@@ -2,10 +2,10 @@
 //! that needs it. `docs/PROTOCOL.md`, "Leases, locks, pages and commands", has the rules.
 #![tactic(auto)]
 
-mod asking;
-mod holding;
 mod lists;
+mod locks;
 mod permits;
+mod requests;
 mod session;
 
 pub use session::Session;

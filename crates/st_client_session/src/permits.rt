@@ -8,14 +8,14 @@ ghost use Rattle.st_rules.specs.ClientPages as pages;
 ghost use Rattle.st_rules.specs.ClientReplies as replies;
 ghost use Rattle.st_rules.specs.ClientState as client;
 ghost use Rattle.st_rules.specs.declared.client.IoKind.TheVariants as kinds;
-ghost use Rattle.st_store.specs.Stores.{Changes, empty_store_of, with_commands, with_pages};
+ghost use Rattle.st_client_store.specs.Stores.{Changes, empty_store_of, with_commands, with_pages};
 
 use crate::session::Session;
 use st_base::{ClientId, Config, Epoch, Life, PageBytes, PageNo, ServerId, Stamp};
+use st_client_store::{CacheRefusal, Store};
 use st_lease_client::{Lease, LossPermit, Standing, UsePermit};
 use st_lock_cache::LockCache;
 use st_requests::Requests;
-use st_store::{CacheRefusal, Store};
 use std::alloc::{AllocError, Global};
 
 /// Gives a standing back, where the lease is not over.

@@ -1,7 +1,7 @@
 // The commands, by their numbers from 1.
 ghost use Rattle.std.specs.Prelude.{◌≡◌, ◌<◌, Some, length, set, slice_get};
 ghost use Rattle.std.specs.Option.{option_copied, option_map};
-ghost use Rattle.st_disk.specs.Standings.{standing_of};
+ghost use Rattle.st_disk.specs.CommandStates.{standing_of};
 ghost use Rattle.st_rules.specs.declared.disks.DiskCommand.{DiskCommand};
 ghost use Rattle.st_rules.specs.Disks as disks;
 ghost use Rattle.st_disk.specs.Calls.{IsIndex};
@@ -10,18 +10,18 @@ use st_rules::{Block, DiskCommand, Report};
 
 /// How a command stands: whether it had its effect, and how it was reported.
 #[derive(Clone, Copy, Debug, PartialEq, Eq)]
-pub struct Standing {
+pub struct CommandState {
     pub effected: bool,
     pub report: Report,
 }
 
 /// How a command stands, if there is one.
-pub fn standing_of(command: Option<&DiskCommand>) -> Option<Standing>
+pub fn standing_of(command: Option<&DiskCommand>) -> Option<CommandState>
     ensures { result ≡ option_map standing_of (option_copied command.entry) }
 {
     match command {
         None => None,
-        Some(command) => Some(Standing {
+        Some(command) => Some(CommandState {
             effected: command.effected,
             report: command.report,
         }),

@@ -4,12 +4,12 @@ ghost use Rattle.std.specs.Option.{option_map};
 ghost use Rattle.st_rules.specs.declared.disks.DiskCommand.{DiskCommand};
 ghost use Rattle.st_rules.specs.Disks as disks;
 ghost use Rattle.st_rules.specs.Disks.{fresh_disks};
-ghost use Rattle.st_disk.specs.Standings.{standing_of};
+ghost use Rattle.st_disk.specs.CommandStates.{standing_of};
 ghost use Rattle.st_disk.specs.Calls.{Answers, HasBlock, SameSize, ended, sampled_at, shown, told, written_at};
 
 use crate::blocks::Blocks;
 use crate::commands::{
-    Standing, command_at, effect_command, index_of, report_command, sample_command, standing_of,
+    CommandState, command_at, effect_command, index_of, report_command, sample_command, standing_of,
 };
 use crate::refusal::DiskRefusal;
 use st_base::{BlockAt, Command, FileId, PageBytes, PageNo, ServerId, Tag};
@@ -80,7 +80,7 @@ impl Disks {
     }
 
     /// Returns how the command of this number stands, if there is one. It does not allocate.
-    pub fn standing(&self, n: u64) -> Option<Standing>
+    pub fn standing(&self, n: u64) -> Option<CommandState>
         ensures { result ≡ option_map standing_of (disks.command self.now n) }
     {
         standing_of(command_at(&self.commands, n))

@@ -7,7 +7,7 @@ mod commands;
 mod disks;
 mod refusal;
 
-pub use commands::Standing;
+pub use commands::CommandState;
 pub use disks::Disks;
 pub use refusal::DiskRefusal;
 pub use st_base::{BlockAt, Command, Tag};

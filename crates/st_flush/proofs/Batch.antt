@@ -8,7 +8,7 @@ use Rattle.st_base.specs.declared.ids.PageNo.{PageNo}
 use Rattle.st_base.specs.declared.ids.Stamp.{Stamp}
 use Rattle.st_rules.specs.Keys.{page_no, same_page, rising}
 use Rattle.st_rules.specs.declared.client.IoKind.TheVariants.{Write}
-use Rattle.st_rules.specs.declared.client.Mapping.{Mapping}
+use Rattle.st_rules.specs.declared.client.MappedBlock.{MappedBlock}
 use Rattle.st_rules.specs.declared.client.PageCommand.{PageCommand}
 use Rattle.st_rules.specs.declared.pages.DirtyPage.{DirtyPage}
 use Rattle.st_rules.specs.ClientLease.{may_drain, standing_of}
@@ -28,7 +28,7 @@ out_if t None = t
 out_if t (Some w) = submit_write t w.page w.mapping
 
 -- a page that is due goes out
-due_out : (t : Turn) (d : DirtyPage) (m : Option Mapping) → write_out_at t d m ≡ out_if t (drained_to d m)
+due_out : (t : Turn) (d : DirtyPage) (m : Option MappedBlock) → write_out_at t d m ≡ out_if t (drained_to d m)
 unfolding write_out_at
 due_out t d None = refl
 due_out t d (Some m) = refl
@@ -116,7 +116,7 @@ out_each (w ∷ ws) t = out_each ws (submit_write t w.page w.mapping)
 pub draining_place : (st : Store) (x : ℕ × PageNo) (w : Draining) → drained_at st x ≡ Some w → place_of w.page ≡ x
 draining_place st x w e = by (pages.dirty_of st.pages x.0 x.1) (λ d f. found_place x d st.pages.dirty f) e
   where
-    to_is : (d : DirtyPage) (m : Option Mapping) → drained_to d m ≡ Some w → w.page ≡ d
+    to_is : (d : DirtyPage) (m : Option MappedBlock) → drained_to d m ≡ Some w → w.page ≡ d
     to_is d None e = cc
     to_is d (Some m) e = let s : record { page = d; mapping = m } ≡ w = cc in sym (ap (λ z. z.page) s)
 

@@ -7,7 +7,7 @@ use Rattle.st_base.specs.declared.ids.PageNo.{PageNo}
 use Rattle.st_rules.specs.Keys.{same_page}
 use Rattle.st_rules.specs.ServerInvariants.{are_once}
 use Rattle.st_rules.specs.ClientInvariants.{is_below}
-use Rattle.st_rules.specs.declared.client.Mapping.{Mapping}
+use Rattle.st_rules.specs.declared.client.MappedBlock.{MappedBlock}
 use Rattle.st_rules.specs.declared.client.PageCommand.{PageCommand}
 use Rattle.st_rules.specs.declared.pages.DirtyPage.{DirtyPage}
 use Rattle.st_rules.specs.ClientPages as pages
@@ -64,7 +64,7 @@ module _ (st : Store) (unread : (d : DirtyPage) → Has d st.pages.dirty → pag
   none_taken : (d : DirtyPage) → Has d st.pages.dirty → (w : Draining) → drained_by st d ≡ Some w → is_taken_in st.commands (version_of w) ≡ false
   none_taken d m w e = by (is_drained st d) refl e
     where
-      to_is : (o : Option Mapping) → drained_to d o ≡ Some w → w.page ≡ d
+      to_is : (o : Option MappedBlock) → drained_to d o ≡ Some w → w.page ≡ d
       to_is None e = cc
       to_is (Some n) e = let s : record { page = d; mapping = n } ≡ w = cc in sym (ap (λ z. z.page) s)
 

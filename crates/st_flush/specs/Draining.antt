@@ -8,7 +8,7 @@ use Rattle.st_base.specs.declared.ids.PageNo.{PageNo}
 use Rattle.st_base.specs.declared.ids.ServerId.{ServerId}
 use Rattle.st_messages.specs.declared.output.Output.{Output}
 use Rattle.st_messages.specs.declared.output.Output.TheVariants as outputs
-use Rattle.st_rules.specs.declared.client.Mapping.{Mapping}
+use Rattle.st_rules.specs.declared.client.MappedBlock.{MappedBlock}
 use Rattle.st_rules.specs.declared.pages.DirtyPage.{DirtyPage}
 use Rattle.st_rules.specs.ClientPages as pages
 use Rattle.st_rules.specs.ClientPages.{Store}
@@ -18,14 +18,14 @@ use Rattle.st_rules.specs.ClientState.{Turn}
 -- a dirty page that goes out, and where it lies
 pub record Draining : Type 0 where
   pub page : DirtyPage
-  pub mapping : Mapping
+  pub mapping : MappedBlock
 
 -- the page has no outstanding write and no failed command
 abbrev pub is_drained : Store → DirtyPage → Bool
 is_drained st d = not (pages.is_being_written st.commands d.ino d.page) && is_unfailed d
 
 -- the page and its block, if that is known
-abbrev pub drained_to : DirtyPage → Option Mapping → Option Draining
+abbrev pub drained_to : DirtyPage → Option MappedBlock → Option Draining
 drained_to d None = None
 drained_to d (Some m) = Some (record { page = d; mapping = m })
 

@@ -14,7 +14,7 @@ use Rattle.st_rules.specs.declared.world.SentMessage.{SentMessage}
 use Rattle.st_rules.specs.Admissible as adm
 use Rattle.st_rules.specs.Disks.{command}
 use Rattle.st_rules.specs.Events as ev
-use Rattle.st_rules.specs.Events.{Scene, counted, happens, summary, world_step}
+use Rattle.st_rules.specs.Events.{WorldTurn, counted, happens, summary, world_step}
 use Rattle.st_rules.specs.Run.{run, go_on}
 use Rattle.st_rules.specs.Server.{ServerNode}
 use Rattle.st_rules.specs.World.{World, ClientSite, fresh_world, message_of, node_of, receiver_of, site_of}
@@ -101,15 +101,15 @@ happens_full w (events.Report k ok) h l = absurd (report w k ok (command w.disks
 happens_full w (events.Crash n) h l = crashes (counted w) n
 happens_full w (events.Start n) h l = starts (counted w) n
 
-full_sends_nothing : (w : World) (e : Event) (sc : Scene) → world_step w e ≡ Ok sc → 536870912 ≤ w.net.bytes → Quiet w sc.world
-full_sends_nothing w e sc h l = let z = step_happens w e sc h in subst (λ (x : Scene). Quiet w x.world) (sym z.1) (happens_full w e z.0 l)
+full_sends_nothing : (w : World) (e : Event) (sc : WorldTurn) → world_step w e ≡ Ok sc → 536870912 ≤ w.net.bytes → Quiet w sc.world
+full_sends_nothing w e sc h l = let z = step_happens w e sc h in subst (λ (x : WorldTurn). Quiet w x.world) (sym z.1) (happens_full w e z.0 l)
 
 -- A run.
 record Few (most : ℕ) (w : World) : Type 0 where
   bytes : 38 * length w.net.messages ≤ w.net.bytes
   sent : length w.net.messages ≤ 14128181 + most
 
-few_after : (most : ℕ) (w : World) (e : Event) (sc : Scene) → world_step w e ≡ Ok sc → length sc.world.net.messages ≤ length w.net.messages + most → Few most w → Few most sc.world
+few_after : (most : ℕ) (w : World) (e : Event) (sc : WorldTurn) → world_step w e ≡ Ok sc → length sc.world.net.messages ≤ length w.net.messages + most → Few most w → Few most sc.world
 few_after most w e sc h less f =
     record {
       bytes = let x = f.bytes in let y = (step_sized w e sc h).bytes in omega (arith, x, y);
@@ -125,7 +125,7 @@ unfolding run go_on SendsFew
 few_in most [] w s f = f
 few_in most (e ∷ es) w s f = go (world_step w e) refl s (few_in most es)
   where
-    go : (r : Result Scene WorldRefusal) → world_step w e ≡ r → SendsFewOn most (SendsFew most es) w r →
+    go : (r : Result WorldTurn WorldRefusal) → world_step w e ≡ r → SendsFewOn most (SendsFew most es) w r →
         ((v : World) → SendsFew most es v → Few most v → Few most (run es v).world) → Few most (go_on (run es) w r).world
     go (Err x) q s h = f
     go (Ok sc) q s h = h sc.world s.1 (few_after most w e sc q s.0 f)

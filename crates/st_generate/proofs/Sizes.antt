@@ -29,7 +29,7 @@ use Rattle.st_rules.specs.World as world
 use Rattle.st_rules.specs.World.{World, ClientSite, site_of, node_of, message_of, receiver_of, issued_of, with_numbered, all_servers}
 use Rattle.st_rules.specs.Disks as disks
 use Rattle.st_rules.specs.Events as ev
-use Rattle.st_rules.specs.Events.{Scene, world_step, happens, counted}
+use Rattle.st_rules.specs.Events.{WorldTurn, world_step, happens, counted}
 use Rattle.st_lemmas.proofs.Numbers.{set_length, length_more}
 use Rattle.st_lemmas.proofs.Steps.{step_happens}
 
@@ -73,7 +73,7 @@ node_sized : (s : ServerId) (node : ServerNode) (w : World) → Sized w (ev.with
 node_sized s node w = record { clients = refl; servers = set_length w.servers (pred s.0) node; messages = omega arith; commands = omega arith; bytes = omega arith }
 
 -- What is sent and submitted.
-sends_sized : (m : Message) (sc : Scene) → Sized sc.world (ev.sends sc m).world
+sends_sized : (m : Message) (sc : WorldTurn) → Sized sc.world (ev.sends sc m).world
 unfolding ev.sends size_of
 sends_sized m sc =
     record {
@@ -84,7 +84,7 @@ sends_sized m sc =
       bytes = let z = length_more sc.world.net.messages (record { message = m; lost = false }) in omega (arith, z);
     }
 
-client_one : (c : ClientId) (before : ClientState) (o : Output) (sc : Scene) → Sized sc.world (ev.client_says sc c before o).world
+client_one : (c : ClientId) (before : ClientState) (o : Output) (sc : WorldTurn) → Sized sc.world (ev.client_says sc c before o).world
 unfolding ev.client_says ev.answers_with ev.client_notes ev.loses ev.accepts ev.patches ev.submits
 client_one c before (outputs.Send m) sc = sends_sized m sc
 client_one c before (outputs.Submit number at what) sc = go (site_of sc.world c)
@@ -108,12 +108,12 @@ client_one c before (outputs.Note x) sc = note x
     note (notes.Lost s l) = still sc.world _ refl refl refl refl refl
     note x = still sc.world _ refl refl refl refl refl
 
-client_all : (c : ClientId) (before : ClientState) (os : List Output) (sc : Scene) → Sized sc.world (ev.client_says_all c before os sc).world
+client_all : (c : ClientId) (before : ClientState) (os : List Output) (sc : WorldTurn) → Sized sc.world (ev.client_says_all c before os sc).world
 unfolding ev.client_says_all
 client_all c before [] sc = same_size sc.world
 client_all c before (o ∷ os) sc = sized_then sc.world (ev.client_says sc c before o).world _ (client_one c before o sc) (client_all c before os (ev.client_says sc c before o))
 
-server_one : (s : ServerId) (o : Output) (sc : Scene) → Sized sc.world (ev.server_says sc s o).world
+server_one : (s : ServerId) (o : Output) (sc : WorldTurn) → Sized sc.world (ev.server_says sc s o).world
 unfolding ev.server_says ev.server_notes ev.cuts
 server_one s (outputs.Send m) sc = sends_sized m sc
 server_one s (outputs.Note x) sc = note x
@@ -124,7 +124,7 @@ server_one s (outputs.Note x) sc = note x
     note x = still sc.world _ refl refl refl refl refl
 server_one s o sc = same_size sc.world
 
-server_all : (s : ServerId) (os : List Output) (sc : Scene) → Sized sc.world (ev.server_says_all s os sc).world
+server_all : (s : ServerId) (os : List Output) (sc : WorldTurn) → Sized sc.world (ev.server_says_all s os sc).world
 unfolding ev.server_says_all
 server_all s [] sc = same_size sc.world
 server_all s (o ∷ os) sc = sized_then sc.world (ev.server_says sc s o).world _ (server_one s o sc) (server_all s os (ev.server_says sc s o))
@@ -257,5 +257,5 @@ happens_sized w (events.Report k ok) = sized_then w (disks_done w k ok) _ (still
 happens_sized w (events.Crash n) = crashes_sized w n
 happens_sized w (events.Start n) = starts_sized w n
 
-pub step_sized : (w : World) (e : Event) (sc : Scene) → world_step w e ≡ Ok sc → Sized w sc.world
-step_sized w e sc h = subst (λ (x : Scene). Sized w x.world) (sym (step_happens w e sc h).1) (sized_then w (counted w) _ (still w _ refl refl refl refl refl) (happens_sized (counted w) e))
+pub step_sized : (w : World) (e : Event) (sc : WorldTurn) → world_step w e ≡ Ok sc → Sized w sc.world
+step_sized w e sc h = subst (λ (x : WorldTurn). Sized w x.world) (sym (step_happens w e sc h).1) (sized_then w (counted w) _ (still w _ refl refl refl refl refl) (happens_sized (counted w) e))

@@ -4,7 +4,7 @@ use Rattle.std.specs.List.{list_all, AllByRecursion}
 use Rattle.st_messages.specs.declared.event.Event.{Event}
 use Rattle.st_rules.specs.declared.observation.WorldRefusal.{WorldRefusal}
 use Rattle.st_rules.specs.Admissible.{refusal}
-use Rattle.st_rules.specs.Events.{Scene, world_step}
+use Rattle.st_rules.specs.Events.{WorldTurn, world_step}
 use Rattle.st_rules.specs.World.{World}
 use Rattle.st_rules.specs.Report.{opening, lines_from, report, ended}
 use Rattle.st_rules.specs.Run.{Run, run}
@@ -43,7 +43,7 @@ abbrev pub Is_reported_whole : Type 0
 Is_reported_whole = (n seed : ℕ) → report (run_of n seed) ≡ opening ++ lines_from 1 (run_of n seed).seen ++ ended (work n seed)
 
 -- Each event of a run sends at most this number of messages, the events behind the first one too.
-abbrev pub SendsFewOn : ℕ → (World → Type 0) → World → Result Scene WorldRefusal → Type 0
+abbrev pub SendsFewOn : ℕ → (World → Type 0) → World → Result WorldTurn WorldRefusal → Type 0
 SendsFewOn most rest w (Ok sc) = (length sc.world.net.messages ≤ length w.net.messages + most) × rest sc.world
 SendsFewOn most rest w (Err f) = ⊤
 

@@ -1,21 +1,27 @@
-ghost use Rattle.std.specs.Prelude.{◌≡◌, true, IfOk, IsOk, OnOk, OnErr};
+ghost use Rattle.std.specs.Prelude.{◌≡◌, true, false, IfOk, IsOk, OnOk, OnErr};
+ghost use Rattle.std.specs.Bool.{OnTrue};
+ghost use Rattle.std.specs.List.{list_any};
 ghost use Rattle.st_base.specs.Config as settings;
 ghost use Rattle.st_rules.specs.Authority as authority;
 ghost use Rattle.st_rules.specs.ServerInvariants.{are_rising};
 
-use crate::timers::{clients_over, drop_over, start_timer, tell_clients, timer_of};
+use crate::by_start::{Start, drop_past, is_past};
+use crate::timers::{clients_over, drop_over, place_timer, tell_clients, timer_of};
 use st_base::{ClientId, Config, Stamp};
 use st_clock::steal_wait;
 use st_rules::Suspect;
 use std::alloc::{AllocError, Global};
+use std::collections::BTreeSet;
 use std::marker::Model;
 
 /// The suspects of one server. Contracts see them as the steal wait and the list of the timers that run, by rising client.
+/// Beside these stands an ordered set of their starts, so that whether a timer is over is seen at the earliest one.
 #[derive(Drop)]
 pub struct Authority {
     wait: u64,
     timers: Vec<Suspect>,
     clients: Vec<ClientId>,
+    starts: BTreeSet<Start>,
 }
 
 impl Model for Authority {
@@ -27,7 +33,9 @@ impl Model for Authority {
 
     ghost view = { λ a. record { wait = a.wait; suspects = a.timers.items } };
 
-    ghost invariant = { λ a. (are_rising a.timers.items ≡ true) × (a.clients.items ≡ map authority.client_of_suspect a.timers.items) };
+    ghost use Rattle.st_lease_server.specs.Starts.{AreStarts};
+
+    ghost invariant = { λ a. (are_rising a.timers.items ≡ true) × (a.clients.items ≡ map authority.client_of_suspect a.timers.items) × AreStarts a.timers.items a.starts };
 }
 
 impl Authority {
@@ -41,6 +49,7 @@ impl Authority {
             wait: steal_wait(config),
             timers: Vec::new(alloc),
             clients: Vec::new(alloc),
+            starts: BTreeSet::new(alloc),
         }
     }
 
@@ -64,8 +73,11 @@ impl Authority {
         ensures ok { OnOk result (self.new ≡ authority.start_timer self.old client now) }
         ensures err { OnErr result (self.new ≡ self.old) }
     {
+        let timer = Suspect { client, start: now };
         self.clients.reserve(1)?;
-        start_timer(&mut self.timers, Suspect { client, start: now })?;
+        self.timers.reserve(1)?;
+        self.starts.insert((now, client))?;
+        place_timer(&mut self.timers, timer);
         tell_clients(&mut self.clients, &self.timers);
         Ok(())
     }
@@ -85,6 +97,16 @@ impl Authority {
         Some(timer.start)
     }
 
+    /// Whether no timer is over. It looks at the earliest one alone.
+    fn none_over(&self, now: Stamp) -> bool
+        ensures { OnTrue result (list_any (authority.is_over self.now.wait now) self.now.suspects ≡ false) }
+    {
+        match self.starts.first() {
+            None => true,
+            Some(first) => !is_past(self.wait, now, *first),
+        }
+    }
+
     /// Takes out the clients whose timers are over, which are those that started the steal wait ago or earlier, and returns
     /// them in rising order. If the call runs out of memory, nothing changes.
     #[tactic(auto, unfolding(st_rules::specs::Authority::over, st_rules::specs::Authority::still_running))]
@@ -94,8 +116,13 @@ impl Authority {
         ensures err { OnErr result (self.new ≡ self.old) }
     {
         let alloc = *self.timers.allocator();
+        if self.none_over(now) {
+            let nobody = Vec::new(alloc);
+            return Ok(nobody);
+        }
         let over = clients_over(alloc, &self.timers, self.wait, now)?;
         drop_over(&mut self.timers, self.wait, now);
+        drop_past(&mut self.starts, self.wait, now);
         tell_clients(&mut self.clients, &self.timers);
         Ok(over)
     }

@@ -3,6 +3,7 @@
 #![tactic(auto)]
 
 mod authority;
+mod by_start;
 mod timers;
 
 pub use authority::Authority;

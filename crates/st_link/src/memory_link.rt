@@ -1,9 +1,10 @@
 // The link in memory, whose calls fail by a list.
-ghost use Rattle.std.specs.Prelude.{◌≡◌, ◌<◌, ◌∷◌, ◌++◌, Some, [], IfOk, OnOk, OnErr, length};
+ghost use Rattle.std.specs.Prelude.{◌≡◌, ◌<◌, ◌∷◌, ◌++◌, ◌↔◌, Some, [], IsErr, IfOk, OnOk, OnErr, Contains, length, min};
 ghost use Rattle.std.specs.Io.{ReadsAtMost, WritesAtMost};
 ghost use Rattle.std.specs.Io.KnownBytes.{ReadConsumes, WriteAppends};
 ghost use Rattle.st_link.specs.Causes.{HasCause};
 ghost use Rattle.st_link.specs.InMemory.{raised};
+ghost use Rattle.st_link.specs.Names.{Attaches, MayAttach};
 
 use crate::link::{Failed, Link, Sink, Source};
 use crate::memory::Plan;
@@ -82,11 +83,16 @@ impl Source for MemoryLink {
 
     ghost faults = { λ l. l.faults };
 
-    /// It fails exactly if the number of the call is in the list.
+    /// It fails exactly if the number of the call is in the list. Otherwise it takes all bytes that are left, or as many of
+    /// them as `room` can hold.
     fn take(&mut self, room: &mut [u8]) -> Result<usize, Failed>
         ensures bound { ReadsAtMost result room.new }
         ensures bytes { ReadConsumes (Some self.old.left) (Some self.new.left) result room.new }
         ensures cause { HasCause self.old.faults self.new.faults result }
+        ensures planned { IsErr result ↔ Contains self.old.failing (raised self.old.calls) }
+        ensures count { IfOk result (λ n. n ≡ min (length self.old.left) (length room.old)) }
+        ensures ok_faults { OnOk result (self.new.faults ≡ self.old.faults) }
+        ensures err_faults { OnErr result (self.new.faults ≡ raised self.old.faults) }
         ensures written { self.new.written ≡ self.old.written }
         ensures names { self.new.names ≡ self.old.names }
         ensures calls { self.new.calls ≡ raised self.old.calls }
@@ -110,6 +116,10 @@ impl Sink for MemoryLink {
         ensures some { IfOk result (λ n. 0 < length piece.now → 0 < n) }
         ensures bytes { WriteAppends (Some self.old.written) (Some self.new.written) result piece.now }
         ensures cause { HasCause self.old.faults self.new.faults result }
+        ensures planned { Contains self.old.failing (raised self.old.calls) → IsErr result }
+        ensures whole { IfOk result (λ n. n ≡ length piece.now) }
+        ensures ok_faults { OnOk result (self.new.faults ≡ self.old.faults) }
+        ensures err_faults { OnErr result (self.new.faults ≡ raised self.old.faults) }
         ensures left { self.new.left ≡ self.old.left }
         ensures names { self.new.names ≡ self.old.names }
         ensures calls { self.new.calls ≡ raised self.old.calls }
@@ -130,7 +140,18 @@ impl Link for MemoryLink {
     ghost one_count = { λ x. refl };
 
     /// It fails if the number of the call is in the list, or if it runs out of memory, where it does not tell the name.
-    fn attach(&mut self, name: &str) -> Result<(), Failed> {
+    fn attach(&mut self, name: &str) -> Result<(), Failed>
+        ensures called { OnOk result (Attaches (Some self.old.names) (Some self.new.names) name.now) }
+        ensures told { OnErr result (MayAttach (Some self.old.names) (Some self.new.names) name.now) }
+        ensures left { Some self.new.left ≡ Some self.old.left }
+        ensures written { Some self.new.written ≡ Some self.old.written }
+        ensures cause { HasCause self.old.faults self.new.faults result }
+        ensures planned { Contains self.old.failing (raised self.old.calls) → IsErr result }
+        ensures calls { self.new.calls ≡ raised self.old.calls }
+        ensures failing { self.new.failing ≡ self.old.failing }
+        ensures ok_faults { OnOk result (self.new.faults ≡ self.old.faults) }
+        ensures err_faults { OnErr result (self.new.faults ≡ raised self.old.faults) }
+    {
         let Ok(()) = self.keep(name) else {
             let _ = self.plan.call();
             return Err(self.plan.fail());
@@ -141,11 +162,38 @@ impl Link for MemoryLink {
         Ok(())
     }
 
-    fn receive(&mut self, room: &mut [u8]) -> Result<usize, Failed> {
+    /// It fails exactly if the number of the call is in the list.
+    fn receive(&mut self, room: &mut [u8]) -> Result<usize, Failed>
+        ensures bound { ReadsAtMost result room.new }
+        ensures bytes { ReadConsumes (Some self.old.left) (Some self.new.left) result room.new }
+        ensures written { Some self.new.written ≡ Some self.old.written }
+        ensures names { Some self.new.names ≡ Some self.old.names }
+        ensures cause { HasCause self.old.faults self.new.faults result }
+        ensures planned { IsErr result ↔ Contains self.old.failing (raised self.old.calls) }
+        ensures count { IfOk result (λ n. n ≡ min (length self.old.left) (length room.old)) }
+        ensures calls { self.new.calls ≡ raised self.old.calls }
+        ensures failing { self.new.failing ≡ self.old.failing }
+        ensures ok_faults { OnOk result (self.new.faults ≡ self.old.faults) }
+        ensures err_faults { OnErr result (self.new.faults ≡ raised self.old.faults) }
+    {
         self.take(room)
     }
 
-    fn send(&mut self, piece: &[u8]) -> Result<usize, Failed> {
+    /// It fails if the number of the call is in the list, or if it runs out of memory.
+    fn send(&mut self, piece: &[u8]) -> Result<usize, Failed>
+        ensures bound { WritesAtMost result piece.now }
+        ensures some { IfOk result (λ n. 0 < length piece.now → 0 < n) }
+        ensures bytes { WriteAppends (Some self.old.written) (Some self.new.written) result piece.now }
+        ensures left { Some self.new.left ≡ Some self.old.left }
+        ensures names { Some self.new.names ≡ Some self.old.names }
+        ensures cause { HasCause self.old.faults self.new.faults result }
+        ensures planned { Contains self.old.failing (raised self.old.calls) → IsErr result }
+        ensures whole { IfOk result (λ n. n ≡ length piece.now) }
+        ensures calls { self.new.calls ≡ raised self.old.calls }
+        ensures failing { self.new.failing ≡ self.old.failing }
+        ensures ok_faults { OnOk result (self.new.faults ≡ self.old.faults) }
+        ensures err_faults { OnErr result (self.new.faults ≡ raised self.old.faults) }
+    {
         self.put(piece)
     }
 }

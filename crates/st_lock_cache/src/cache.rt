@@ -160,10 +160,10 @@ impl LockCache {
 
     /// A grant above the greatest seen of the file, which is not taken, becomes the greatest seen. If the call runs out of
     /// memory, nothing changes.
-    #[tactic(auto, unfolding(st_rules::specs::ClientLocks::see))]
-    pub fn see(&mut self, ino: u32, g: GrantNo) -> Result<(), AllocError>
+    #[tactic(auto, unfolding(st_rules::specs::ClientLocks::observe))]
+    pub fn observe(&mut self, ino: u32, g: GrantNo) -> Result<(), AllocError>
         requires { locks.is_above_seen self.old.locks ino g ≡ true }
-        ensures ok { OnOk result (self.new ≡ with_locks (locks.see self.old.locks ino g) self.old) }
+        ensures ok { OnOk result (self.new ≡ with_locks (locks.observe self.old.locks ino g) self.old) }
         ensures err { OnErr result (self.new ≡ self.old) }
     {
         self.seen.put(seen_row(ino, g))?;
@@ -188,7 +188,7 @@ impl LockCache {
     }
 
     /// A demand of a grant of which no lock is held: the greatest grant seen of the file is at least this one.
-    #[tactic(auto, unfolding(st_rules::specs::ClientLocks::demand_unheld, st_rules::specs::ClientLocks::see))]
+    #[tactic(auto, unfolding(st_rules::specs::ClientLocks::demand_unheld, st_rules::specs::ClientLocks::observe))]
     fn demand_unheld(&mut self, ino: u32, g: GrantNo) -> Result<Asked, AllocError>
         requires { locks.lock_of self.old.locks ino ≡ None }
         ensures ok { IfOk result (λ asked. Demands self.old self.new asked (locks.demand_unheld self.old.locks ino g)) }

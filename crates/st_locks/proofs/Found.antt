@@ -10,7 +10,7 @@ use Rattle.st_base.specs.declared.ids.GrantNo.{GrantNo}
 use Rattle.st_rules.specs.Keys.{same_client}
 use Rattle.st_rules.specs.declared.locks.LockRow.{LockRow}
 use Rattle.st_rules.specs.declared.locks.Waiter.{Waiter}
-use Rattle.st_rules.specs.Locks.{is_row_of, is_wait_of, see, answered_row}
+use Rattle.st_rules.specs.Locks.{is_row_of, is_wait_of, observe, answered_row}
 use Rattle.st_tables.specs.Tables.{lock_key, same_key}
 use Rattle.st_tables.proofs.Places.{at_found, any_at_key}
 
@@ -59,14 +59,14 @@ filter_map_map f h [] = refl
 filter_map_map f h (x ∷ xs) = ap (cons_option (h (f x))) (filter_map_map f h xs)
 
 -- a row that is not the one whose demand was seen
-pub not_seen : (c : ClientId) (ino : ℕ) (g : GrantNo) (rows : List LockRow) → IsDistinct same_key (map lock_key rows) → at_found (λ r. r.g.0 == g.0) (find (is_row_of c ino) rows) ≡ false → map (see c ino g) rows ≡ rows
+pub not_seen : (c : ClientId) (ino : ℕ) (g : GrantNo) (rows : List LockRow) → IsDistinct same_key (map lock_key rows) → at_found (λ r. r.g.0 == g.0) (find (is_row_of c ino) rows) ≡ false → map (observe c ino g) rows ≡ rows
 not_seen c ino g rows d e = none_changed (λ r. is_row_of c ino r && (r.g.0 == g.0)) answered_row rows (any_at_key lock_key (λ r. r.g.0 == g.0) (record { first = c.0; second = ino }) rows d ∙ e)
 
 see_is : (g : GrantNo) (b d : Bool) (x : LockRow) → (if b then (if d then answered_row x else x) else x) ≡ (if b && d then answered_row x else x)
 see_is g true d x = refl
 see_is g false d x = refl
 
-pub see_map : (client : ClientId) (ino : ℕ) (g : GrantNo) (xs : List LockRow) → map (λ x. if is_row_of client ino x then (if x.g.0 == g.0 then answered_row x else x) else x) xs ≡ map (see client ino g) xs
+pub see_map : (client : ClientId) (ino : ℕ) (g : GrantNo) (xs : List LockRow) → map (λ x. if is_row_of client ino x then (if x.g.0 == g.0 then answered_row x else x) else x) xs ≡ map (observe client ino g) xs
 see_map client ino g [] = refl
 see_map client ino g (x ∷ xs) = λ i. see_is g (is_row_of client ino x) (x.g.0 == g.0) x i ∷ see_map client ino g xs i
 

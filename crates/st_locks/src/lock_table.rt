@@ -100,9 +100,8 @@ impl LockTable {
     fn reserve(&mut self) -> Result<(), AllocError>
         ensures { self.new ≡ self.old }
     {
-        let room = self.parts.table.waits.len() + 16;
-        self.parts.granting.reserve(room)?;
-        self.parts.demanding.reserve(room)?;
+        self.parts.granting.reserve()?;
+        self.parts.demanding.reserve()?;
         Ok(())
     }
 

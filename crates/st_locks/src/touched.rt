@@ -8,6 +8,9 @@ use st_tables::put_key;
 use std::alloc::{AllocError, Global};
 use std::marker::Model;
 
+/// How many files calls note one by one. Where they touch more, all files count as touched, until a pass has walked them.
+const MOST: usize = 64;
+
 /// The files that were touched: those of a list, or all. Contracts see the list and whether it is all.
 #[derive(Drop)]
 pub(crate) struct Touched {
@@ -66,12 +69,24 @@ impl Touched {
         Ok(found)
     }
 
-    /// Reserves room for `files` more files. When a touched file finds no room, all files count as touched.
-    pub fn reserve(&mut self, files: usize) -> Result<(), AllocError>
+    /// Reserves room for one more file. Where a file finds no room, all files count as touched.
+    pub fn reserve_one(&mut self) -> Result<(), AllocError>
         ensures { self.new ≡ self.old }
     {
-        self.files.reserve(files)?;
+        self.files.reserve(1)?;
         Ok(())
+    }
+
+    /// Reserves room for as many files as calls note one by one.
+    pub fn reserve(&mut self) -> Result<(), AllocError>
+        ensures { self.new ≡ self.old }
+    {
+        if self.files.len() < MOST {
+            self.files.reserve(MOST - self.files.len())?;
+            Ok(())
+        } else {
+            Ok(())
+        }
     }
 
     /// Puts a file last in the list. It takes no memory: where the list is full, all files are touched.
@@ -87,12 +102,23 @@ impl Touched {
         }
     }
 
-    /// The file was touched.
+    /// Puts a file last in the list, where it has fewer than 64 files; else all files are touched.
+    fn keep_few(&mut self, ino: u32)
+        ensures { Marks ino self.old self.new }
+    {
+        if self.files.len() < MOST {
+            self.keep(ino);
+        } else {
+            self.touch_all();
+        }
+    }
+
+    /// The file was touched. Where the list has 64 files already, all files are touched: a call never looks through more.
     pub fn touch(&mut self, ino: u32)
         ensures { Marks ino self.old self.new }
     {
         if !self.has(ino) {
-            self.keep(ino);
+            self.keep_few(ino);
         }
     }
 

@@ -79,7 +79,7 @@ impl Waking {
         ensures quiet { OnOk result (list_any (is_old pass.config pass.now) self.new ≡ false) }
     {
         loop {
-            marks.reserve(1)?;
+            marks.reserve_one()?;
             match self.pop_old(pass) {
                 None => return Ok(()),
                 Some(ino) => marks.keep(ino),

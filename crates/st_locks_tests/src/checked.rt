@@ -1,5 +1,5 @@
 // Clients, modes and rows of numbers, where they are what the calls require.
-ghost use Rattle.std.specs.Prelude.{◌≡◌, ◌<◌, IfSome, true, false};
+ghost use Rattle.std.specs.Prelude.{◌≡◌, IfSome, true, false};
 ghost use Rattle.st_locks.specs.Calls.{is_lock, is_lock_row, is_old_row};
 ghost use Rattle.st_locks.specs.Since.{IsClient};
 ghost use Rattle.st_rules.specs.Locks as locks_of;
@@ -7,7 +7,7 @@ ghost use Rattle.st_rules.specs.Locks as locks_of;
 use st_base::{ClientId, Config, Epoch, GrantNo, Life, Mode};
 use st_locks::{LockRefusal, LockTable};
 
-/// Settings under which a demand waits 10 ticks for its answer and is sent again after 5, and a grace lasts 152.
+/// Settings under which a demand waits 10 ticks for its answer and is sent again after 5.
 pub const CONFIG: Config = Config {
     lease: 100,
     renew: 50,
@@ -87,23 +87,4 @@ pub fn install_one(
     requires earlier { is_old_row locks.old.epoch row ≡ true }
 {
     locks.install(client, life, &[row])
-}
-
-/// Installs two rows.
-pub fn install_two(
-    locks: &mut LockTable,
-    client: ClientId,
-    life: Life,
-    first: (u32, GrantNo, Mode),
-    second: (u32, GrantNo, Mode),
-) -> Result<(), LockRefusal>
-    requires client { IsClient client }
-    requires none { locks_of.has_rows locks.old client ≡ false }
-    requires apart { first.0 < second.0 }
-    requires first { is_lock_row first ≡ true }
-    requires first_earlier { is_old_row locks.old.epoch first ≡ true }
-    requires second { is_lock_row second ≡ true }
-    requires second_earlier { is_old_row locks.old.epoch second ≡ true }
-{
-    locks.install(client, life, &[first, second])
 }

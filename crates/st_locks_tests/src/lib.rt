@@ -1,11 +1,6 @@
-//! The lock table of a server, and the reassertion of locks, beside plain lists and beside an independent reading of the
-//! rules.
+//! The lock table of a server beside plain lists: 10,000 drawn calls, among them those that are refused for too many locks.
 #![tactic(auto)]
 
-#[cfg(test)]
-mod accept;
-#[cfg(test)]
-mod calls;
 #[cfg(test)]
 mod checked;
 #[cfg(test)]

@@ -1,6 +1,6 @@
 use crate::checked::{CONFIG, client, install_one, lock, old_row};
 use crate::draws::Draws;
-use crate::plain::{Plain, mode};
+use crate::plain::{Answer, Plain, mode};
 use st_base::{ClientId, Epoch, GrantNo, Life, Mode, ServerId, Stamp};
 use st_locks::{LockRefusal, LockTable, Verdict};
 use std::alloc::{AllocError, Global};
@@ -16,15 +16,14 @@ struct Ask {
     now: u64,
 }
 
-/// Whether a table's answer is what the plain rows say: a grant, or the others in the way.
-fn is_answer(
-    given: &Result<Verdict, LockRefusal>,
-    wanted: Option<(u64, u8)>,
-    others: &[ClientId],
-) -> bool {
+/// Whether a table's answer is what the plain rows say: a grant, the others in the way, or a refusal.
+fn is_answer(given: &Result<Verdict, LockRefusal>, wanted: Answer, others: &[ClientId]) -> bool {
     match (given, wanted) {
-        (Ok(Verdict::Granted(g, m)), Some((number, lock))) => g.0 == number && *m == mode(lock),
-        (Ok(Verdict::Queued(clients)), None) => clients.as_slice() == others,
+        (Ok(Verdict::Granted(g, m)), Answer::Granted(number, lock)) => {
+            g.0 == number && *m == mode(lock)
+        }
+        (Ok(Verdict::Queued(clients)), Answer::Queued) => clients.as_slice() == others,
+        (Err(LockRefusal::TooManyLocks), Answer::TooMany) => true,
         _ => false,
     }
 }
@@ -122,10 +121,10 @@ fn answered(locks: &mut LockTable, plain: &mut Plain, ask: Ask) -> bool {
     true
 }
 
-/// What takes locks and waits away, which is drawn seldom.
+/// What takes locks and waits away, which is drawn seldom. Client 1 keeps its locks, so that it comes to have too many.
 fn drop_some(locks: &mut LockTable, plain: &mut Plain, ask: Ask, which: u64) -> bool {
     match which {
-        0 => {
+        0 if ask.client != 1 => {
             locks.forget(ClientId(ask.client));
             plain.forget(ask.client);
         }
@@ -162,6 +161,23 @@ fn same(
     }
 }
 
+/// Whether the demands that wait for an answer are those of the plain rows.
+fn same_since(locks: &LockTable, plain: &Plain) -> bool {
+    let mut count = 0usize;
+    for row in plain.rows.iter() {
+        if let Some(since) = row.since() {
+            if !locks
+                .by_since()
+                .contains(&(Stamp(since), row.ino, ClientId(row.client)))
+            {
+                return false;
+            }
+            count = count.saturating_add(1);
+        }
+    }
+    count == locks.by_since().len()
+}
+
 /// Whether the table and the plain rows know the same of a client, a file and a moment.
 fn agree(alloc: Global, locks: &LockTable, plain: &Plain, ask: Ask) -> Result<bool, AllocError> {
     let id = ClientId(ask.client);
@@ -176,15 +192,29 @@ fn agree(alloc: Global, locks: &LockTable, plain: &Plain, ask: Ask) -> Result<bo
             && locks.has_rows(id) == plain.has_rows(ask.client)
             && holders.as_slice() == plain.holders(alloc, ask.ino)?.as_slice()
             && of.as_slice() == plain.of(alloc, ask.client)?.as_slice()
-            && late.as_slice() == plain.unanswered(alloc, ask.now)?.as_slice(),
+            && late.as_slice() == plain.unanswered(alloc, ask.now)?.as_slice()
+            && same_since(locks, plain),
     )
 }
 
+/// A file for which many clients ask, or one of many files, for which client 1 alone asks.
+fn drawn_ino(draws: &mut Draws, client: u16) -> u32 {
+    if client == 1 && draws.draw(4) != 0 {
+        return 17 + draws.draw(4_000) as u32;
+    }
+    1 + draws.draw(16) as u32
+}
+
+/// Half of the calls are client 1's.
 fn drawn_ask(draws: &mut Draws, now: u64) -> Ask {
+    let client = match draws.draw(2) {
+        0 => 1,
+        _ => 1 + draws.draw(16) as u16,
+    };
     Ask {
-        client: 1 + draws.draw(16) as u16,
+        client,
         life: 1 + draws.draw(2),
-        ino: 1 + draws.draw(8) as u32,
+        ino: drawn_ino(draws, client),
         mode: 1 + draws.draw(2) as u8,
         now,
     }
@@ -198,10 +228,11 @@ fn locks_are_plain_rows(rt: HostRuntime) -> Result<(), Fail> {
     for now in 0..10_000 {
         let call = drawn_ask(&mut draws, now);
         let agreed = same(rt.alloc(), &mut locks, &mut plain, &mut draws, call)?;
-        assert!(rt; agreed);
+        assert!(rt; agreed, "call {now}");
         let look = drawn_ask(&mut draws, now);
         let told = agree(rt.alloc(), &locks, &plain, look)?;
-        assert!(rt; told);
+        assert!(rt; told, "after call {now}");
     }
+    assert!(rt; plain.refused > 100);
     Ok(())
 }

@@ -32,12 +32,22 @@ pub struct Wait {
 /// A grant or a demand, as the lock table tells it.
 pub type Sent = (ClientId, Life, u32, GrantNo, Mode);
 
+/// What a request for a lock is answered: its grant number and mode, a wait, or that the client has too many.
+#[derive(Clone, Copy, PartialEq, Eq)]
+pub enum Answer {
+    Granted(u64, u8),
+    Queued,
+    TooMany,
+}
+
 /// The locks of epoch 3 as plain rows, with the number of the last grant.
 #[derive(Drop)]
 pub struct Plain {
     pub rows: Vec<Row>,
     waits: Vec<Wait>,
     last: u64,
+    /// How many requests were refused.
+    pub refused: u64,
 }
 
 /// The mode of a number.
@@ -57,12 +67,20 @@ fn sent(client: u16, life: u64, ino: u32, g: u64, to: u8) -> Sent {
     (ClientId(client), Life(life), ino, GrantNo(g), mode(to))
 }
 
+impl Row {
+    /// Since when the demand on this row waits for an answer, if it does.
+    pub fn since(&self) -> Option<u64> {
+        self.asked?.since
+    }
+}
+
 impl Plain {
     pub fn new(alloc: Global) -> Plain {
         Plain {
             rows: Vec::new(alloc),
             waits: Vec::new(alloc),
             last: 12_884_901_888,
+            refused: 0,
         }
     }
 
@@ -126,7 +144,7 @@ impl Plain {
         Ok(())
     }
 
-    /// The other clients that wait for the file or conflict on it.
+    /// The other clients that wait for the file or conflict on it, by rising number.
     pub fn in_the_way(
         &self,
         alloc: Global,
@@ -135,22 +153,40 @@ impl Plain {
         mode: u8,
     ) -> Result<Vec<ClientId>, AllocError> {
         let mut found = Vec::new(alloc);
-        for other in 1..17 {
-            let waits = self
-                .waits
-                .iter()
-                .copied()
-                .any(|wait| wait.ino == ino && wait.client == other);
-            let holds = self.rows.iter().copied().any(|row| row.client == other
-                && stands(row, client, ino, mode));
-            if other != client && (waits || holds) {
-                found.push(ClientId(other))?;
+        for wait in self.waits.iter() {
+            if wait.ino == ino && wait.client != client {
+                found.push(ClientId(wait.client))?;
             }
         }
+        for row in self.rows.iter() {
+            if stands(*row, client, ino, mode) {
+                found.push(ClientId(row.client))?;
+            }
+        }
+        found.sort()?;
+        found.dedup();
         Ok(found)
     }
 
-    /// Asks for a lock: its grant number and mode, or `None` where the client waits.
+    fn waits_for(&self, client: u16, ino: u32) -> bool {
+        self.waits
+            .iter()
+            .copied()
+            .any(|wait| wait.client == client && wait.ino == ino)
+    }
+
+    /// How many files there are on which the client has a row or waits.
+    fn files(&self, client: u16) -> usize {
+        let rows = self.rows.iter().filter(|row| row.client == client).count();
+        let waits = self
+            .waits
+            .iter()
+            .filter(|wait| wait.client == client && self.row(client, wait.ino).is_none())
+            .count();
+        rows.saturating_add(waits)
+    }
+
+    /// Asks for a lock.
     pub fn acquire(
         &mut self,
         client: u16,
@@ -158,18 +194,21 @@ impl Plain {
         ino: u32,
         mode: u8,
         grants: bool,
-    ) -> Result<Option<(u64, u8)>, AllocError> {
+    ) -> Result<Answer, AllocError> {
         if let Some(row) = self.row(client, ino) {
             if row.mode >= mode {
-                return Ok(Some((row.g, row.mode)));
+                return Ok(Answer::Granted(row.g, row.mode));
             }
+        } else if !self.waits_for(client, ino) && self.files(client) >= 1_024 {
+            self.refused = self.refused.saturating_add(1);
+            return Ok(Answer::TooMany);
         }
         if grants && !self.waits_beside(client, ino) && !self.is_against(client, ino, mode) {
             let g = self.grant(client, life, ino, mode)?;
-            return Ok(Some((g, mode)));
+            return Ok(Answer::Granted(g, mode));
         }
         self.queue(client, life, ino, mode)?;
-        Ok(None)
+        Ok(Answer::Queued)
     }
 
     /// Lowers or takes away a lock; whether there was one of this life and grant number.
@@ -213,14 +252,12 @@ impl Plain {
 
     /// The least other client that conflicts on the file.
     pub fn holder(&self, client: u16, ino: u32, mode: u8) -> Option<u16> {
-        for other in 1..17 {
-            if let Some(row) = self.row(other, ino) {
-                if stands(row, client, ino, mode) {
-                    return Some(other);
-                }
-            }
-        }
-        None
+        self.rows
+            .iter()
+            .copied()
+            .filter(|row| stands(*row, client, ino, mode))
+            .map(|row| row.client)
+            .min()
     }
 
     /// Puts the row of a client that has none on the file.
@@ -263,10 +300,21 @@ impl Plain {
         Ok(())
     }
 
-    /// All grants on the files below 9 that can be made.
+    /// The files for which a client waits, in rising order.
+    fn waited(&self, alloc: Global) -> Result<Vec<u32>, AllocError> {
+        let mut files = Vec::new(alloc);
+        for wait in self.waits.iter() {
+            files.push(wait.ino)?;
+        }
+        files.sort()?;
+        files.dedup();
+        Ok(files)
+    }
+
+    /// All grants that can be made.
     pub fn grants(&mut self, alloc: Global) -> Result<Vec<Sent>, AllocError> {
         let mut told = Vec::new(alloc);
-        for ino in 1..9 {
+        for ino in self.waited(alloc)?.iter().copied() {
             self.grant_on(ino, &mut told)?;
         }
         Ok(told)
@@ -295,8 +343,21 @@ impl Plain {
         Ok(())
     }
 
+    /// The rows of a file, by rising client.
+    fn rows_of(&self, alloc: Global, ino: u32) -> Result<Vec<Row>, AllocError> {
+        let mut found = Vec::new(alloc);
+        for row in self.rows.iter() {
+            if row.ino == ino {
+                found.push(*row)?;
+            }
+        }
+        found.sort_by_key(|row| row.client)?;
+        Ok(found)
+    }
+
     fn demand_on(
         &mut self,
+        alloc: Global,
         now: u64,
         tick: bool,
         suspects: &[ClientId],
@@ -307,18 +368,16 @@ impl Plain {
             return Ok(());
         };
         let to = if wait.mode == 2 { 0 } else { 1 };
-        for client in 1..17 {
-            if let Some(row) = self.row(client, ino) {
-                let suspect = suspects.iter().any(|other| other.0 == client);
-                if !suspect && stands(row, wait.client, ino, wait.mode) {
-                    self.demand_of(now, tick, row, to, told)?;
-                }
+        for row in self.rows_of(alloc, ino)?.iter().copied() {
+            let suspect = suspects.iter().any(|other| other.0 == row.client);
+            if !suspect && stands(row, wait.client, ino, wait.mode) {
+                self.demand_of(now, tick, row, to, told)?;
             }
         }
         Ok(())
     }
 
-    /// All demands on the files below 9 that are due.
+    /// All demands that are due.
     pub fn demands(
         &mut self,
         alloc: Global,
@@ -327,8 +386,8 @@ impl Plain {
         suspects: &[ClientId],
     ) -> Result<Vec<Sent>, AllocError> {
         let mut told = Vec::new(alloc);
-        for ino in 1..9 {
-            self.demand_on(now, tick, suspects, ino, &mut told)?;
+        for ino in self.waited(alloc)?.iter().copied() {
+            self.demand_on(alloc, now, tick, suspects, ino, &mut told)?;
         }
         Ok(told)
     }
@@ -345,16 +404,13 @@ impl Plain {
     /// The clients with a demand that waits for 10 ticks or longer.
     pub fn unanswered(&self, alloc: Global, now: u64) -> Result<Vec<ClientId>, AllocError> {
         let mut found = Vec::new(alloc);
-        for client in 1..17 {
-            if self
-                .rows
-                .iter()
-                .copied()
-                .any(|row| row.client == client && is_late(row.asked, now))
-            {
-                found.push(ClientId(client))?;
+        for row in self.rows.iter() {
+            if is_late(row.asked, now) {
+                found.push(ClientId(row.client))?;
             }
         }
+        found.sort()?;
+        found.dedup();
         Ok(found)
     }
 
@@ -365,22 +421,21 @@ impl Plain {
         ino: u32,
     ) -> Result<Vec<(ClientId, GrantNo, Mode)>, AllocError> {
         let mut found = Vec::new(alloc);
-        for client in 1..17 {
-            if let Some(row) = self.row(client, ino) {
-                found.push((ClientId(client), GrantNo(row.g), mode(row.mode)))?;
-            }
+        for row in self.rows_of(alloc, ino)?.iter() {
+            found.push((ClientId(row.client), GrantNo(row.g), mode(row.mode)))?;
         }
         Ok(found)
     }
 
-    /// The rows of a client on the files below 9, by rising file.
+    /// The rows of a client, by rising file.
     pub fn of(&self, alloc: Global, client: u16) -> Result<Vec<(u32, GrantNo, Mode)>, AllocError> {
         let mut found = Vec::new(alloc);
-        for ino in 1..9 {
-            if let Some(row) = self.row(client, ino) {
-                found.push((ino, GrantNo(row.g), mode(row.mode)))?;
+        for row in self.rows.iter() {
+            if row.client == client {
+                found.push((row.ino, GrantNo(row.g), mode(row.mode)))?;
             }
         }
+        found.sort_by_key(|row| row.0)?;
         Ok(found)
     }
 

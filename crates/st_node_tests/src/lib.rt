@@ -1,4 +1,4 @@
-//! A node over streams beside those of an independent reading, frames cut at each place, each call failing in turn, and a socket.
+//! A node over streams beside those of an independent reading, a server that was restarted, and a socket.
 #![tactic(auto)]
 
 #[cfg(test)]

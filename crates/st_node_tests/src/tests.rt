@@ -2,12 +2,14 @@ ghost use Rattle.std.specs.Prelude.{◌≤◌, ◌^◌, None, IfOk};
 ghost use Rattle.st_node.specs.Room.{HasRoomFor};
 ghost use Rattle.st_node.specs.Runs.{MOST};
 
-use crate::rows::{ROWS, row};
+use crate::rows::ROWS;
 use st_base::{ClientId, Config, ServerId, Stamp};
 use st_clock::Clock;
-use st_codec::CodecRefusal;
+use st_codec::{CodecRefusal, decode, encode};
 use st_link::{Failed, Link, MemoryLink, Sink, Source, UnixLink};
+use st_messages::{Output, Outputs};
 use st_node::{Node, NodeFault, serve};
+use st_server::{ServerNode, answers_are_named};
 use std::alloc::{AllocError, Global};
 use std::fs;
 use std::io::{Read, Write};
@@ -30,6 +32,19 @@ const CONFIG: Config = Config {
     grain: 1,
 };
 
+/// Settings with a short lease, for streams in which time goes by.
+const SHORT: Config = Config {
+    lease: 100,
+    renew: 50,
+    quiesce: 70,
+    flush: 85,
+    demand: 10,
+    retry: 5,
+    num: 3,
+    den: 2,
+    grain: 2,
+};
+
 /// The frame of a greeting, by which client 1 begins its first life at server 1.
 const GREETING: &str = "00*3 26 01*2 00 01 80 01 00*7 01 00*24";
 
@@ -47,14 +62,14 @@ const QUEUED: &str = "00*3 2b 01 24 80 01 00 01 00*7 01 00*7 01 00*7 01 00*11 02
 const RELEASED: &str =
     "00*3 26 01*2 00 01 80 01 00*7 01 00*27 2b 01 03 00 01 80 01 00*7 01 00*7 01 00*7 01 00*11 02 01 00*3 33 01 04 00 01 80 01 00*7 01 00*7 01 00*7 02 00*10 07 e9 00*6 07 e9 00";
 
-/// Server 1, or client 1.
+/// Server 1, client 1, or client 3 of two servers with a short lease.
 fn fresh(alloc: Global, kind: &str) -> Result<Node, AllocError>
     ensures { IfOk result (λ n. HasRoomFor MOST n) }
 {
-    if kind == "client" {
-        Node::client(alloc, ClientId(1), &CONFIG, 4)
-    } else {
-        Node::server(alloc, ServerId(1), &CONFIG, 4, 4, 4096)
+    match kind {
+        "client" => Node::client(alloc, ClientId(1), &CONFIG, 4),
+        "two" => Node::client(alloc, ClientId(3), &SHORT, 2),
+        _ => Node::server(alloc, ServerId(1), &CONFIG, 4, 4, 4096),
     }
 }
 
@@ -269,53 +284,12 @@ fn is_right(alloc: Global, text: &str) -> Result<bool, AllocError> {
     )
 }
 
-/// Hostile frames, frames that are no input, one reading for each frame, and drawn frames, some with a flipped bit.
+/// Hostile frames, frames that are no input, one reading for each frame, drawn frames, some with a flipped bit, and a client of two servers.
 #[test]
 fn streams_are_served_as_an_independent_reading_serves_them(rt: HostRuntime) -> Result<(), Fail> {
-    for number in 0..ROWS {
-        let right = is_right(rt.alloc(), row(number))?;
-        assert!(rt; right, "row {number}");
-    }
-    Ok(())
-}
-
-#[test]
-fn a_frame_that_is_cut_writes_nothing(rt: HostRuntime) -> Result<(), Fail> {
-    let frame = bytes_of(rt.alloc(), GREETING)?;
-    for at in 1..frame.len() {
-        let right = is_served(
-            rt.alloc(),
-            "server",
-            "0",
-            &frame[..at],
-            b"",
-            "frame cut at 0",
-        )?;
-        assert!(rt; right, "cut at {at}");
-    }
-    Ok(())
-}
-
-/// How a greeting is served where the call of this number fails: the calls are a take, a put, and a take that finds the end.
-fn is_failed(alloc: Global, call: u64, why: &str, want: &str) -> Result<bool, AllocError> {
-    let failing = Vec::from_slice(alloc, &[call])?;
-    let mut link = MemoryLink::new(alloc, bytes_of(alloc, GREETING)?, failing);
-    let served = serve_fresh(alloc, "server", &mut link, "0")?;
-    let want = bytes_of(alloc, want)?;
-    Ok(told(alloc, served)?.as_str() == why && link.as_slice() == want.as_slice())
-}
-
-#[test]
-fn each_call_may_fail(rt: HostRuntime) -> Result<(), Fail> {
-    let table = [
-        (1u64, "read", "-"),
-        (2, "write", "-"),
-        (3, "read", WELCOME),
-        (4, "ok", WELCOME),
-    ];
-    for (call, why, want) in table {
-        let right = is_failed(rt.alloc(), call, why, want)?;
-        assert!(rt; right, "call {call}");
+    for row in ROWS.lines() {
+        let right = is_right(rt.alloc(), row)?;
+        assert!(rt; right, "{row}");
     }
     Ok(())
 }
@@ -347,6 +321,64 @@ fn a_client_releases_what_it_cannot_hold(rt: HostRuntime) -> Result<(), Fail> {
         "ok",
     )?;
     assert!(rt; right);
+    Ok(())
+}
+
+/// What a server that runs again after a crash is told, and what it answers, from an independent reading: a reassertion of file 2's lock; another
+/// client's of a lock that conflicts, and of one that no earlier epoch granted.
+const REASSERTIONS: [(&str, &str); 3] = [
+    (
+        "01 09 00 01 80 01 00*7 01 00*7 02 00*7 01 00*9 01 00*3 02 00*3 01 00*3 01 02",
+        "01 28 80 01 00 01 00*7 01 00*7 02 00*7 01 00*8",
+    ),
+    (
+        "01 09 00 02 80 01 00*7 01 00*7 02 00*7 01 00*9 01 00*3 02 00*3 01 00*3 01*2",
+        "01 22 80 01 00 02 00*7 01 00*7 02 00*7 01 00*8 06 00*7 02 00*7 01",
+    ),
+    (
+        "01 09 00 02 80 01 00*7 01 00*7 02 00*7 01 00*9 01 00*3 02 00*3 02 00*3 01*2",
+        "01 22 80 01 00 02 00*7 01 00*7 02 00*7 01 00*8 07 00*7 02 00*3 02 00*3 01",
+    ),
+];
+
+/// Whether the one output is the message of these bytes.
+fn is_answer(alloc: Global, outputs: &Outputs, want: &[u8]) -> Result<bool, AllocError> {
+    if let [Output::Send(answer)] = outputs.as_slice() {
+        return Ok(answer.fits() && encode(alloc, answer)?.as_slice() == want);
+    }
+    Ok(false)
+}
+
+/// Whether a server that runs answers the message of these bytes with that of the others.
+fn answers(
+    alloc: Global,
+    server: &mut ServerNode,
+    told: &str,
+    want: &str,
+) -> Result<bool, AllocError> {
+    let told = bytes_of(alloc, told)?;
+    let want = bytes_of(alloc, want)?;
+    let Ok(message) = decode(alloc, told.as_slice()) else {
+        return Ok(false);
+    };
+    if !server.running() || !server.has_room() || !message.fits() {
+        return Ok(false);
+    }
+    match answers_are_named(server, Stamp(0), message) {
+        Ok(outputs) => is_answer(alloc, &outputs, want.as_slice()),
+        Err(_) => Ok(false),
+    }
+}
+
+#[test]
+fn a_server_that_was_restarted_answers_reassertions(rt: HostRuntime) -> Result<(), Fail> {
+    let mut server = ServerNode::fresh(rt.alloc(), ServerId(1), &CONFIG, 4, 4, 4096)?;
+    server.crash();
+    server.start(Stamp(0))?;
+    for (told, want) in REASSERTIONS {
+        let right = answers(rt.alloc(), &mut server, told, want)?;
+        assert!(rt; right, "{told}");
+    }
     Ok(())
 }
 

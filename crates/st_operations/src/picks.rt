@@ -41,11 +41,11 @@ impl Test<Operation> for MayAct {
 
 /// The operation of the server's outstanding request.
 #[derive(Clone, Copy)]
-pub struct Asked {
+pub struct RequestingOperation {
     pub server: ServerId,
 }
 
-impl Test<Operation> for Asked {
+impl Test<Operation> for RequestingOperation {
     ghost use Rattle.st_rules.specs.ClientState.{is_asked};
 
     ghost passes = { λ t o. is_asked t.server o };

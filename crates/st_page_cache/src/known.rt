@@ -9,7 +9,7 @@ ghost use Rattle.st_page_cache.specs.Keyed.{known_key, same_key};
 use crate::key::{PageKey, key};
 use indexmap::IndexMap;
 use st_base::{ExtentRow, PageNo};
-use st_rules::{KnownExtent, Mapping};
+use st_rules::{KnownExtent, MappedBlock};
 use std::alloc::{AllocError, Global};
 use std::marker::Model;
 
@@ -30,7 +30,7 @@ fn told(ino: u32, row: &ExtentRow) -> KnownExtent
     KnownExtent {
         ino,
         page: row.page,
-        mapping: Some(Mapping {
+        mapping: Some(MappedBlock {
             at: row.at,
             birth: row.birth,
         }),
@@ -83,7 +83,7 @@ impl KnownExtents {
     }
 
     /// The known mapping of a page.
-    pub fn mapping(&self, ino: u32, page: PageNo) -> Option<Mapping>
+    pub fn mapping(&self, ino: u32, page: PageNo) -> Option<MappedBlock>
         ensures { result ≡ pages.mapping_of self.now ino page }
     {
         match self.get(ino, page) {

@@ -5,10 +5,10 @@
 mod cache;
 mod clean_pages;
 mod dirty_pages;
+mod dirty_places;
 mod key;
 mod known;
-mod placing;
-mod reading;
+mod page_reads;
 mod refusal;
 mod shown;
 

@@ -8,7 +8,7 @@ use Rattle.st_messages.specs.declared.event.Event.{Event}
 use Rattle.st_rules.specs.declared.observation.Observation.{Observation}
 use Rattle.st_rules.specs.declared.observation.WorldRefusal.{WorldRefusal}
 use Rattle.st_rules.specs.World.{World}
-use Rattle.st_rules.specs.Events.{scene, world_step}
+use Rattle.st_rules.specs.Events.{world_turn, world_step}
 use Rattle.st_rules.specs.Run.{Run, run, go_on, behind as run_behind}
 use Rattle.st_rules.specs.Report.{lines, lines_from}
 use Rattle.st_rules.specs.Safety.{is_event}
@@ -44,7 +44,7 @@ run_one n ending os r =
     let more : n + suc (length r.seen) ≡ n + 1 + length r.seen = omega arith in
     ap (λ k. record { front = lines n os ++ lines_from (n + 1) r.seen; last = ended_by k r.world ending r.refused }) more
 
-one_event : (n : ℕ) (w v : World) (os : List Observation) (e : Event) (rest : Schedule) → world_step w e ≡ Ok (scene v os) →
+one_event : (n : ℕ) (w v : World) (os : List Observation) (e : Event) (rest : Schedule) → world_step w e ≡ Ok (world_turn v os) →
     replay_from n w (begin e rest) ≡ behind (lines n os) (replay_from (n + 1) v rest)
 unfolding replay_from run go_on
 one_event n w v os e rest h = ap (λ r. run_from n rest.ending (go_on (run rest.events) w r)) h ∙ run_one n rest.ending os (run rest.events v)
@@ -52,7 +52,7 @@ one_event n w v os e rest h = ap (λ r. run_from n rest.ending (go_on (run rest.
 pub behind_both : (a b : List ℕ) (r : Replay) → behind (a ++ b) r ≡ behind a (behind b r)
 behind_both a b r = ap (λ t. record { front = t; last = r.last }) (append_assoc a b r.front)
 
-pub event_goes : (old new : List ℕ) (n : ℕ) (w v : World) (os : List Observation) (e : Event) (rest : Schedule) → world_step w e ≡ Ok (scene v os) →
+pub event_goes : (old new : List ℕ) (n : ℕ) (w v : World) (os : List Observation) (e : Event) (rest : Schedule) → world_step w e ≡ Ok (world_turn v os) →
     v.tally.events ≡ w.tally.events + 1 → n ≡ w.tally.events + 1 → new ≡ old ++ lines n os →
     behind new (from_world v rest) ≡ behind old (from_world w (begin e rest))
 event_goes old new n w v os e rest h counted number appended =

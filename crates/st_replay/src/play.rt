@@ -89,7 +89,15 @@ fn open(
     ensures unread { OnStop result (λ n f. ⊥) }
 {
     put_opening(text)?;
-    let world = World::new(alloc, config, counts, form)?;
+    let world = World::new(
+        alloc,
+        &config,
+        counts.clients,
+        counts.servers,
+        counts.disks,
+        counts.blocks,
+        form,
+    )?;
     Ok(world)
 }
 

@@ -2,7 +2,7 @@
 //! "Requests", has the rules.
 #![tactic(auto)]
 
-mod asked;
+mod outstanding;
 mod requests;
 
 pub use requests::{Reply, Requests};

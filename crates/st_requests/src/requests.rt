@@ -1,7 +1,7 @@
 ghost use Rattle.std.specs.Prelude.{◌≡◌, ◌+◌, ◌<◌, ◌^◌, IfOk, None, OnErr, OnOk, nat_lt, option_map};
 ghost use Rattle.st_requests.specs.ServerRequests as shown;
 
-use crate::asked::Asked;
+use crate::outstanding::OutstandingRequest;
 use st_base::{ClientId, Epoch, Life, ServerId, Stamp};
 use st_messages::{Body, Message};
 use st_rules::Request;
@@ -25,7 +25,7 @@ pub struct Requests {
     server: ServerId,
     retry: u64,
     next: u64,
-    asked: Option<Asked>,
+    asked: Option<OutstandingRequest>,
 }
 
 impl Model for Requests {
@@ -84,7 +84,7 @@ impl Requests {
         ensures left { OnOk result (self.new ≡ shown.asking (record { life = life; epoch = epoch }) body now self.old) }
         ensures err { OnErr result (self.new ≡ self.old) }
     {
-        let asked = Asked {
+        let asked = OutstandingRequest {
             life,
             epoch,
             request: Request {

@@ -10,3 +10,4 @@ pub mod ClientTables
 pub mod WorldWords
 pub mod CheckWords
 pub mod Broken
+pub mod GeneratedWords

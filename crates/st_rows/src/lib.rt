@@ -1,4 +1,5 @@
 //! Worked rows of the definitions: equations that hold by computation. A wrong definition breaks one.
+//! Worked rows of generated schedules: equations that hold by computation. A wrong definition breaks one.
 #![tactic(auto)]
 
 pub mod broken;
@@ -12,6 +13,10 @@ pub mod client_parts;
 pub mod disks;
 pub mod extents;
 pub mod flat_log;
+pub mod generated_candidates;
+pub mod generated_choices;
+pub mod generated_draws;
+pub mod generated_texts;
 pub mod leases;
 pub mod locks;
 pub mod names;

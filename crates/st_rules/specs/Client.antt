@@ -106,17 +106,17 @@ losses t now = at_each (lose now) t
 
 -- Asks of applications, the first case that stands: 16 are pending; the server is none that is configured; a sync's file has
 -- lost pages of which nobody was told. Else the operation goes last.
-unfoldable pub pend : Turn → ℕ → Ask → Turn
-pend t op ask = keep (new_operation op ask) t
+unfoldable pub enqueue : Turn → ℕ → Ask → Turn
+enqueue t op ask = keep (new_operation op ask) t
 
 -- a sync is told lost pages at once
 unfoldable pub take_sync : Turn → ℕ → Ask → FileId → Turn
-take_sync t op ask f = if pages.has_lost t.here.lost f.ino then tell_lost t op f.ino else pend t op ask
+take_sync t op ask f = if pages.has_lost t.here.lost f.ino then tell_lost t op f.ino else enqueue t op ask
 
 -- a sync, or another ask
 unfoldable pub take_by : Turn → ℕ → Ask → Ask → Turn
 take_by t op ask (asks.Sync f) = take_sync t op ask f
-take_by t op ask other = pend t op ask
+take_by t op ask other = enqueue t op ask
 
 -- an ask at its server
 unfoldable pub take_ask : ℕ → Ask → Turn → Turn
@@ -372,5 +372,5 @@ lives c = map life_of_association c.associations
 
 -- opens all of this file and of the parts
 unfoldable pub client_open : ⊤
-unfolding client_replies_open client_passes_open numbers tell_lost end_sync end_unsent end_operation end_each end_operations lose_session lose_over lose_by lose losses pend take_sync take_by take_ask app_known app filled_by hardened mark_failed failed_as finish_as ended_by finish_command done_by finish_by finish_at finish done take_input work client_step fresh_client crash start node_step
+unfolding client_replies_open client_passes_open numbers tell_lost end_sync end_unsent end_operation end_each end_operations lose_session lose_over lose_by lose losses enqueue take_sync take_by take_ask app_known app filled_by hardened mark_failed failed_as finish_as ended_by finish_command done_by finish_by finish_at finish done take_input work client_step fresh_client crash start node_step
 client_open = tt

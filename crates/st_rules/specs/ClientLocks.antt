@@ -132,8 +132,8 @@ abbrev pub with_demand : DemandedFile → List DemandedFile → List DemandedFil
 with_demand d demanded = without_demand d.ino demanded ++ d ∷ []
 
 -- Seeing: the greatest grant seen of a file becomes this one.
-unfoldable pub see : LockCache → ℕ → GrantNo → LockCache
-see c ino g = record c { seen = with_seen ino g c.seen }
+unfoldable pub observe : LockCache → ℕ → GrantNo → LockCache
+observe c ino g = record c { seen = with_seen ino g c.seen }
 
 -- the grant is above the greatest seen
 abbrev pub is_above_seen : LockCache → ℕ → GrantNo → Bool
@@ -198,7 +198,7 @@ demand_stale c = record { locks = c; asked = Stale }
 
 -- no lock is held
 unfoldable pub demand_unheld : LockCache → ℕ → GrantNo → Demanding
-demand_unheld c ino g = record { locks = see c ino (greater_grant (seen_of c ino) g); asked = NotHeld }
+demand_unheld c ino g = record { locks = observe c ino (greater_grant (seen_of c ino) g); asked = NotHeld }
 
 -- by the lock's grant
 unfoldable pub demand_held : LockCache → ℕ → GrantNo → Mode → HeldLock → Demanding
@@ -251,5 +251,5 @@ forget_demands c = record c { demanded = [] }
 
 -- opens all of this file
 unfoldable pub client_locks_open : ⊤
-unfolding keys_open all_locks see installed install_grant demand_lock demand_stale demand_unheld demand_held demand_at demand lower reduce_lock reduce_at reduce drop_lock forget_demands
+unfolding keys_open all_locks observe installed install_grant demand_lock demand_stale demand_unheld demand_held demand_at demand lower reduce_lock reduce_at reduce drop_lock forget_demands
 client_locks_open = tt

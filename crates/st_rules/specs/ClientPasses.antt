@@ -32,7 +32,7 @@ use Rattle.st_rules.specs.declared.client.IoKind.{IoKind}
 use Rattle.st_rules.specs.declared.client.IoKind.TheVariants.{Read, Write}
 use Rattle.st_rules.specs.declared.client.KnownExtent.{KnownExtent}
 use Rattle.st_rules.specs.declared.client.LockWait.{LockWait}
-use Rattle.st_rules.specs.declared.client.Mapping.{Mapping}
+use Rattle.st_rules.specs.declared.client.MappedBlock.{MappedBlock}
 use Rattle.st_rules.specs.declared.client.Operation.{Operation}
 use Rattle.st_rules.specs.declared.client.Release.{Release}
 use Rattle.st_rules.specs.declared.client.Request.{Request}
@@ -60,15 +60,15 @@ with_command ino p kind t =
     }
 
 -- a command is submitted
-unfoldable pub submit_command : Turn → ℕ → PageNo → IoKind → Mapping → Command → Turn
+unfoldable pub submit_command : Turn → ℕ → PageNo → IoKind → MappedBlock → Command → Turn
 submit_command t ino p kind m what = say (with_command ino p kind t) (outputs.Submit t.next_command m.at what)
 
 -- a read of a page
-unfoldable pub submit_read : Turn → ℕ → PageNo → Mapping → Turn
+unfoldable pub submit_read : Turn → ℕ → PageNo → MappedBlock → Turn
 submit_read t ino p m = submit_command t ino p Read m (commands.Read m.at)
 
 -- a write of a dirty page
-unfoldable pub submit_write : Turn → DirtyPage → Mapping → Turn
+unfoldable pub submit_write : Turn → DirtyPage → MappedBlock → Turn
 submit_write t d m =
     submit_command t d.ino d.page (Write d.version) m (commands.Write m.at (record { file = file t d.ino; page = d.page; birth = m.birth }) d.bytes)
 
@@ -116,11 +116,11 @@ unfoldable pub write : Turn → ClientSession → Operation → FileId → PageN
 write t s o f p bytes = if may_write t s f p then change_page t o f p bytes (notes.Accepted f p bytes) else keep o t
 
 -- Fetching: a mapped page that is neither dirty nor clean is read from its disk, unless that is under way. The operation waits.
-unfoldable pub fetch_mapped : Turn → FileId → PageNo → Mapping → Turn
+unfoldable pub fetch_mapped : Turn → FileId → PageNo → MappedBlock → Turn
 fetch_mapped t f p m = if pages.is_being_read t.here.store.commands f.ino p then t else submit_read t f.ino p m
 
 -- where it is mapped
-unfoldable pub fetch_at : Turn → FileId → PageNo → Option Mapping → Turn
+unfoldable pub fetch_at : Turn → FileId → PageNo → Option MappedBlock → Turn
 fetch_at t f p None = t
 fetch_at t f p (Some m) = fetch_mapped t f p m
 
@@ -147,7 +147,7 @@ unfoldable pub read_cached : Turn → Operation → FileId → PageNo → List �
 read_cached t o f p bytes = answer o (answers.Read bytes) (with_store (record t.here.store { pages = pages.use_page t.here.store.pages f.ino p }) t)
 
 -- what is known of its place
-unfoldable pub read_known : Turn → Operation → FileId → PageNo → KnownExtent → Option Mapping → Turn
+unfoldable pub read_known : Turn → Operation → FileId → PageNo → KnownExtent → Option MappedBlock → Turn
 read_known t o f p e None = answer o (answers.Read (filled 0)) t
 read_known t o f p e (Some m) = fetch t o f p
 
@@ -289,7 +289,7 @@ abbrev pub is_writable : Turn → ClientSession → Stamp → Bool → DirtyPage
 is_writable t s now tick d = not (pages.is_being_written t.here.store.commands d.ino d.page) && is_due t s now tick d
 
 -- where it lies
-unfoldable pub write_out_at : Turn → DirtyPage → Option Mapping → Turn
+unfoldable pub write_out_at : Turn → DirtyPage → Option MappedBlock → Turn
 write_out_at t d None = t
 write_out_at t d (Some m) = submit_write t d m
 

@@ -114,7 +114,7 @@ accept_grant s ino g mode = with_cache (locks.installed s.locks ino g mode) s
 
 -- the grant is given back
 unfoldable pub decline : ClientSession → ℕ → GrantNo → ClientSession
-decline s ino g = with_release ino g modes.None (with_cache (locks.see s.locks ino g) s)
+decline s ino g = with_release ino g modes.None (with_cache (locks.observe s.locks ino g) s)
 
 -- a grant above the greatest seen
 unfoldable pub grant_new : ClientSession → ℕ → GrantNo → Mode → ClientSession
@@ -383,12 +383,12 @@ abbrev pub is_heard : Turn → Stamp → Header → Bool
 is_heard t now h = (h.from == server_node t.here.server) && ((h.life == t.here.life.0) && nat_le h.stamp now.0)
 
 -- at a server: whether it is from there
-unfoldable pub hear : Stamp → Header → Body → Turn → Turn
-hear now h body t = if is_heard t now h then by_session t now h body t.here.session else t
+unfoldable pub receive_at : Stamp → Header → Body → Turn → Turn
+receive_at now h body t = if is_heard t now h then by_session t now h body t.here.session else t
 
 -- it is to this client
 unfoldable pub receive_here : ClientTurn → Stamp → Header → Body → ClientTurn
-receive_here t now h body = at_each (hear now h body) t
+receive_here t now h body = at_each (receive_at now h body) t
 
 -- Receiving
 unfoldable pub receive : ClientTurn → Stamp → Header → Body → ClientTurn
@@ -396,5 +396,5 @@ receive t now h body = if h.to == t.state.id.0 then receive_here t now h body el
 
 -- opens all of this file and of the state
 unfoldable pub client_replies_open : ⊤
-unfolding client_state_open note_lease begin_session welcome without_session follow_epoch newer_epoch of_other_epoch condemn accept_grant decline grant_new grant granted wait_told wait_unless_held queued learn extents acknowledged drop_lock drop_held removed named_as named reasserted refuse_file refuse_page refuse_holder refuse_as leave_stuck refused effect note_renewal end_request reply_to count_reply by_request counted reply_of grant_or_reply release_unheld see_demand demand_as demand_by demand of_epoch with_a_session by_session hear receive_here receive send
+unfolding client_state_open note_lease begin_session welcome without_session follow_epoch newer_epoch of_other_epoch condemn accept_grant decline grant_new grant granted wait_told wait_unless_held queued learn extents acknowledged drop_lock drop_held removed named_as named reasserted refuse_file refuse_page refuse_holder refuse_as leave_stuck refused effect note_renewal end_request reply_to count_reply by_request counted reply_of grant_or_reply release_unheld see_demand demand_as demand_by demand of_epoch with_a_session by_session receive_at receive_here receive send
 client_replies_open = tt

@@ -65,17 +65,17 @@ use Rattle.st_rules.specs.World.{World, ClientSite, with_numbered, site_of, node
 use Rattle.st_rules.specs.Admissible.{is_link, is_open, reaches, step_of, refusal, admissible_open}
 
 -- A step so far: the world, and what was observed, in order.
-pub record Scene : Type 0 where
+pub record WorldTurn : Type 0 where
   pub world : World
   pub seen : List Observation
 
 -- a step that begins
-abbrev pub scene : World → List Observation → Scene
-scene w os = record { world = w; seen = os }
+abbrev pub world_turn : World → List Observation → WorldTurn
+world_turn w os = record { world = w; seen = os }
 
 -- one more observation
-abbrev pub see : World → Scene → Observation → Scene
-see w sc o = record { world = w; seen = sc.seen ++ o ∷ [] }
+abbrev pub observe : World → WorldTurn → Observation → WorldTurn
+observe w sc o = record { world = w; seen = sc.seen ++ o ∷ [] }
 
 -- Changes of one part.
 
@@ -100,8 +100,8 @@ abbrev pub with_message : Message → World → World
 with_message m w = record w { net = record w.net { messages = w.net.messages ++ record { message = m; lost = false } ∷ []; bytes = w.net.bytes + size_of m } }
 
 -- Sending
-unfoldable pub sends : Scene → Message → Scene
-sends sc m = see (with_message m sc.world) sc (seen.Sent (length sc.world.net.messages + 1) m)
+unfoldable pub sends : WorldTurn → Message → WorldTurn
+sends sc m = observe (with_message m sc.world) sc (seen.Sent (length sc.world.net.messages + 1) m)
 
 -- Submitting: the command is the last one. A write carries the latest entry of its client to its page.
 abbrev pub is_entry_of : ClientId → FileId → PageNo → LogEntry → Bool
@@ -146,10 +146,10 @@ abbrev pub with_command : IssuedCommand → Command → World → World
 with_command c what w = record w { disks = disks.submit w.disks what; commands = w.commands ++ c ∷ [] }
 
 -- Submitting
-unfoldable pub submits : Scene → ClientId → Option ClientSite → ℕ → BlockAt → Command → Scene
+unfoldable pub submits : WorldTurn → ClientId → Option ClientSite → ℕ → BlockAt → Command → WorldTurn
 submits sc c None number at what = sc
 submits sc c (Some site) number at what =
-    see (with_command (issued sc.world c site number at what) what sc.world) sc (seen.Submitted (length sc.world.commands + 1) c number what)
+    observe (with_command (issued sc.world c site number at what) what sc.world) sc (seen.Submitted (length sc.world.commands + 1) c number what)
 
 -- Answering: reads are counted.
 abbrev pub reads_in : AppAnswer → ℕ
@@ -161,8 +161,8 @@ abbrev pub with_read : AppAnswer → World → World
 with_read answer w = record w { tally = record w.tally { reads = w.tally.reads + reads_in answer } }
 
 -- Answering
-unfoldable pub answers_with : Scene → ClientId → ℕ → AppAnswer → Scene
-answers_with sc c op answer = see (with_read answer sc.world) sc (seen.Answered c op answer)
+unfoldable pub answers_with : WorldTurn → ClientId → ℕ → AppAnswer → WorldTurn
+answers_with sc c op answer = observe (with_read answer sc.world) sc (seen.Answered c op answer)
 
 -- Notes of a client: an accepted write or patch joins the log, under the client's life at the file's server; a lease that was
 -- lost leaves its life with the end that it had.
@@ -180,14 +180,14 @@ abbrev pub with_log : List LogEntry → World → World
 with_log es w = record w { log = es }
 
 -- an accepted write
-unfoldable pub accepts : Scene → ClientId → FileId → PageNo → List ℕ → Scene
+unfoldable pub accepts : WorldTurn → ClientId → FileId → PageNo → List ℕ → WorldTurn
 accepts sc c f p bytes =
-    see (with_log (log.accept sc.world.log c (present_life sc.world c f.server) f p bytes) sc.world) sc (seen.Wrote (length sc.world.log + 1) c f p bytes)
+    observe (with_log (log.accept sc.world.log c (present_life sc.world c f.server) f p bytes) sc.world) sc (seen.Wrote (length sc.world.log + 1) c f p bytes)
 
 -- an accepted patch
-unfoldable pub patches : Scene → ClientId → FileId → PageNo → ℕ → List ℕ → Scene
+unfoldable pub patches : WorldTurn → ClientId → FileId → PageNo → ℕ → List ℕ → WorldTurn
 patches sc c f p at bytes =
-    see
+    observe
     (with_log (log.patch sc.world.log c (present_life sc.world c f.server) f p at bytes) sc.world)
     sc
     (seen.Patched (length sc.world.log + 1) c f p at bytes)
@@ -201,26 +201,26 @@ abbrev pub with_ended : LeaseLife → World → World
 with_ended e w = record w { ended = w.ended ++ e ∷ [] }
 
 -- a lease that was lost
-unfoldable pub loses : Scene → ClientId → ClientState → ServerId → Life → Scene
-loses sc c before s life = see (with_ended (life_over c s life (client.lease_end_with before s)) sc.world) sc (seen.Lost c s life)
+unfoldable pub loses : WorldTurn → ClientId → ClientState → ServerId → Life → WorldTurn
+loses sc c before s life = observe (with_ended (life_over c s life (client.lease_end_with before s)) sc.world) sc (seen.Lost c s life)
 
 -- a note of a client, which was in this state before its step
-unfoldable pub client_notes : Scene → ClientId → ClientState → Note → Scene
-client_notes sc c before (notes.Leased s end) = see sc.world sc (seen.Leased c s end)
+unfoldable pub client_notes : WorldTurn → ClientId → ClientState → Note → WorldTurn
+client_notes sc c before (notes.Leased s end) = observe sc.world sc (seen.Leased c s end)
 client_notes sc c before (notes.Lost s life) = loses sc c before s life
 client_notes sc c before (notes.Accepted f p bytes) = accepts sc c f p bytes
 client_notes sc c before (notes.Patched f p at bytes) = patches sc c f p at bytes
 client_notes sc c before note = sc
 
 -- an output of a client
-unfoldable pub client_says : Scene → ClientId → ClientState → Output → Scene
+unfoldable pub client_says : WorldTurn → ClientId → ClientState → Output → WorldTurn
 client_says sc c before (outputs.Send m) = sends sc m
 client_says sc c before (outputs.Submit number at what) = submits sc c (site_of sc.world c) number at what
 client_says sc c before (outputs.Answer op answer) = answers_with sc c op answer
 client_says sc c before (outputs.Note n) = client_notes sc c before n
 
 -- the outputs of a client, in order
-unfoldable pub client_says_all : ClientId → ClientState → List Output → Scene → Scene
+unfoldable pub client_says_all : ClientId → ClientState → List Output → WorldTurn → WorldTurn
 client_says_all c before [] sc = sc
 client_says_all c before (o ∷ os) sc = client_says_all c before os (client_says sc c before o)
 
@@ -252,24 +252,24 @@ flushes c state [] w = w
 flushes c state (s ∷ ss) w = flushes c state ss (flushed_at w c s state)
 
 -- with the flush steps of a client
-abbrev pub with_flushes : ClientId → ClientState → Scene → Scene
-with_flushes c state sc = scene (flushes c state (all_servers sc.world) sc.world) sc.seen
+abbrev pub with_flushes : ClientId → ClientState → WorldTurn → WorldTurn
+with_flushes c state sc = world_turn (flushes c state (all_servers sc.world) sc.world) sc.seen
 
 -- nothing is observed
-abbrev pub quiet : World → Scene
-quiet w = scene w []
+abbrev pub quiet : World → WorldTurn
+quiet w = world_turn w []
 
 -- A step of a client. One that does not run takes none.
-unfoldable pub client_took : World → ClientId → ClientSite → Result client.NodeTurn StepRefusal → Scene
+unfoldable pub client_took : World → ClientId → ClientSite → Result client.NodeTurn StepRefusal → WorldTurn
 client_took w c site (Ok t) = with_flushes c t.node.state (client_says_all c site.node.state t.out (quiet (with_site c (at_node t.node site) w)))
 client_took w c site (Err r) = quiet w
 
 -- a client takes an input at its clock
-unfoldable pub client_takes : World → ClientId → ClientInput → ClientSite → Scene
+unfoldable pub client_takes : World → ClientId → ClientInput → ClientSite → WorldTurn
 client_takes w c input site = client_took w c site (client.node_step site.node (clock_of w (nodes.Client c)) input)
 
 -- a client that is there takes an input
-unfoldable pub at_client : World → ClientId → ClientInput → Option ClientSite → Scene
+unfoldable pub at_client : World → ClientId → ClientInput → Option ClientSite → WorldTurn
 at_client w c input None = quiet w
 at_client w c input (Some site) = client_takes w c input site
 
@@ -278,43 +278,43 @@ abbrev pub with_theft : World → World
 with_theft w = record w { tally = record w.tally { stolen = w.tally.stolen + 1 } }
 
 -- a cut that was done
-unfoldable pub cuts : Scene → FileId → PageNo → Scene
-cuts sc f p = see (with_log (log.cut sc.world.log f p) sc.world) sc (seen.CutAt (length sc.world.log + 1) f p)
+unfoldable pub cuts : WorldTurn → FileId → PageNo → WorldTurn
+cuts sc f p = observe (with_log (log.cut sc.world.log f p) sc.world) sc (seen.CutAt (length sc.world.log + 1) f p)
 
 -- a note of a server
-unfoldable pub server_notes : Scene → ServerId → Note → Scene
-server_notes sc s (notes.Suspected c start) = see sc.world sc (seen.Suspected s c start)
-server_notes sc s (notes.Stolen c life) = see (with_theft sc.world) sc (seen.Stolen s c life)
+unfoldable pub server_notes : WorldTurn → ServerId → Note → WorldTurn
+server_notes sc s (notes.Suspected c start) = observe sc.world sc (seen.Suspected s c start)
+server_notes sc s (notes.Stolen c life) = observe (with_theft sc.world) sc (seen.Stolen s c life)
 server_notes sc s (notes.CutDone f p) = cuts sc f p
 server_notes sc s note = sc
 
 -- an output of a server
-unfoldable pub server_says : Scene → ServerId → Output → Scene
+unfoldable pub server_says : WorldTurn → ServerId → Output → WorldTurn
 server_says sc s (outputs.Send m) = sends sc m
 server_says sc s (outputs.Note n) = server_notes sc s n
 server_says sc s output = sc
 
 -- the outputs of a server, in order
-unfoldable pub server_says_all : ServerId → List Output → Scene → Scene
+unfoldable pub server_says_all : ServerId → List Output → WorldTurn → WorldTurn
 server_says_all s [] sc = sc
 server_says_all s (o ∷ os) sc = server_says_all s os (server_says sc s o)
 
 -- a server's step; one that does not run takes none
-unfoldable pub server_took : World → ServerId → Result server.NodeTurn StepRefusal → Scene
+unfoldable pub server_took : World → ServerId → Result server.NodeTurn StepRefusal → WorldTurn
 server_took w s (Ok t) = server_says_all s t.out (quiet (with_node s t.node w))
 server_took w s (Err r) = quiet w
 
 -- a server takes an input at its clock
-unfoldable pub server_takes : World → ServerId → ServerInput → ServerNode → Scene
+unfoldable pub server_takes : World → ServerId → ServerInput → ServerNode → WorldTurn
 server_takes w s input node = server_took w s (server.node_step node (clock_of w (nodes.Server s)) input)
 
 -- a server that is there takes an input
-unfoldable pub at_server : World → ServerId → ServerInput → Option ServerNode → Scene
+unfoldable pub at_server : World → ServerId → ServerInput → Option ServerNode → WorldTurn
 at_server w s input None = quiet w
 at_server w s input (Some node) = server_takes w s input node
 
 -- Tick
-unfoldable pub ticks : World → NodeId → Scene
+unfoldable pub ticks : World → NodeId → WorldTurn
 ticks w (nodes.Client c) = at_client w c inputs.Tick (site_of w c)
 ticks w (nodes.Server s) = at_server w s serving.Tick (node_of w s)
 
@@ -323,17 +323,17 @@ abbrev pub asked_once_more : ClientSite → ClientSite
 asked_once_more site = record site { asks = site.asks + 1 }
 
 -- an ask of a client that is there
-unfoldable pub asks_at : World → ClientId → Ask → Option ClientSite → Scene
+unfoldable pub asks_at : World → ClientId → Ask → Option ClientSite → WorldTurn
 asks_at w c ask None = quiet w
 asks_at w c ask (Some site) = client_takes w c (inputs.App (site.asks + 1) ask) (asked_once_more site)
 
 -- Delivery
-unfoldable pub delivers_to : World → Message → NodeId → Scene
+unfoldable pub delivers_to : World → Message → NodeId → WorldTurn
 delivers_to w m (nodes.Client c) = at_client w c (inputs.Control m) (site_of w c)
 delivers_to w m (nodes.Server s) = at_server w s (serving.Control m) (node_of w s)
 
 -- the message of a number is delivered
-unfoldable pub delivers : World → Option SentMessage → Scene
+unfoldable pub delivers : World → Option SentMessage → WorldTurn
 delivers w None = quiet w
 delivers w (Some m) = delivers_to w m.message (receiver_of m)
 
@@ -367,8 +367,8 @@ fates_from number (e ∷ es) [] = []
 fates_from number (e ∷ es) (f ∷ fs) = fate_seen number e.fate f.fate ++ fates_from (number + 1) es fs
 
 -- a world whose log has new fates
-unfoldable pub marks : World → List LogEntry → Scene
-marks w new = scene (with_log new w) (fates_from 1 w.log new)
+unfoldable pub marks : World → List LogEntry → WorldTurn
+marks w new = world_turn (with_log new w) (fates_from 1 w.log new)
 
 -- Effect: of the disks' command; a write makes the entry that it carries hard, and the earlier pending ones of the same
 -- client, life, file and page.
@@ -391,7 +391,7 @@ carried_by None = None
 carried_by (Some c) = c.carries
 
 -- the command of a number has its effect
-unfoldable pub effects : World → ℕ → Scene
+unfoldable pub effects : World → ℕ → WorldTurn
 effects w k = marks (with_disks (disks_after w.disks (disks.effect w.disks k)) w) (log_hard w.log (carried_by (issued_of w k)))
 
 -- Report: it ends the command. The client takes it, where the instance that submitted the command still runs.
@@ -412,21 +412,21 @@ abbrev pub end_told : World → ℕ → Bool → IssuedCommand → ClientInput
 end_told w k ok c = inputs.Done c.number (result_of ok (disks.sample w.disks k))
 
 -- a client is told, or runs no more
-unfoldable pub tells_site : World → ℕ → Bool → IssuedCommand → ClientSite → Scene
+unfoldable pub tells_site : World → ℕ → Bool → IssuedCommand → ClientSite → WorldTurn
 tells_site w k ok c site = if is_same_instance c site then client_takes w c.client (end_told w k ok c) site else quiet w
 
 -- a client that is there is told
-unfoldable pub tells_client : World → ℕ → Bool → IssuedCommand → Option ClientSite → Scene
+unfoldable pub tells_client : World → ℕ → Bool → IssuedCommand → Option ClientSite → WorldTurn
 tells_client w k ok c None = quiet w
 tells_client w k ok c (Some site) = tells_site w k ok c site
 
 -- the client of a command is told
-unfoldable pub tells : World → ℕ → Bool → Option IssuedCommand → Scene
+unfoldable pub tells : World → ℕ → Bool → Option IssuedCommand → WorldTurn
 tells w k ok None = quiet w
 tells w k ok (Some c) = tells_client w k ok c (site_of w c.client)
 
 -- the command of a number is reported
-unfoldable pub reports_of : World → ℕ → Bool → Scene
+unfoldable pub reports_of : World → ℕ → Bool → WorldTurn
 reports_of w k ok = tells (with_disks (disks_after w.disks (disks.done w.disks k ok)) w) k ok (issued_of w k)
 
 -- Advance: all clocks advance, also those of nodes that do not run. Where a client's clock reaches the lease end of a life at
@@ -498,7 +498,7 @@ unfoldable pub lives_reached : World → List ℕ → List LeaseLife
 lives_reached w steps = filter (is_reached w steps) (present_lives w.clients ++ w.ended)
 
 -- Advance
-unfoldable pub advances : World → List ℕ → Scene
+unfoldable pub advances : World → List ℕ → WorldTurn
 advances w steps = marks (with_clocks steps w) (log_ended_all w.commands (lives_reached w steps) w.log)
 
 -- Crash of a client: its lives end, with the lease ends that they had; its pending entries are gone, but for those that an
@@ -536,7 +536,7 @@ abbrev pub stopped_site : ClientSite → ClientSite
 stopped_site site = record site { node = client.crash_node site.node }
 
 -- a client that is there crashes
-unfoldable pub crashes_client : World → ClientId → Option ClientSite → Scene
+unfoldable pub crashes_client : World → ClientId → Option ClientSite → WorldTurn
 crashes_client w c None = quiet w
 crashes_client w c (Some site) = marks (with_site c (stopped_site site) (with_crashed_lives site w)) (log_crashed w c)
 
@@ -546,7 +546,7 @@ crashes_server w s None = w
 crashes_server w s (Some node) = with_node s (server.crash_node node) w
 
 -- Crash
-unfoldable pub crashes : World → NodeId → Scene
+unfoldable pub crashes : World → NodeId → WorldTurn
 crashes w (nodes.Client c) = crashes_client w c (site_of w c)
 crashes w (nodes.Server s) = quiet (crashes_server w s (node_of w s))
 
@@ -570,7 +570,7 @@ starts w (nodes.Client c) = starts_client w c (site_of w c)
 starts w (nodes.Server s) = starts_server w s (node_of w s)
 
 -- What an admissible event does.
-unfoldable pub happens : World → Event → Scene
+unfoldable pub happens : World → Event → WorldTurn
 happens w (events.Tick n) = ticks w n
 happens w (events.App c ask) = asks_at w c ask (site_of w c)
 happens w (events.Deliver k) = delivers w (message_of w k)
@@ -584,12 +584,12 @@ happens w (events.Crash n) = crashes w n
 happens w (events.Start n) = quiet (starts w n)
 
 -- an event that is refused changes nothing
-unfoldable pub world_by : World → Event → Option WorldRefusal → Result Scene WorldRefusal
+unfoldable pub world_by : World → Event → Option WorldRefusal → Result WorldTurn WorldRefusal
 world_by w e None = Ok (happens (counted w) e)
 world_by w e (Some r) = Err r
 
 -- The step: of an event that is admissible, or its refusal.
-unfoldable pub world_step : World → Event → Result Scene WorldRefusal
+unfoldable pub world_step : World → Event → Result WorldTurn WorldRefusal
 world_step w e = world_by w e (refusal w e)
 
 -- Summary: what is counted of a world. A cut is no write.

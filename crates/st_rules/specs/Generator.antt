@@ -15,7 +15,7 @@ use Rattle.st_rules.specs.declared.observation.WorldRefusal.{WorldRefusal}
 use Rattle.st_rules.specs.Keys.{client, page_no}
 use Rattle.st_rules.specs.World.{World, server, fresh_world}
 use Rattle.st_rules.specs.Admissible.{refusal}
-use Rattle.st_rules.specs.Events.{Scene, world_step, summary}
+use Rattle.st_rules.specs.Events.{WorldTurn, world_step, summary}
 use Rattle.st_rules.specs.Run.{run, run_open}
 
 -- Draws. The state of the numbers begins as the seed, and each draw begins with a next state.
@@ -222,7 +222,7 @@ chosen w x = choice 16 w x
 -- The events of a schedule.
 
 -- the world behind an event
-unfoldable pub world_left : World → Result Scene WorldRefusal → World
+unfoldable pub world_left : World → Result WorldTurn WorldRefusal → World
 world_left w (Ok sc) = sc.world
 world_left w (Err f) = w
 

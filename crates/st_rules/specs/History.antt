@@ -23,7 +23,7 @@ use Rattle.st_rules.specs.ClientState.{ClientSession, Association}
 use Rattle.st_rules.specs.Client.{association_with}
 use Rattle.st_rules.specs.Server.{ServerNode}
 use Rattle.st_rules.specs.World.{World, ClientSite, site_of, node_of}
-use Rattle.st_rules.specs.Events.{Scene, world_step, present_life}
+use Rattle.st_rules.specs.Events.{WorldTurn, world_step, present_life}
 use Rattle.st_rules.specs.Run.{Run, run}
 
 -- A timer that runs, and how many messages had been sent before the event that started it.
@@ -188,7 +188,7 @@ remember (events.Crash (nodes.Server s)) h = without_timers s h
 remember e h = h
 
 -- the history after an event, by the event and by what was observed
-abbrev pub history_after : World → Event → Scene → History → History
+abbrev pub history_after : World → Event → WorldTurn → History → History
 history_after w e sc h = recall_all w sc.world sc.seen (remember e h)
 
 -- A traced run: the world beside its history.
@@ -214,7 +214,7 @@ abbrev pub no_traced : Traced → Option WorldRefusal → TracedRun
 no_traced t refused = record { run = record { world = t.world; seen = []; refused = refused }; history = t.history }
 
 -- the world and the history after an event
-abbrev pub traced_after : Event → Traced → Scene → Traced
+abbrev pub traced_after : Event → Traced → WorldTurn → Traced
 traced_after e t sc = record { world = sc.world; history = history_after t.world e sc t.history }
 
 -- a traced run behind what was observed at its first event
@@ -222,7 +222,7 @@ abbrev pub traced_behind : List Observation → TracedRun → TracedRun
 traced_behind os r = record { run = record { world = r.run.world; seen = os ∷ r.run.seen; refused = r.run.refused }; history = r.history }
 
 -- the rest of a traced run, behind its first event
-unfoldable pub trace_on : (Traced → TracedRun) → Event → Traced → Result Scene WorldRefusal → TracedRun
+unfoldable pub trace_on : (Traced → TracedRun) → Event → Traced → Result WorldTurn WorldRefusal → TracedRun
 trace_on rest e t (Err r) = no_traced t (Some r)
 trace_on rest e t (Ok sc) = traced_behind sc.seen (rest (traced_after e t sc))
 

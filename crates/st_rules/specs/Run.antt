@@ -4,7 +4,7 @@ use Rattle.st_messages.specs.declared.event.Event.{Event}
 use Rattle.st_rules.specs.declared.observation.Observation.{Observation}
 use Rattle.st_rules.specs.declared.observation.WorldRefusal.{WorldRefusal}
 use Rattle.st_rules.specs.World.{World}
-use Rattle.st_rules.specs.Events.{Scene, world_step, events_open}
+use Rattle.st_rules.specs.Events.{WorldTurn, world_step, events_open}
 
 -- A run: its last world, what was observed at each event, and the refusal that ended it, if one did.
 pub record Run : Type 0 where
@@ -21,7 +21,7 @@ abbrev pub behind : List (List Observation) → Run → Run
 behind seen r = record { world = r.world; seen = seen ++ r.seen; refused = r.refused }
 
 -- the rest of a run, behind its first event
-unfoldable pub go_on : (World → Run) → World → Result Scene WorldRefusal → Run
+unfoldable pub go_on : (World → Run) → World → Result WorldTurn WorldRefusal → Run
 go_on rest w (Err r) = no_run w (Some r)
 go_on rest w (Ok sc) = behind (sc.seen ∷ []) (rest sc.world)
 

@@ -57,7 +57,7 @@ use Rattle.st_rules.specs.Server as server
 use Rattle.st_rules.specs.Server.{ServerNode}
 use Rattle.st_rules.specs.Sessions as sessions
 use Rattle.st_rules.specs.World.{World, ClientSite, site_of, node_of, same_node, all_clients, all_servers, clock_of, message_of, receiver_of, issued_of, server_of_disk, numbered, present_end, lease_end_of, fresh_world}
-use Rattle.st_rules.specs.Events.{Scene, world_step, present_life, present_lives, is_same_instance, is_hard_fate, last_write}
+use Rattle.st_rules.specs.Events.{WorldTurn, world_step, present_life, present_lives, is_same_instance, is_hard_fate, last_write}
 use Rattle.st_rules.specs.Run.{run}
 use Rattle.st_rules.specs.Lines.{AtEach, IsLogTold, lines_open}
 use Rattle.st_rules.specs.Dating.{dates_it, dating_open}
@@ -71,11 +71,11 @@ pub record Step : Type 0 where
   pub after : Traced
 
 -- the step of an event
-abbrev pub step : Traced → Event → Scene → Step
+abbrev pub step : Traced → Event → WorldTurn → Step
 step t e sc = record { before = t; event = e; seen = sc.seen; after = traced_after e t sc }
 
 -- the steps from an event on
-unfoldable pub steps_on : (Traced → List Step) → Traced → Event → Result Scene WorldRefusal → List Step
+unfoldable pub steps_on : (Traced → List Step) → Traced → Event → Result WorldTurn WorldRefusal → List Step
 steps_on rest t e (Err r) = []
 steps_on rest t e (Ok sc) = step t e sc ∷ rest (traced_after e t sc)
 

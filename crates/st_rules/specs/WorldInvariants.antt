@@ -9,7 +9,7 @@ use Rattle.st_base.specs.declared.rows.ExtentRow.{ExtentRow}
 use Rattle.st_messages.specs.declared.message.Body.{Body}
 use Rattle.st_messages.specs.declared.message.Body.TheVariants as bodies
 use Rattle.st_rules.specs.declared.client.KnownExtent.{KnownExtent}
-use Rattle.st_rules.specs.declared.client.Mapping.{Mapping}
+use Rattle.st_rules.specs.declared.client.MappedBlock.{MappedBlock}
 use Rattle.st_rules.specs.declared.extents.Extent.{Extent}
 use Rattle.st_rules.specs.declared.world.SentMessage.{SentMessage}
 use Rattle.st_rules.specs.Keys.{same_server}
@@ -47,7 +47,7 @@ abbrev pub tells_own : World → SentMessage → Bool
 tells_own w m = tells_own_rows w (sender_of m) m.message.body
 
 -- a known mapping lies on a disk of this server
-abbrev pub is_own_mapping : World → ServerId → Option Mapping → Bool
+abbrev pub is_own_mapping : World → ServerId → Option MappedBlock → Bool
 is_own_mapping w s None = true
 is_own_mapping w s (Some m) = is_on_disk_of w s m.at
 

@@ -82,7 +82,7 @@ pub enum Asked {
 
 /// The block of a mapped page, and the birth of its mapping.
 #[derive(Clone, Copy, Debug, PartialEq, Eq)]
-pub struct Mapping {
+pub struct MappedBlock {
     pub at: BlockAt,
     pub birth: u64,
 }
@@ -92,7 +92,7 @@ pub struct Mapping {
 pub struct KnownExtent {
     pub ino: u32,
     pub page: PageNo,
-    pub mapping: Option<Mapping>,
+    pub mapping: Option<MappedBlock>,
 }
 
 /// A page in a client's cache that is as on its disk.

@@ -21,8 +21,8 @@ mod world;
 pub use authority::{AcceptRefusal, Suspect};
 pub use client::{
     Asked, CleanPage, ClientInput, DemandedFile, Ended, HeldLock, IoKind, KnownExtent, LockWait,
-    LostPage, Mapping, Operation, PageCommand, Release, Request, SeenGrant, Stage, StandingKind,
-    WriteRefusal,
+    LostPage, MappedBlock, Operation, PageCommand, Release, Request, SeenGrant, Stage,
+    StandingKind, WriteRefusal,
 };
 pub use disks::{Block, CommandRefusal, DiskCommand, Report};
 pub use extents::{AllocateRefusal, Extent};

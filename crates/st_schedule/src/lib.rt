@@ -7,7 +7,7 @@ mod fault;
 mod head;
 mod law;
 mod next_word;
-mod printing;
+mod printer;
 mod reader;
 mod verb;
 mod word_values;
@@ -17,5 +17,5 @@ pub use law::{
     lines_are_read_as_they_are_spelled, printed_lines_are_read_back, what_is_read_is_spelled_so,
     what_spells_an_event_is_read_so, words_spell_one_event,
 };
-pub use printing::print;
+pub use printer::print;
 pub use reader::{Line, Progress, ScheduleReader};

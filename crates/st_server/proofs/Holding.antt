@@ -267,5 +267,5 @@ module _ (ep : Epoch) (t : Sessions) where
   pub seen_held : (n : ℕ) (l : Locks) (c : ClientId) (ino : ℕ) (g : GrantNo) → AreHeld n ep t l → AreHeld n ep t (locks.demand_seen l c ino g)
   unfolding locks.demand_seen
   seen_held n l c ino g h =
-      rows_changed n l _ (every_map (is_good_row t) (is_good_row t) (locks.see c ino g)
+      rows_changed n l _ (every_map (is_good_row t) (is_good_row t) (locks.observe c ino g)
       (λ r e. cond_either (λ (x : LockRow). is_good_row t x ≡ true) (locks.is_row_of c ino r && (r.g.0 == g.0)) (locks.answered_row r) r (λ q. answered_good r e) (λ q. e)) l.rows h.rows) h

@@ -1,15 +1,15 @@
 //! The server of a world: its rules over the parts, and the node that runs or is crashed. `docs/PROTOCOL.md` has the rules.
 #![tactic(auto)]
 
-mod greeting;
-mod locking;
+mod greetings;
+mod lock_requests;
 mod machine;
-mod mapping;
-mod naming;
+mod name_requests;
 mod node;
 mod outputs;
+mod page_requests;
 mod passes;
-mod reasserting;
+mod reassertions;
 mod requests;
 mod stable;
 mod step;

@@ -19,7 +19,7 @@ use std::mem;
 
 /// The parts of one server, with the outputs of the step so far. Contracts see them as a turn.
 #[derive(Drop)]
-pub struct Machine {
+pub struct ServerMachine {
     pub(crate) alloc: Global,
     pub(crate) id: ServerId,
     pub(crate) config: Config,
@@ -31,7 +31,7 @@ pub struct Machine {
     pub(crate) out: Vec<Output>,
 }
 
-impl Model for Machine {
+impl Model for ServerMachine {
     ghost use Rattle.st_rules.specs.Server as shared;
     ghost use Rattle.st_server.specs.Parts.{IsSettled, stable_of};
 
@@ -53,7 +53,7 @@ impl Model for Machine {
     ghost invariant = { λ m. IsSettled m.id m.config m.stable.epoch };
 }
 
-impl Machine {
+impl ServerMachine {
     /// A server that was never started before.
     #[tactic(auto, unfolding(st_rules::specs::Server::fresh_server))]
     pub(crate) fn fresh(
@@ -63,7 +63,7 @@ impl Machine {
         servers: u16,
         disks: u16,
         blocks: u32,
-    ) -> Result<Machine, AllocError>
+    ) -> Result<ServerMachine, AllocError>
         requires checked { IsOk (settings.check config) }
         requires limits { IsWithinLimits id.0 servers disks blocks }
         ensures { IfOk result (λ m. m ≡ server.turn (server.fresh_server id config servers disks blocks) []) }
@@ -71,7 +71,7 @@ impl Machine {
         let epoch = Epoch(1);
         let names = Names::fresh(alloc)?;
         let extents = Extents::new(alloc, id, servers, disks, blocks)?;
-        Ok(Machine {
+        Ok(ServerMachine {
             alloc,
             id,
             config,

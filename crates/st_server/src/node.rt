@@ -13,7 +13,7 @@ ghost use Rattle.st_server.specs.Room.{HasRoom};
 ghost use Rattle.st_server.specs.Sound.{IsSound, is_sent};
 ghost use Rattle.st_server.specs.Steps.{Runs, Steps};
 
-use crate::machine::Machine;
+use crate::machine::ServerMachine;
 use crate::stable::ServerStable;
 use st_base::{Config, Epoch, ServerId, Stamp};
 use st_extents::Extents;
@@ -30,7 +30,7 @@ use std::marker::Model;
 /// One server of a world. Contracts see it as its machine's state, and whether it runs.
 #[derive(Drop)]
 pub struct ServerNode {
-    machine: Machine,
+    machine: ServerMachine,
     running: bool,
 }
 
@@ -62,7 +62,7 @@ impl ServerNode {
         ensures { IfOk result (λ n. n ≡ server.fresh_node id config.now servers disks blocks) }
     {
         Ok(ServerNode {
-            machine: Machine::fresh(alloc, id, *config, servers, disks, blocks)?,
+            machine: ServerMachine::fresh(alloc, id, *config, servers, disks, blocks)?,
             running: true,
         })
     }

@@ -8,15 +8,15 @@ ghost use Rattle.st_server.specs.Room.{HasRoom};
 ghost use Rattle.st_server.specs.Steps.{Fails, Keeps, answered};
 ghost use Rattle.st_server.specs.Told.{no_session};
 
-use crate::greeting::sender;
-use crate::machine::Machine;
+use crate::greetings::sender;
+use crate::machine::ServerMachine;
 use st_base::{GrantNo, Stamp};
 use st_messages::{Body, Header, Why};
 use st_rules::ServerInput;
 use st_sessions::Taken;
 use std::alloc::AllocError;
 
-impl Machine {
+impl ServerMachine {
     /// The rule of a request whose number is the next one, and its reply.
     #[tactic(auto, using(crate::proofs::Distinct::lock_mode), unfolding(st_rules::specs::Server::rule, st_rules::specs::Server::keep_alive, st_messages::specs::Fits::is_body))]
     fn rule(&mut self, now: Stamp, h: Header, body: &Body) -> Result<Option<Body>, AllocError>

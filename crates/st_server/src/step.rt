@@ -6,12 +6,12 @@ ghost use Rattle.st_server.specs.Room.{HasRoom, taken_locks};
 ghost use Rattle.st_server.specs.Sound.{IsSound};
 ghost use Rattle.st_server.specs.Steps.{Fails, Keeps, stepped};
 
-use crate::machine::Machine;
+use crate::machine::ServerMachine;
 use st_base::Stamp;
 use st_rules::ServerInput;
 use std::alloc::AllocError;
 
-impl Machine {
+impl ServerMachine {
     /// The passes that come after the rule for the input.
     fn passes(&mut self, now: Stamp, input: &ServerInput) -> Result<(), AllocError>
         requires { taken_locks (server.suspecting_on self.old now input.now).state.locks < 2 ^ 32 }

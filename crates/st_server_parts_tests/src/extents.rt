@@ -1,6 +1,6 @@
 use crate::draws::Draws;
-use st_base::{BlockAt, FileId, PageNo, ServerId};
-use st_extents::{ExtentRefusal, Extents};
+use st_base::{BlockAt, DiskId, FileId, PageNo, ServerId};
+use st_extents::{ExtentRefusal, Extents, Run, RunKey};
 use std::alloc::{AllocError, Global};
 use std::test::Fail;
 
@@ -104,6 +104,69 @@ fn number(at: BlockAt) -> u32 {
     u32::from(at.disk.0).wrapping_mul(6).wrapping_add(at.block)
 }
 
+/// Whether a row goes on where the one before it ends: the next page, block and birth, on the same disk.
+fn follows(before: Option<Row>, row: Row) -> bool {
+    match before {
+        Some(last) => {
+            last.ino == row.ino
+                && last.page.wrapping_add(1) == row.page
+                && last.block.wrapping_add(1) == row.block
+                && row.block % 6 != 0
+                && last.birth.wrapping_add(1) == row.birth
+        }
+        None => false,
+    }
+}
+
+/// The run of one row.
+fn run_of(row: Row) -> (RunKey, Run) {
+    let key = RunKey {
+        server: 1,
+        ino: row.ino,
+        page: row.page,
+    };
+    let at = BlockAt {
+        disk: DiskId((row.block / 6 % 8) as u16),
+        block: row.block % 6,
+    };
+    let run = Run {
+        length: 1,
+        at,
+        birth: row.birth,
+    };
+    (key, run)
+}
+
+/// The runs of plain rows, in rising order.
+fn runs_of(alloc: Global, rows: &[Row]) -> Result<Vec<(RunKey, Run)>, AllocError> {
+    let mut sorted = Vec::from_slice(alloc, rows)?;
+    sorted.sort_by_key(|row| (row.ino, row.page))?;
+    let mut runs: Vec<(RunKey, Run)> = Vec::new(alloc);
+    let mut before = None;
+    for row in sorted.iter().copied() {
+        if !follows(before, row) {
+            runs.push(run_of(row))?;
+        } else if let Some(last) = runs.last_mut() {
+            last.1.length = last.1.length.wrapping_add(1);
+        }
+        before = Some(row);
+    }
+    Ok(runs)
+}
+
+/// Whether the runs are those of the plain rows.
+fn same_runs(alloc: Global, extents: &Extents, rows: &[Row]) -> Result<bool, AllocError> {
+    let wanted = runs_of(alloc, rows)?;
+    let mut rest = wanted.iter();
+    for (key, run) in extents.runs().iter() {
+        match rest.next() {
+            Some(next) if next.0 == *key && next.1 == *run => {}
+            _ => return Ok(false),
+        }
+    }
+    Ok(rest.next().is_none())
+}
+
 /// One call on both; whether the answers are the same.
 fn same(
     alloc: Global,
@@ -130,7 +193,7 @@ fn same(
     }
 }
 
-/// Whether both know the same of a page, and have the same counts.
+/// Whether both know the same of a page, and have the same counts and runs.
 fn agree(
     alloc: Global,
     extents: &Extents,
@@ -146,7 +209,8 @@ fn agree(
         told == mapped(plain.rows.as_slice(), ino, page)
             && extents.free() as usize == free.len()
             && extents.mapped() as usize == plain.rows.len()
-            && extents.next_birth() == plain.births.wrapping_add(1),
+            && extents.next_birth() == plain.births.wrapping_add(1)
+            && same_runs(alloc, extents, plain.rows.as_slice())?,
     )
 }
 

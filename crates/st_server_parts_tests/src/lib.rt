@@ -1,5 +1,4 @@
-//! The parts of a server beside plain lists and beside an independent reading of the rules: extents, names, sessions, suspicion
-//! and grace.
+//! The parts of a server beside plain lists: extents with their runs, sessions and suspects, each with 10,000 drawn calls.
 #![tactic(auto)]
 
 #[cfg(test)]
@@ -8,9 +7,5 @@ mod authority;
 mod draws;
 #[cfg(test)]
 mod extents;
-#[cfg(test)]
-mod names;
-#[cfg(test)]
-mod reassert;
 #[cfg(test)]
 mod sessions;

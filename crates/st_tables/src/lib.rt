@@ -2,14 +2,14 @@
 //! an order.
 #![tactic(auto)]
 
+mod arrival_order;
 mod clients;
 mod keys;
-mod ordered;
-mod rising;
+mod rising_keys;
 mod table;
 
+pub use arrival_order::Ordered;
 pub use clients::ClientTable;
 pub use keys::{Every, Key, Row, Test};
-pub use ordered::Ordered;
-pub use rising::put_key;
+pub use rising_keys::put_key;
 pub use table::Table;

@@ -7,7 +7,7 @@ ghost use Rattle.st_tables.specs.declared.keys.Key.{Key};
 ghost use Rattle.st_tables.specs.Tables.{Changes, has_key, is_on, kept, place_of, row_at, same_key, second_of, sooner};
 
 use crate::keys::{Key, Row, Test};
-use crate::rising::put_key;
+use crate::rising_keys::put_key;
 use indexmap::IndexMap;
 use std::alloc::{AllocError, Global};
 use std::marker::Model;

@@ -2,3 +2,4 @@ mod Prefixed
 mod Statuses
 mod Made
 mod Nodes
+pub mod NodeTold

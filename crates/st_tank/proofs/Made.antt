@@ -3,9 +3,9 @@ use Rattle.std.proofs.Common.{◌≡◌, ◌≤◌, ℕ, List, arith, inl, inr, 
 use Rattle.std.specs.Prelude.{Option, Result, Ok, Err, OnOk, OnErr}
 use Rattle.std.specs.Io.KnownBytes.{Appends}
 use Rattle.st_link.specs.Prefixes.{AppendsPrefix}
-use Rattle.st_work.specs.declared.fault.WorkFault.{WorkFault}
-use Rattle.st_work.specs.declared.fault.WorkFault.TheVariants as works
-use Rattle.st_work.specs.Pieces.{HasCauses}
+use Rattle.st_generate_run.specs.declared.fault.WorkFault.{WorkFault}
+use Rattle.st_generate_run.specs.declared.fault.WorkFault.TheVariants as works
+use Rattle.st_generate_run.specs.Pieces.{HasCauses}
 use Rattle.st_tank.specs.Status.{IsMade, status_made}
 use Rattle.st_tank.proofs.Prefixed.{whole_prefix}
 

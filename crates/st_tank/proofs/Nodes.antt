@@ -2,7 +2,7 @@
 use Rattle.std.proofs.Common.{◌≡◌, ◌≤◌, ℕ, List, [], ◌∷◌, refl, subst, sym, arith, inl, inr}
 use Rattle.std.specs.Prelude.{◌⊎◌, Option, Some, None, IfSome}
 use Rattle.st_base.specs.declared.ids.NodeId.{NodeId}
-use Rattle.st_service.specs.Words.{node_of}
+use Rattle.st_tank.specs.NodeWords.{node_of}
 use Rattle.st_tank.specs.Words.{OnMade, OnReplay, job_in}
 use Rattle.st_tank.specs.declared.words.Job.{Job}
 

@@ -8,8 +8,8 @@ use Rattle.st_replay.specs.declared.fault.ReplayFault.TheVariants as faults
 use Rattle.st_runs.specs.Replay.{Last, Whole, Stopped}
 use Rattle.st_rules.specs.declared.observation.Summary.{Summary}
 use Rattle.st_rules.specs.World.{World}
-use Rattle.st_work.specs.declared.fault.WorkFault.{WorkFault}
-use Rattle.st_work.specs.declared.fault.WorkFault.TheVariants as works
+use Rattle.st_generate_run.specs.declared.fault.WorkFault.{WorkFault}
+use Rattle.st_generate_run.specs.declared.fault.WorkFault.TheVariants as works
 
 -- 0 where the schedule was read and run through its end, and 1 where a line was refused
 abbrev pub status_of : Last → ℕ

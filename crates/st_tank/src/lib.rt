@@ -1,6 +1,10 @@
-//! The top call of the program: the words, the replay, its status, and what the error sink is told. `docs/PROTOCOL.md`, "The program".
+//! The top call of the program: the words, the replay, generated schedules, a node over a stream, the status, and what the error sink is
+//! told. `docs/PROTOCOL.md`, "The program", has the rules.
 #![tactic(auto)]
 
+mod node_ends;
+mod node_service;
+mod node_words;
 mod numbers;
 mod program;
 mod words;

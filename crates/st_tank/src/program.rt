@@ -8,20 +8,21 @@ ghost use Rattle.st_runs.specs.Replay.{replay_of, report_of};
 ghost use Rattle.st_runs.specs.Safe.{RunsSafely};
 ghost use Rattle.st_runs.specs.Schedule.{lines_of};
 ghost use Rattle.st_rules.specs.Safety.{IsAllPromised};
-ghost use Rattle.st_service.specs.Ends.{Completes, IsAttached, IsServed};
-ghost use Rattle.st_service.specs.Words as services;
-ghost use Rattle.st_service.specs.Words.{starts_node};
+ghost use Rattle.st_tank.specs.NodeEnds.{Completes, IsAttached, IsServed};
+ghost use Rattle.st_tank.specs.NodeWords as services;
+ghost use Rattle.st_tank.specs.NodeWords.{starts_node};
 ghost use Rattle.st_tank.specs.Status.{IsMade, status_in, status_made, status_of};
 ghost use Rattle.st_tank.specs.Words as words_of;
 ghost use Rattle.st_tank.specs.Words.{HasFew, OnMade, OnReplay, complaint};
 
+use crate::node_service::serve_node;
+use crate::node_words::{name_of, node_of};
 use crate::words::{Job, job_of};
 use st_clock::Clock;
+use st_generate_run::WorkFault;
 use st_link::{Link, Sink, Source, put_all};
 use st_replay::{ReplayFault, Summary, World};
 use st_runs::{all_is_promised, schedules_run_safely};
-use st_service::{name_of, node_of, serve_node};
-use st_work::WorkFault;
 use std::alloc::Global;
 
 const USAGE: &[u8] =
@@ -73,7 +74,7 @@ fn generate<O: Sink>(alloc: Global, n: u32, seed: u64, out: &mut O) -> u8
     requires { n ≤ 100000 }
     ensures { IsMade result (O.written out.old) (O.written out.new) (O.faults out.old) (O.faults out.new) (generate_text n seed) }
 {
-    let made = st_work::generate(alloc, seed, n, out);
+    let made = st_generate_run::generate(alloc, seed, n, out);
     status_of_made(made)
 }
 
@@ -82,7 +83,7 @@ fn work<O: Sink>(alloc: Global, n: u32, seed: u64, out: &mut O) -> u8
     requires { n ≤ 100000 }
     ensures { IsMade result (O.written out.old) (O.written out.new) (O.faults out.old) (O.faults out.new) (work_text n seed) }
 {
-    let made = st_work::put_work(alloc, seed, n, out);
+    let made = st_generate_run::put_work(alloc, seed, n, out);
     status_of_made(made)
 }
 

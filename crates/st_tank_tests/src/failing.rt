@@ -83,68 +83,54 @@ pub fn run_failing(alloc: Global, case: &Case<'_>, failing: Failing) -> Result<L
     })
 }
 
-/// Each of these calls of the source fails in turn.
-fn each_take_fails(
-    rt: &(impl Abort + AllocGlobal),
-    case: &Case<'_>,
-    calls: u64,
-) -> Result<(), Fail> {
-    for call in 1..=calls {
-        let failing = Failing {
+/// An object of which a call fails.
+#[derive(Clone, Copy, PartialEq, Eq)]
+enum Object {
+    Source,
+    Sink,
+    Link,
+    Err,
+}
+
+/// The call of this number of an object fails.
+fn failing_at(object: Object, call: u64) -> Failing {
+    match object {
+        Object::Source => Failing {
             source: call,
             ..NONE
-        };
-        let left = run_failing(rt.alloc(), case, failing)?;
-        assert_eq!(rt; left.status, 3, "take {call}");
-        assert!(rt; left.is_front(case, "tank: read failed\n"), "take {call}");
+        },
+        Object::Sink => Failing { sink: call, ..NONE },
+        Object::Link => Failing { link: call, ..NONE },
+        Object::Err => Failing { err: call, ..NONE },
     }
-    Ok(())
 }
 
-/// Each of these calls of the sink fails in turn.
-fn each_put_fails(
-    rt: &(impl Abort + AllocGlobal),
-    case: &Case<'_>,
-    calls: u64,
-) -> Result<(), Fail> {
-    for call in 1..=calls {
-        let failing = Failing { sink: call, ..NONE };
-        let left = run_failing(rt.alloc(), case, failing)?;
-        assert_eq!(rt; left.status, 4, "put {call}");
-        assert!(rt; left.is_front(case, "tank: write failed\n"), "put {call}");
+/// The status and the complaint where a call of an object fails.
+fn ending(object: Object) -> (u8, &'static str) {
+    match object {
+        Object::Source => (3, "tank: read failed\n"),
+        Object::Sink => (4, "tank: write failed\n"),
+        Object::Link => (6, "tank: link failed\n"),
+        Object::Err => (4, ""),
     }
-    Ok(())
 }
 
-/// Each of these calls of the link fails in turn.
-fn each_link_call_fails(
+/// Each of these calls of an object fails in turn. Where the complaint can't be told, all that stands before it was written.
+fn each_of(
     rt: &(impl Abort + AllocGlobal),
     case: &Case<'_>,
+    object: Object,
     calls: u64,
 ) -> Result<(), Fail> {
+    let (status, complaint) = ending(object);
     for call in 1..=calls {
-        let failing = Failing { link: call, ..NONE };
-        let left = run_failing(rt.alloc(), case, failing)?;
-        assert_eq!(rt; left.status, 6, "call {call} of the link");
+        let left = run_failing(rt.alloc(), case, failing_at(object, call))?;
+        assert_eq!(rt; left.status, status, "call {call}");
+        assert!(rt; left.is_front(case, complaint), "call {call}");
         assert!(rt;
-            left.is_front(case, "tank: link failed\n"),
-            "call {call} of the link"
+            object != Object::Err || left.is_whole(case, complaint),
+            "call {call}"
         );
-    }
-    Ok(())
-}
-
-/// Each of these calls of the error sink fails in turn.
-fn each_complaint_fails(
-    rt: &(impl Abort + AllocGlobal),
-    case: &Case<'_>,
-    calls: u64,
-) -> Result<(), Fail> {
-    for call in 1..=calls {
-        let failing = Failing { err: call, ..NONE };
-        let left = run_failing(rt.alloc(), case, failing)?;
-        assert_eq!(rt; left.status, 4, "complaint {call}");
-        assert!(rt; left.is_whole(case, ""), "complaint {call}");
     }
     Ok(())
 }
@@ -173,10 +159,10 @@ fn each_fails(
     case: &Case<'_>,
     calls: Failing,
 ) -> Result<(), Fail> {
-    each_take_fails(rt, case, calls.source)?;
-    each_put_fails(rt, case, calls.sink)?;
-    each_link_call_fails(rt, case, calls.link)?;
-    each_complaint_fails(rt, case, calls.err)?;
+    each_of(rt, case, Object::Source, calls.source)?;
+    each_of(rt, case, Object::Sink, calls.sink)?;
+    each_of(rt, case, Object::Link, calls.link)?;
+    each_of(rt, case, Object::Err, calls.err)?;
     no_more_calls(rt, case, calls)
 }
 
@@ -231,30 +217,4 @@ fn each_call_fails_in_turn(rt: HostRuntime) -> Result<(), Fail> {
     each_fails(&rt, &cut, calls)?;
     let wrong = begun(&["node"], GREETING, 2, b"", USAGE);
     each_fails(&rt, &wrong, Failing { err: 1, ..NONE })
-}
-
-/// A schedule that is cut is refused, unless the cut takes only the last newline.
-#[test]
-fn a_schedule_is_cut_at_each_place(rt: HostRuntime) -> Result<(), Fail> {
-    let schedule = joined(rt.alloc(), &[HEAD, WRITTEN, ONE_SIDED_CUT])?;
-    let report = joined(rt.alloc(), &[WRITTEN_REPORT, ONE_SIDED_CUT_REPORT])?;
-    for at in 0..schedule.len() {
-        let case = Case {
-            words: &["replay"],
-            schedule: &schedule.as_bytes()[..at],
-            frames: b"",
-            status: 1,
-            report: report.as_str(),
-            sent: b"",
-            complaint: "",
-        };
-        let left = run_failing(rt.alloc(), &case, NONE)?;
-        if at.saturating_add(1) == schedule.len() {
-            assert_eq!(rt; left.status, 0);
-            assert!(rt; left.is_whole(&case, ""));
-        } else {
-            assert_eq!(rt; left.status, 1, "cut at {at}");
-        }
-    }
-    Ok(())
 }

@@ -1,4 +1,4 @@
-//! The top call over memory, beside the worked reports, and the ends of links.
+//! The top call over memory, where calls of its source, its sinks and its link fail, and the ends of links that the program does not use.
 #![tactic(auto)]
 
 #[cfg(test)]
@@ -10,14 +10,8 @@ mod frames;
 #[cfg(test)]
 mod link;
 #[cfg(test)]
-mod node;
-#[cfg(test)]
-mod refusals;
-#[cfg(test)]
 mod running;
 #[cfg(test)]
+mod takes;
+#[cfg(test)]
 mod texts;
-#[cfg(test)]
-mod theft;
-#[cfg(test)]
-mod words;

@@ -2,7 +2,7 @@
 use crate::drip::Drip;
 use st_base::Stamp;
 use st_clock::MemoryClock;
-use st_link::{MemoryLink, MemorySink, MemorySource, Source};
+use st_link::{MemoryLink, MemorySink, MemorySource};
 use st_tank::run;
 use std::alloc::{AllocError, Global};
 use std::process::Abort;
@@ -31,38 +31,32 @@ pub fn still(alloc: Global) -> Result<MemoryClock, AllocError> {
     Ok(MemoryClock::new(Vec::from_slice(alloc, &[Stamp(0)])?))
 }
 
-/// A schedule in memory; the takes of these numbers fail.
-pub fn whole(alloc: Global, schedule: &str, failing: &[u64]) -> Result<MemorySource, AllocError> {
+/// A schedule that comes one byte a call; the take of this number fails, and none where it is 0.
+pub fn dripping(alloc: Global, schedule: &str, failing: u64) -> Result<Drip, AllocError> {
     let bytes = Vec::from_slice(alloc, schedule.as_bytes())?;
-    Ok(MemorySource::new(bytes, Vec::from_slice(alloc, failing)?))
-}
-
-/// A schedule that comes one byte a call; the takes of these numbers fail.
-pub fn dripping(alloc: Global, schedule: &str, failing: &[u64]) -> Result<Drip, AllocError> {
+    let failing = Vec::from_slice(alloc, &[failing])?;
     Ok(Drip {
-        rest: whole(alloc, schedule, failing)?,
+        rest: MemorySource::new(bytes, failing),
     })
 }
 
-/// Runs the program with these words, where the puts of these numbers fail, and asserts its status, its report and its complaint.
-pub fn runs<I: Source>(
+/// Replays a schedule, asserts its report and its complaint, and returns its status.
+pub fn replays(
     rt: &(impl Abort + AllocGlobal),
-    words: &[&str],
-    input: &mut I,
-    failing: &[u64],
-    wanted: (u8, &str, &str),
-) -> Result<(), Fail> {
+    input: &mut Drip,
+    report: &str,
+    complaint: &str,
+) -> Result<u8, Fail> {
     let alloc = rt.alloc();
-    let all = words_of(alloc, words)?;
-    let mut out = MemorySink::new(alloc, Vec::from_slice(alloc, failing)?);
+    let words = words_of(alloc, &["replay"])?;
+    let mut out = MemorySink::new(alloc, Vec::new(alloc));
     let mut err = MemorySink::new(alloc, Vec::new(alloc));
     let mut link = MemoryLink::new(alloc, Vec::new(alloc), Vec::new(alloc));
     let mut clock = still(alloc)?;
     let status = run(
-        alloc, &all, input, &mut out, &mut err, &mut link, &mut clock,
+        alloc, &words, input, &mut out, &mut err, &mut link, &mut clock,
     );
-    assert_eq!(rt; out.as_slice(), wanted.1.as_bytes());
-    assert_eq!(rt; err.as_slice(), wanted.2.as_bytes());
-    assert_eq!(rt; status, wanted.0);
-    Ok(())
+    assert_eq!(rt; out.as_slice(), report.as_bytes());
+    assert_eq!(rt; err.as_slice(), complaint.as_bytes());
+    Ok(status)
 }

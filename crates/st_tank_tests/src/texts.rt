@@ -10,14 +10,6 @@ pub const WRITTEN: &str =
 pub const WRITTEN_REPORT: &str =
     "tank report 1\n1 send 1 c1 s1 hello 1 0 0 0\n2 send 2 s1 c1 welcome 1 1 0 0\n3 lease c1 s1 1000\n3 send 3 c1 s1 acquire 1 1 1 0 2 2\n4 send 4 s1 c1 granted 1 1 1 0 2 4294967297 2\n5 send 5 c1 s1 allocate 1 1 2 0 2 4294967297 0 1\n6 send 6 s1 c1 extents 1 1 2 0 2 1 0 1 0 1\n7 write 1 c1 1:2 0 4096x77\n7 answer c1 1 written\n";
 
-/// The schedule of `schedules/theft.schedule` behind that write.
-pub const THEFT: &str =
-    "app c2 read 1:2 0\ndeliver 7\ndeliver 8\ndeliver 9\nlose 11\ncrash c1\nadv 100\ntick s1\nadv 1009\ntick s1\nadv 1\ntick s1\nend\n";
-
-/// The end of its report.
-pub const THEFT_REPORT: &str =
-    "8 send 7 c2 s1 hello 1 0 0 0\n9 send 8 s1 c2 welcome 1 1 0 0\n10 lease c2 s1 1000\n10 send 9 c2 s1 acquire 1 1 1 0 2 1\n11 send 10 s1 c2 queued 1 1 1 0 2 1\n11 send 11 s1 c1 demand 1 1 0 0 2 4294967297 1\n13 drop 1 crash\n15 suspect s1 c1 1100\n19 steal s1 c1 1\n19 send 12 s1 c2 granted 1 1 0 0 2 4294967298 1\nend events 19 sent 12 commands 0 writes 1 reads 0 hard 0 gone 1 stolen 1\n";
-
 /// The schedule of `schedules/one-sided-cut.schedule` behind that write.
 pub const ONE_SIDED_CUT: &str =
     "app c2 read 1:2 0\ndeliver 7\ndeliver 8\ndeliver 9\ncut s1 c1\nadv 100\ntick s1\nadv 400\ntick c1\ndeliver 12\nadv 350\ntick c1\neffect 1\nreport 1 ok\nadv 260\ntick c1\ntick s1\nend\n";

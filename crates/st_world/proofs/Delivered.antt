@@ -2,7 +2,7 @@
 use Rattle.std.proofs.Common.{◌≡◌, refl, ap}
 use Rattle.std.specs.Prelude.{Option, Some, None, option_map}
 use Rattle.st_messages.specs.declared.message.Message.{Message}
-use Rattle.st_network.specs.Pieces.{message_sent}
+use Rattle.st_world_parts.specs.Pieces.{message_sent}
 use Rattle.st_rules.specs.declared.world.SentMessage.{SentMessage}
 use Rattle.st_rules.specs.Events.{delivers, delivers_to, quiet}
 use Rattle.st_rules.specs.World.{World, node_at}

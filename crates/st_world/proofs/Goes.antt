@@ -7,7 +7,7 @@ use Rattle.st_base.specs.declared.config.Config.{Config}
 use Rattle.st_messages.specs.declared.event.Event.{Event}
 use Rattle.st_rules.specs.declared.observation.Observation.{Observation}
 use Rattle.st_rules.specs.declared.observation.WorldRefusal.{WorldRefusal}
-use Rattle.st_rules.specs.Events.{Scene, quiet, scene, world_step}
+use Rattle.st_rules.specs.Events.{WorldTurn, quiet, world_turn, world_step}
 use Rattle.st_rules.specs.Run.{Run, RunsInParts, behind, go_on, run, run_on}
 use Rattle.st_rules.specs.Safety.{IsHead, is_event}
 use Rattle.st_rules.specs.World.{World, fresh_world}
@@ -15,22 +15,22 @@ use Rattle.st_world.specs.Reached.{IsQuiet, IsReached}
 use Rattle.st_world.proofs.Shaped.{clocks_are}
 
 -- a run that led to a world, and was not refused, goes on with one event
-goes_world : (r : Run) (x : Result Scene WorldRefusal) (sc : Scene) → x ≡ Ok sc → (behind r.seen (go_on (run []) r.world x)).world ≡ sc.world
+goes_world : (r : Run) (x : Result WorldTurn WorldRefusal) (sc : WorldTurn) → x ≡ Ok sc → (behind r.seen (go_on (run []) r.world x)).world ≡ sc.world
 unfolding go_on run
-goes_world r (Ok s) sc h = let q : s ≡ sc = cc in ap (λ (y : Scene). y.world) q
+goes_world r (Ok s) sc h = let q : s ≡ sc = cc in ap (λ (y : WorldTurn). y.world) q
 goes_world r (Err f) sc h = absurd (cc)
 
-goes_stands : (r : Run) (x : Result Scene WorldRefusal) (sc : Scene) → x ≡ Ok sc → (behind r.seen (go_on (run []) r.world x)).refused ≡ None
+goes_stands : (r : Run) (x : Result WorldTurn WorldRefusal) (sc : WorldTurn) → x ≡ Ok sc → (behind r.seen (go_on (run []) r.world x)).refused ≡ None
 unfolding go_on run
 goes_stands r (Ok s) sc h = refl
 goes_stands r (Err f) sc h = absurd (cc)
 
-on_world : (e : Event) (r : Run) (o : Option WorldRefusal) (sc : Scene) → o ≡ None → world_step r.world e ≡ Ok sc → (run_on (e ∷ []) r o).world ≡ sc.world
+on_world : (e : Event) (r : Run) (o : Option WorldRefusal) (sc : WorldTurn) → o ≡ None → world_step r.world e ≡ Ok sc → (run_on (e ∷ []) r o).world ≡ sc.world
 unfolding run run_on
 on_world e r None sc q h = goes_world r (world_step r.world e) sc h
 on_world e r (Some f) sc q h = absurd (cc)
 
-on_stands : (e : Event) (r : Run) (o : Option WorldRefusal) (sc : Scene) → o ≡ None → world_step r.world e ≡ Ok sc → (run_on (e ∷ []) r o).refused ≡ None
+on_stands : (e : Event) (r : Run) (o : Option WorldRefusal) (sc : WorldTurn) → o ≡ None → world_step r.world e ≡ Ok sc → (run_on (e ∷ []) r o).refused ≡ None
 unfolding run run_on
 on_stands e r None sc q h = goes_stands r (world_step r.world e) sc h
 on_stands e r (Some f) sc q h = absurd (cc)
@@ -47,7 +47,7 @@ reached_fresh k clients servers disks blocks form h =
     record { config = k; clients = clients; servers = servers; disks = disks; blocks = blocks; form = form; events = []; by = record { head = h; events = refl; world = refl; stands = refl } }
 
 -- what an event leaves is reached
-pub reached_step : RunsInParts → (w : World) (e : Event) (sc : Scene) → IsReached w → is_event (length w.clocks) e ≡ true → world_step w e ≡ Ok sc → IsReached sc.world
+pub reached_step : RunsInParts → (w : World) (e : Event) (sc : WorldTurn) → IsReached w → is_event (length w.clocks) e ≡ true → world_step w e ≡ Ok sc → IsReached sc.world
 reached_step in_parts w e sc r i h =
     let first = fresh_world r.config r.clients r.servers r.disks r.blocks r.form in
     let there : world_step (run r.events first).world e ≡ Ok sc = ap (λ (v : World). world_step v e) r.by.world ∙ h in
@@ -70,14 +70,14 @@ reached_step in_parts w e sc r i h =
     }
 
 -- the world of a head is quiet
-pub quiet_fresh : (k : Config) (clients servers disks blocks form : ℕ) (m : Scene) → IsHead k clients servers disks blocks form → m ≡ quiet (fresh_world k clients servers disks blocks form) → IsQuiet m
+pub quiet_fresh : (k : Config) (clients servers disks blocks form : ℕ) (m : WorldTurn) → IsHead k clients servers disks blocks form → m ≡ quiet (fresh_world k clients servers disks blocks form) → IsQuiet m
 quiet_fresh k clients servers disks blocks form m h e =
     subst IsQuiet (sym e) (record { none = refl; reached = reached_fresh k clients servers disks blocks form h })
 
 -- what an event leaves is quiet, where its observations are taken away
-pub quiet_after : RunsInParts → (old new : Scene) (e : Event) (seen : List Observation) → IsQuiet old → is_event (length old.world.clocks) e ≡ true → world_step old.world e ≡ Ok (scene new.world seen) → new.seen ≡ [] → IsQuiet new
-quiet_after in_parts old new e seen q i h n = record { none = n; reached = reached_step in_parts old.world e (scene new.world seen) q.reached i h }
+pub quiet_after : RunsInParts → (old new : WorldTurn) (e : Event) (seen : List Observation) → IsQuiet old → is_event (length old.world.clocks) e ≡ true → world_step old.world e ≡ Ok (world_turn new.world seen) → new.seen ≡ [] → IsQuiet new
+quiet_after in_parts old new e seen q i h n = record { none = n; reached = reached_step in_parts old.world e (world_turn new.world seen) q.reached i h }
 
 -- and where it is refused
-pub quiet_refused : (old new : Scene) → IsQuiet old → new.world ≡ old.world → new.seen ≡ [] → IsQuiet new
+pub quiet_refused : (old new : WorldTurn) → IsQuiet old → new.world ≡ old.world → new.seen ≡ [] → IsQuiet new
 quiet_refused old new q h n = record { none = n; reached = subst IsReached (sym h) q.reached }

@@ -2,7 +2,7 @@ pub mod Asked
 pub mod Counted
 pub mod Crashed
 pub mod Delivered
-pub mod Dispatch
+pub mod Dispatched
 pub mod Excesses
 pub mod Flushed
 pub mod Goes

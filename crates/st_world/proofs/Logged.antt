@@ -2,14 +2,14 @@
 use Rattle.std.proofs.Common.{◌≡◌, ℕ, zero, suc, ◌+◌, ◌<◌, List, [], ◌∷◌, ◌++◌, length, refl, ap, arith}
 use Rattle.std.specs.Prelude.{Option, Some, None}
 use Rattle.std.proofs.lemmas.Option.{slice_get_past}
-use Rattle.st_network.specs.Pieces.{lost}
+use Rattle.st_world_parts.specs.Pieces.{lost}
 use Rattle.st_rules.specs.declared.log.Fate.{Fate}
 use Rattle.st_rules.specs.declared.log.Fate.TheVariants.{Pending, Hard, Gone}
 use Rattle.st_rules.specs.declared.log.LogEntry.{LogEntry}
 use Rattle.st_rules.specs.declared.world.SentMessage.{SentMessage}
 use Rattle.st_rules.specs.FlatLog.{entry_at, harden, harden_at}
 use Rattle.st_rules.specs.World.{World, message_of, numbered}
-use Rattle.st_rules.specs.Events.{fate_seen, fates_from, loses_message, marks, quiet, scene}
+use Rattle.st_rules.specs.Events.{fate_seen, fates_from, loses_message, marks, quiet, world_turn}
 
 -- the network of a world in which a message is lost
 loses_by : (w : World) (k : ℕ) (o : Option SentMessage) → o ≡ numbered w.net.messages k → record w { net = lost k w.net } ≡ loses_message w k o
@@ -33,7 +33,7 @@ fates_stay n (e ∷ es) = λ i. fate_stays n e.fate i ++ fates_stay (n + 1) es i
 -- a log that stays
 pub marks_nothing : (w : World) → marks w w.log ≡ quiet w
 unfolding marks
-marks_nothing w = ap (scene w) (fates_stay 1 w.log)
+marks_nothing w = ap (world_turn w) (fates_stay 1 w.log)
 
 -- no entry has number 0
 pub hard_none : (w : World) (index : ℕ) → index ≡ 0 → marks w (harden w.log index) ≡ quiet w

@@ -8,13 +8,13 @@ use Rattle.st_base.specs.declared.config.Config.{Config}
 use Rattle.st_base.specs.declared.config.ConfigRefusal.{ConfigRefusal}
 use Rattle.st_base.specs.declared.config.ConfigRefusal.TheVariants as faults
 use Rattle.st_base.specs.declared.ids.Stamp.{Stamp}
-use Rattle.st_lives.specs.Clocked.{is_at_most}
-use Rattle.st_lives.proofs.Later.{advanced_low}
+use Rattle.st_world_parts.specs.Clocked.{is_at_most}
+use Rattle.st_world_parts.proofs.Later.{advanced_low}
 use Rattle.st_messages.specs.declared.event.Event.{Event}
 use Rattle.st_messages.specs.declared.event.Event.TheVariants as events
 use Rattle.st_rules.specs.declared.observation.WorldRefusal.{WorldRefusal}
 use Rattle.st_rules.specs.Admissible.{refusal}
-use Rattle.st_rules.specs.Events.{Scene, advanced, counted, happens, world_by, world_step}
+use Rattle.st_rules.specs.Events.{WorldTurn, advanced, counted, happens, world_by, world_step}
 use Rattle.st_rules.specs.Extents.{numbers}
 use Rattle.st_rules.specs.Leases.{no_drift}
 use Rattle.st_rules.specs.Run.{go_on, run}
@@ -72,20 +72,20 @@ has_steps k clients servers w e s i steps q =
     let l : length steps ≡ clients + servers = eqb-true (length steps) (clients + servers) p.0 in
     (l ∙ sym s.clocks, l ∙ sym s.drift)
 
-happened : (w : World) (e : Event) (o : Option WorldRefusal) (sc : Scene) → world_by w e o ≡ Ok sc → happens (counted w) e ≡ sc
+happened : (w : World) (e : Event) (o : Option WorldRefusal) (sc : WorldTurn) → world_by w e o ≡ Ok sc → happens (counted w) e ≡ sc
 unfolding world_by
 happened w e None sc h = cc
 happened w e (Some r) sc h = absurd (cc)
 
 -- what an event leaves
-pub shaped_step : (k : Config) (clients servers : ℕ) (w : World) (e : Event) (sc : Scene) → IsShaped k clients servers w → is_event (clients + servers) e ≡ true → world_step w e ≡ Ok sc → IsShaped k clients servers sc.world
+pub shaped_step : (k : Config) (clients servers : ℕ) (w : World) (e : Event) (sc : WorldTurn) → IsShaped k clients servers w → is_event (clients + servers) e ≡ true → world_step w e ≡ Ok sc → IsShaped k clients servers sc.world
 unfolding world_step
 shaped_step k clients servers w e sc s i h =
-    subst (λ (x : Scene). IsShaped k clients servers x.world) (happened w e (refusal w e) sc h)
+    subst (λ (x : WorldTurn). IsShaped k clients servers x.world) (happened w e (refusal w e) sc h)
     (by_event k clients servers w (happens (counted w) e).world e s i (happens_after (counted w) e (has_steps k clients servers w e s i)))
 
 -- Runs.
-shaped_go : (k : Config) (clients servers : ℕ) (es : List Event) (w : World) (e : Event) (x : Result Scene WorldRefusal) → world_step w e ≡ x →
+shaped_go : (k : Config) (clients servers : ℕ) (es : List Event) (w : World) (e : Event) (x : Result WorldTurn WorldRefusal) → world_step w e ≡ x →
     IsShaped k clients servers w → is_event (clients + servers) e ≡ true → ((v : World) → IsShaped k clients servers v → IsShaped k clients servers (run es v).world) →
     IsShaped k clients servers (go_on (run es) w x).world
 unfolding go_on

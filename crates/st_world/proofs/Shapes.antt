@@ -7,7 +7,7 @@ use Rattle.st_base.specs.declared.ids.ClientId.{ClientId}
 use Rattle.st_base.specs.declared.ids.NodeId.{NodeId}
 use Rattle.st_base.specs.declared.ids.NodeId.TheVariants as nodes
 use Rattle.st_base.specs.declared.ids.ServerId.{ServerId}
-use Rattle.st_lives.proofs.Later.{length-advanced}
+use Rattle.st_world_parts.proofs.Later.{length-advanced}
 use Rattle.st_messages.specs.declared.ask.Ask.{Ask}
 use Rattle.st_messages.specs.declared.event.Event.{Event}
 use Rattle.st_messages.specs.declared.event.Event.TheVariants as events
@@ -25,7 +25,7 @@ use Rattle.st_rules.specs.Client as client
 use Rattle.st_rules.specs.ClientState.{ClientState}
 use Rattle.st_rules.specs.Disks.{Disks}
 use Rattle.st_rules.specs.Events as ev
-use Rattle.st_rules.specs.Events.{Scene}
+use Rattle.st_rules.specs.Events.{WorldTurn}
 use Rattle.st_rules.specs.Leases.{drift_after, raise_rows}
 use Rattle.st_rules.specs.Server as server
 use Rattle.st_rules.specs.Server.{ServerNode}
@@ -52,12 +52,12 @@ node_shape : (w : World) (s : ServerId) (node : ServerNode) → SameTime w (ev.w
 node_shape w s node = record { events = refl; clocks = refl; drift = refl; clients = refl; servers = set_length w.servers _ node; config = refl }
 
 -- Outputs.
-submits_shape : (sc : Scene) (c : ClientId) (o : Option ClientSite) (number : ℕ) (at : BlockAt) (what : Command) → SameTime sc.world (ev.submits sc c o number at what).world
+submits_shape : (sc : WorldTurn) (c : ClientId) (o : Option ClientSite) (number : ℕ) (at : BlockAt) (what : Command) → SameTime sc.world (ev.submits sc c o number at what).world
 unfolding ev.submits
 submits_shape sc c None number at what = record { events = refl; clocks = refl; drift = refl; clients = refl; servers = refl; config = refl }
 submits_shape sc c (Some site) number at what = record { events = refl; clocks = refl; drift = refl; clients = refl; servers = refl; config = refl }
 
-client_note_shape : (sc : Scene) (c : ClientId) (before : ClientState) (n : Note) → SameTime sc.world (ev.client_notes sc c before n).world
+client_note_shape : (sc : WorldTurn) (c : ClientId) (before : ClientState) (n : Note) → SameTime sc.world (ev.client_notes sc c before n).world
 unfolding ev.client_notes ev.loses ev.accepts ev.patches
 client_note_shape sc c before (notes.Leased s end) = record { events = refl; clocks = refl; drift = refl; clients = refl; servers = refl; config = refl }
 client_note_shape sc c before (notes.Lost s life) = record { events = refl; clocks = refl; drift = refl; clients = refl; servers = refl; config = refl }
@@ -65,32 +65,32 @@ client_note_shape sc c before (notes.Accepted f p bytes) = record { events = ref
 client_note_shape sc c before (notes.Patched f p at bytes) = record { events = refl; clocks = refl; drift = refl; clients = refl; servers = refl; config = refl }
 client_note_shape sc c before note = record { events = refl; clocks = refl; drift = refl; clients = refl; servers = refl; config = refl }
 
-client_says_shape : (sc : Scene) (c : ClientId) (before : ClientState) (o : Output) → SameTime sc.world (ev.client_says sc c before o).world
+client_says_shape : (sc : WorldTurn) (c : ClientId) (before : ClientState) (o : Output) → SameTime sc.world (ev.client_says sc c before o).world
 unfolding ev.client_says ev.sends ev.answers_with
 client_says_shape sc c before (outputs.Send m) = record { events = refl; clocks = refl; drift = refl; clients = refl; servers = refl; config = refl }
 client_says_shape sc c before (outputs.Submit number at what) = submits_shape sc c _ number at what
 client_says_shape sc c before (outputs.Answer op answer) = record { events = refl; clocks = refl; drift = refl; clients = refl; servers = refl; config = refl }
 client_says_shape sc c before (outputs.Note n) = client_note_shape sc c before n
 
-client_all_shape : (c : ClientId) (before : ClientState) (os : List Output) (sc : Scene) → SameTime sc.world (ev.client_says_all c before os sc).world
+client_all_shape : (c : ClientId) (before : ClientState) (os : List Output) (sc : WorldTurn) → SameTime sc.world (ev.client_says_all c before os sc).world
 unfolding ev.client_says_all
 client_all_shape c before [] sc = same sc.world
 client_all_shape c before (o ∷ os) sc = over (client_says_shape sc c before o) (client_all_shape c before os (ev.client_says sc c before o))
 
-server_note_shape : (sc : Scene) (s : ServerId) (n : Note) → SameTime sc.world (ev.server_notes sc s n).world
+server_note_shape : (sc : WorldTurn) (s : ServerId) (n : Note) → SameTime sc.world (ev.server_notes sc s n).world
 unfolding ev.server_notes ev.cuts
 server_note_shape sc s (notes.Suspected c start) = record { events = refl; clocks = refl; drift = refl; clients = refl; servers = refl; config = refl }
 server_note_shape sc s (notes.Stolen c life) = record { events = refl; clocks = refl; drift = refl; clients = refl; servers = refl; config = refl }
 server_note_shape sc s (notes.CutDone f p) = record { events = refl; clocks = refl; drift = refl; clients = refl; servers = refl; config = refl }
 server_note_shape sc s note = record { events = refl; clocks = refl; drift = refl; clients = refl; servers = refl; config = refl }
 
-server_says_shape : (sc : Scene) (s : ServerId) (o : Output) → SameTime sc.world (ev.server_says sc s o).world
+server_says_shape : (sc : WorldTurn) (s : ServerId) (o : Output) → SameTime sc.world (ev.server_says sc s o).world
 unfolding ev.server_says ev.sends
 server_says_shape sc s (outputs.Send m) = record { events = refl; clocks = refl; drift = refl; clients = refl; servers = refl; config = refl }
 server_says_shape sc s (outputs.Note n) = server_note_shape sc s n
 server_says_shape sc s o = record { events = refl; clocks = refl; drift = refl; clients = refl; servers = refl; config = refl }
 
-server_all_shape : (s : ServerId) (os : List Output) (sc : Scene) → SameTime sc.world (ev.server_says_all s os sc).world
+server_all_shape : (s : ServerId) (os : List Output) (sc : WorldTurn) → SameTime sc.world (ev.server_says_all s os sc).world
 unfolding ev.server_says_all
 server_all_shape s [] sc = same sc.world
 server_all_shape s (o ∷ os) sc = over (server_says_shape sc s o) (server_all_shape s os (ev.server_says sc s o))
@@ -179,7 +179,7 @@ effects_shape : (w : World) (k : ℕ) → SameTime w (ev.effects w k).world
 unfolding ev.effects ev.marks
 effects_shape w k = record { events = refl; clocks = refl; drift = refl; clients = refl; servers = refl; config = refl }
 
-if_shape : (w : World) (b : Bool) (x y : Scene) → SameTime w x.world → SameTime w y.world → SameTime w (if b then x else y).world
+if_shape : (w : World) (b : Bool) (x y : WorldTurn) → SameTime w x.world → SameTime w y.world → SameTime w (if b then x else y).world
 if_shape w true x y p q = p
 if_shape w false x y p q = q
 

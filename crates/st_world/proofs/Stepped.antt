@@ -5,7 +5,7 @@ use Rattle.st_messages.specs.declared.event.Event.{Event}
 use Rattle.st_rules.specs.declared.observation.Observation.{Observation}
 use Rattle.st_rules.specs.declared.observation.WorldRefusal.{WorldRefusal}
 use Rattle.st_rules.specs.Admissible.{refusal}
-use Rattle.st_rules.specs.Events.{Scene, counted, happens, scene, world_by, world_step}
+use Rattle.st_rules.specs.Events.{WorldTurn, counted, happens, world_turn, world_by, world_step}
 use Rattle.st_rules.specs.Safety.{is_event}
 use Rattle.st_rules.specs.World.{World}
 use Rattle.st_world.specs.Shaping.{SameShape}
@@ -16,9 +16,9 @@ use Rattle.st_world.specs.declared.fault.WorldFault.TheVariants.{Refused, Memory
 use Rattle.st_world.proofs.Admitted.{timed_any}
 use Rattle.st_world.proofs.Shapes.{happens_shape}
 
-moved : (w v : World) (x y : Scene) → SameShape w x.world → x ≡ y → v ≡ y.world → SameShape w v
+moved : (w v : World) (x y : WorldTurn) → SameShape w x.world → x ≡ y → v ≡ y.world → SameShape w v
 moved w v x y s h q =
-    let z : x.world ≡ v = ap (λ (s : Scene). s.world) h ∙ sym q in
+    let z : x.world ≡ v = ap (λ (s : WorldTurn). s.world) h ∙ sym q in
     record {
       events = sym (ap (λ (u : World). u.tally.events) z) ∙ s.events;
       clocks = sym (ap (λ (u : World). length u.clocks) z) ∙ s.clocks;
@@ -28,20 +28,20 @@ moved w v x y s h q =
       config = sym (ap (λ (u : World). u.config) z) ∙ s.config;
     }
 
-by : (w : World) (e : Event) (o : Option WorldRefusal) (new : World) (seen : List Observation) → SameShape (counted w) (happens (counted w) e).world → world_by w e o ≡ Ok (scene new seen) → SameShape (counted w) new
+by : (w : World) (e : Event) (o : Option WorldRefusal) (new : World) (seen : List Observation) → SameShape (counted w) (happens (counted w) e).world → world_by w e o ≡ Ok (world_turn new seen) → SameShape (counted w) new
 unfolding world_by
-by w e None new seen s h = let q : happens (counted w) e ≡ scene new seen = cc in moved (counted w) new (happens (counted w) e) (scene new seen) s q refl
+by w e None new seen s h = let q : happens (counted w) e ≡ world_turn new seen = cc in moved (counted w) new (happens (counted w) e) (world_turn new seen) s q refl
 by w e (Some r) new seen s h = absurd (cc)
 
 -- what a step leaves in number
-pub stepped : (w new : World) (e : Event) (seen : List Observation) → IsLaid w → is_event (length w.clocks) e ≡ true → world_step w e ≡ Ok (scene new seen) → SameShape (counted w) new
+pub stepped : (w new : World) (e : Event) (seen : List Observation) → IsLaid w → is_event (length w.clocks) e ≡ true → world_step w e ≡ Ok (world_turn new seen) → SameShape (counted w) new
 unfolding world_step
 stepped w new e seen l i h =
     by w e (refusal w e) new seen (happens_shape (counted w) e (λ steps q. let t = timed_any w e l i steps q in (t.nodes ∙ l.drift, t.nodes))) h
 
 -- a step of an event that is not refused
 pub admitted_steps : {V : Type 0} (seen : V → List Observation) (w new : World) (e : Event) (r : Result V WorldFault) → refusal w e ≡ None →
-    IfOk r (λ v. happens (counted w) e ≡ scene new (seen v)) → OnErr r (r ≡ Err Memory) → StepsAs seen w new r (world_step w e)
+    IfOk r (λ v. happens (counted w) e ≡ world_turn new (seen v)) → OnErr r (r ≡ Err Memory) → StepsAs seen w new r (world_step w e)
 unfolding world_step world_by
 admitted_steps seen w new e (Ok v) a h m = ap (world_by w e) a ∙ ap Ok h
 admitted_steps seen w new e (Err (Refused f)) a h m = absurd (cc)

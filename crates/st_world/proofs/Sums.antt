@@ -7,8 +7,8 @@ use Rattle.st_rules.specs.declared.log.EntryHead.{EntryHead}
 use Rattle.st_rules.specs.declared.log.Fate.{Fate}
 use Rattle.st_rules.specs.declared.log.LogEntry.{LogEntry}
 use Rattle.st_rules.specs.FlatLog.{entry_at, head_by, head_of}
-use Rattle.st_world.specs.declared.summing.Sort.{Sort}
-use Rattle.st_world.specs.declared.summing.Sort.TheVariants as sorts
+use Rattle.st_world.specs.declared.summary.Sort.{Sort}
+use Rattle.st_world.specs.declared.summary.Sort.TheVariants as sorts
 use Rattle.st_world.specs.Sorts.{head_changes, one_if, picks, picks_by}
 use Rattle.st_rules.specs.Events.{changes_page}
 

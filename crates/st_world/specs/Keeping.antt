@@ -1,9 +1,9 @@
 -- What an output leaves as it was.
 use Rattle.std.specs.Prelude.{◌≡◌, ◌≤◌, ◌+◌}
-use Rattle.st_rules.specs.Events.{Scene}
+use Rattle.st_rules.specs.Events.{WorldTurn}
 
 -- the nodes and the clocks are the same, and there is at most one read and one theft more
-pub record Keeps (old new : Scene) : Type 0 where
+pub record Keeps (old new : WorldTurn) : Type 0 where
   pub servers : new.world.servers ≡ old.world.servers
   pub clients : new.world.clients ≡ old.world.clients
   pub clocks : new.world.clocks ≡ old.world.clocks
@@ -11,7 +11,7 @@ pub record Keeps (old new : Scene) : Type 0 where
   pub stolen : new.world.tally.stolen ≤ old.world.tally.stolen + 1
 
 -- the nodes, the clocks, the reads and the thefts are the same
-pub record Stays (old new : Scene) : Type 0 where
+pub record Stays (old new : WorldTurn) : Type 0 where
   pub servers : new.world.servers ≡ old.world.servers
   pub clients : new.world.clients ≡ old.world.clients
   pub clocks : new.world.clocks ≡ old.world.clocks
@@ -19,7 +19,7 @@ pub record Stays (old new : Scene) : Type 0 where
   pub stolen : new.world.tally.stolen ≡ old.world.tally.stolen
 
 -- the nodes and the clocks are the same
-pub record SameNodes (old new : Scene) : Type 0 where
+pub record SameNodes (old new : WorldTurn) : Type 0 where
   pub servers : new.world.servers ≡ old.world.servers
   pub clients : new.world.clients ≡ old.world.clients
   pub clocks : new.world.clocks ≡ old.world.clocks

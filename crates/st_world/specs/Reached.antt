@@ -3,7 +3,7 @@ use Rattle.std.specs.Prelude.{◌≡◌, ℕ, ◌+◌, true, List, [], None}
 use Rattle.std.specs.List.{list_all}
 use Rattle.st_base.specs.declared.config.Config.{Config}
 use Rattle.st_messages.specs.declared.event.Event.{Event}
-use Rattle.st_rules.specs.Events.{Scene}
+use Rattle.st_rules.specs.Events.{WorldTurn}
 use Rattle.st_rules.specs.Run.{run}
 use Rattle.st_rules.specs.Safety.{IsHead, is_event}
 use Rattle.st_rules.specs.World.{World, fresh_world}
@@ -27,6 +27,6 @@ pub record IsReached (w : World) : Type 0 where
   pub by : IsReachedBy config clients servers disks blocks form events w
 
 -- a world to which a run leads, with nothing observed since
-pub record IsQuiet (sc : Scene) : Type 0 where
+pub record IsQuiet (sc : WorldTurn) : Type 0 where
   pub none : sc.seen ≡ []
   pub reached : IsReached sc.world

@@ -6,8 +6,8 @@ use Rattle.st_rules.specs.declared.log.Fate.{Fate}
 use Rattle.st_rules.specs.declared.log.LogEntry.{LogEntry}
 use Rattle.st_rules.specs.Events.{is_change, is_gone, is_hard, is_hard_fate}
 use Rattle.st_rules.specs.FlatLog as log
-use Rattle.st_world.specs.declared.summing.Sort.{Sort}
-use Rattle.st_world.specs.declared.summing.Sort.TheVariants as sorts
+use Rattle.st_world.specs.declared.summary.Sort.{Sort}
+use Rattle.st_world.specs.declared.summary.Sort.TheVariants as sorts
 
 -- an entry of this sort
 abbrev pub picks : Sort → LogEntry → Bool

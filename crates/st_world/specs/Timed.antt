@@ -1,7 +1,7 @@
 -- What the test of an advance needs, and what it finds.
 use Rattle.std.specs.Prelude.{◌≡◌, ◌≤◌, ◌<◌, ◌^◌, ◌+◌, ℕ, List, true, Option, Some, None, Result, Ok, Err, length}
 use Rattle.std.specs.List.{list_all}
-use Rattle.st_lives.specs.Clocked.{is_at_most, is_step}
+use Rattle.st_world_parts.specs.Clocked.{is_at_most, is_step}
 use Rattle.st_rules.specs.declared.lease.Excess.{Excess}
 use Rattle.st_rules.specs.World.{World}
 

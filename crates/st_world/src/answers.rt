@@ -3,7 +3,7 @@ ghost use Rattle.std.specs.Prelude.{◌≡◌, ◌<◌, ◌≤◌, ◌^◌, ◌-
 ghost use Rattle.st_rules.specs.Events as events;
 ghost use Rattle.st_world.specs.Keeping.{Keeps};
 
-use crate::machine::Machine;
+use crate::machine::WorldMachine;
 use st_base::ClientId;
 use st_messages::AppAnswer;
 use st_rules::Observation;
@@ -19,7 +19,7 @@ fn reads_in(answer: &AppAnswer) -> u64
     }
 }
 
-impl Machine {
+impl WorldMachine {
     /// Answers an ask of a client.
     #[tactic(auto, unfolding(st_rules::specs::Events::answers_with))]
     pub(crate) fn answer(
@@ -33,6 +33,6 @@ impl Machine {
         ensures kept { Keeps self.old self.new }
     {
         self.reads += reads_in(&answer);
-        self.see(Observation::Answered { client, op, answer })
+        self.observe(Observation::Answered { client, op, answer })
     }
 }

@@ -9,14 +9,13 @@ ghost use Rattle.st_rules.specs.World as world;
 ghost use Rattle.st_rules.specs.World.{World};
 ghost use Rattle.st_world.specs.Delivering.{delivery_refused, effect_refused, head_cut, head_refused, report_refused};
 
+use crate::client::WorldClient;
 use crate::events::node_of_number;
-use crate::machine::{Machine, node_at, site_at};
-use crate::site::Site;
+use crate::machine::{WorldMachine, node_at, site_at};
 use st_base::{ClientId, Life, NodeId, ServerId, Stamp};
-use st_commands::Standing;
-use st_network::Head;
 use st_rules::{IssuedCommand, Report, WorldRefusal};
 use st_server::ServerNode;
+use st_world_parts::{CommandState, MessageEnds};
 
 /// The refusal, where the test stands.
 #[tactic(auto, unfolding(st_rules::specs::Admissible::stands))]
@@ -26,7 +25,7 @@ pub(crate) fn stands(test: bool, refusal: WorldRefusal) -> Option<WorldRefusal>
     if test { Some(refusal) } else { None }
 }
 
-fn site_runs(site: Option<&Site>) -> bool
+fn site_runs(site: Option<&WorldClient>) -> bool
     ensures { result ≡ world.site_runs (option_copied site.entry) }
 {
     match site {
@@ -44,7 +43,7 @@ fn node_runs(node: Option<&ServerNode>) -> bool
     }
 }
 
-fn end_at(site: Option<&Site>, server: ServerId) -> Option<Stamp>
+fn end_at(site: Option<&WorldClient>, server: ServerId) -> Option<Stamp>
     ensures { (w : World) → result ≡ world.present_end w server (option_copied site.entry) }
 {
     match site {
@@ -72,19 +71,19 @@ fn is_open(report: Report) -> bool
     }
 }
 
-fn is_done(standing: Standing) -> bool
+fn is_done(standing: CommandState) -> bool
     ensures { result ≡ (standing.effected || not (admissible.is_open standing.report)) }
 {
     standing.effected || !is_open(standing.report)
 }
 
-fn is_told(ok: bool, standing: Standing) -> bool
+fn is_told(ok: bool, standing: CommandState) -> bool
     ensures { result ≡ (not (admissible.is_open standing.report) || (ok && not standing.effected)) }
 {
     !is_open(standing.report) || (ok && !standing.effected)
 }
 
-impl Machine {
+impl WorldMachine {
     fn is_running(&self, node: NodeId) -> bool
         ensures { result ≡ world.is_running self.now.world node }
     {
@@ -138,7 +137,7 @@ impl Machine {
         }
     }
 
-    fn link_cut(&self, head: Head) -> Option<WorldRefusal>
+    fn link_cut(&self, head: MessageEnds) -> Option<WorldRefusal>
         ensures { result ≡ head_cut self.now.world head }
     {
         let from = node_of_number(head.from);
@@ -146,7 +145,7 @@ impl Machine {
         stands(self.net.is_cut(from, to), WorldRefusal::LinkCut(from, to))
     }
 
-    fn undelivered(&self, k: u64, head: Head) -> Option<WorldRefusal>
+    fn undelivered(&self, k: u64, head: MessageEnds) -> Option<WorldRefusal>
         ensures { result ≡ delivery_refused self.now.world k head }
     {
         match stands(head.lost, WorldRefusal::LostMessage(k)) {
@@ -155,7 +154,7 @@ impl Machine {
         }
     }
 
-    fn unsent(&self, head: Head) -> Option<WorldRefusal>
+    fn unsent(&self, head: MessageEnds) -> Option<WorldRefusal>
         ensures { result ≡ head_refused self.now.world head }
     {
         match self.link_cut(head) {
@@ -215,7 +214,7 @@ impl Machine {
         }
     }
 
-    fn ineffective(&self, k: u64, standing: Standing) -> Option<WorldRefusal>
+    fn ineffective(&self, k: u64, standing: CommandState) -> Option<WorldRefusal>
         requires { length self.now.world.clients ≤ 16 }
         ensures { result ≡ effect_refused self.now.world k standing }
     {
@@ -237,7 +236,7 @@ impl Machine {
         }
     }
 
-    fn untold(&self, k: u64, ok: bool, standing: Standing) -> Option<WorldRefusal>
+    fn untold(&self, k: u64, ok: bool, standing: CommandState) -> Option<WorldRefusal>
         ensures { result ≡ report_refused self.now.world k ok standing }
     {
         match stands(is_told(ok, standing), WorldRefusal::DiskState(k)) {

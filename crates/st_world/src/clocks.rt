@@ -7,7 +7,7 @@ ghost use Rattle.st_rules.specs.World as world;
 ghost use Rattle.st_world.specs.Timed.{IsPair, IsTimed, excess_in};
 
 use crate::checks::stands;
-use crate::machine::Machine;
+use crate::machine::WorldMachine;
 use st_base::{ClientId, Config, NodeId, ServerId};
 use st_clock::{Drift, rate_ok};
 use st_rules::{Excess, WorldRefusal};
@@ -54,7 +54,7 @@ fn excess_after(drift: &Drift, steps: &[u64], config: &Config) -> Option<Excess>
     excess_in(drift.check(steps, config.num, config.den, config.grain))
 }
 
-impl Machine {
+impl WorldMachine {
     /// The node of a place among the clocks, from 0.
     #[tactic(auto, unfolding(st_rules::specs::World::node_of_place))]
     fn node_of_place(&self, place: usize) -> NodeId

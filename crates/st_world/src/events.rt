@@ -11,9 +11,9 @@ ghost use Rattle.st_server.specs.Room.{HasRoom};
 ghost use Rattle.st_world.specs.Indexes.{AtPlace};
 ghost use Rattle.st_world.specs.Readiness.{IsReady};
 
+use crate::client::WorldClient;
 use crate::index::index_of;
-use crate::machine::Machine;
-use crate::site::Site;
+use crate::machine::WorldMachine;
 use st_base::{ClientId, NodeId, ServerId};
 use st_messages::Message;
 use st_rules::{ClientInput, IssuedCommand, ServerInput};
@@ -31,7 +31,7 @@ pub(crate) fn node_of_number(n: u16) -> NodeId
     }
 }
 
-impl Site {
+impl WorldClient {
     /// Whether the instance of the client that submitted a command still runs.
     fn is_same_instance(&self, command: &IssuedCommand) -> bool
         ensures { result ≡ events.is_same_instance command.now self.now }
@@ -40,7 +40,7 @@ impl Site {
     }
 }
 
-fn is_same_at(clients: &[Site], i: usize, command: &IssuedCommand) -> bool
+fn is_same_at(clients: &[WorldClient], i: usize, command: &IssuedCommand) -> bool
     requires { i < length clients.now }
     ensures { (site : ClientSite) → slice_get clients.now i ≡ Some site → result ≡ events.is_same_instance command.now site }
 {
@@ -48,7 +48,7 @@ fn is_same_at(clients: &[Site], i: usize, command: &IssuedCommand) -> bool
     site.is_same_instance(command)
 }
 
-impl Machine {
+impl WorldMachine {
     /// A client takes an input.
     #[tactic(auto, unfolding(st_rules::specs::Events::at_client))]
     fn client_take(&mut self, client: ClientId, mut input: ClientInput) -> Result<(), AllocError>
@@ -121,7 +121,7 @@ impl Machine {
 
     /// The client at this place is told how its command ended, where the instance that submitted the command still runs.
     #[tactic(auto, unfolding(st_rules::specs::Events::tells_site))]
-    fn tell_at(
+    fn report_to_client(
         &mut self,
         k: u64,
         ok: bool,
@@ -154,7 +154,7 @@ impl Machine {
     {
         match index_of(command.client.0, self.clients.len()) {
             None => Ok(()),
-            Some(i) => self.tell_at(k, ok, command, i),
+            Some(i) => self.report_to_client(k, ok, command, i),
         }
     }
 

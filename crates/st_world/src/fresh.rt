@@ -5,7 +5,7 @@ ghost use Rattle.st_rules.specs.Extents.{numbers};
 ghost use Rattle.st_rules.specs.World as world;
 ghost use Rattle.st_world.specs.Heads.{HasCounts, nodes_at_start};
 
-use crate::site::Site;
+use crate::client::WorldClient;
 use st_base::{ClientId, Config, ServerId, Stamp};
 use st_client::ClientNode;
 use st_messages::Counts;
@@ -37,14 +37,14 @@ fn fresh_site(
     client: ClientId,
     config: &Config,
     servers: u16,
-) -> Result<Site, AllocError>
+) -> Result<WorldClient, AllocError>
     requires checked { IsOk (settings.check config.now) }
     requires client { 1 ≤ client.0 }
     requires clients { client.0 ≤ 16 }
     requires servers { servers ≤ 4 }
     ensures { IfOk result (λ s. s ≡ world.fresh_site config.now servers client.0) }
 {
-    Ok(Site {
+    Ok(WorldClient {
         node: ClientNode::fresh(alloc, client, config, servers)?,
         asks: 0,
         starts: 0,
@@ -54,7 +54,7 @@ fn fresh_site(
 /// Adds the clients.
 pub(crate) fn push_sites(
     alloc: Global,
-    sites: &mut Vec<Site>,
+    sites: &mut Vec<WorldClient>,
     config: &Config,
     counts: &Counts,
 ) -> Result<(), AllocError>

@@ -2,36 +2,34 @@
 //! has the rules.
 #![tactic(auto)]
 
-mod advancing;
+mod admission;
+mod advances;
 mod answers;
-mod asking;
+mod asks;
 mod changes;
 mod checks;
+mod client;
 mod clocks;
-mod crashing;
-mod ending;
+mod crashes;
+mod dispatch;
 mod events;
 mod fault;
 mod flushes;
 mod fresh;
 mod growth;
-mod happening;
 mod index;
-mod issuing;
-mod judging;
+mod lease_ends;
 mod machine;
-mod missing;
-mod noting;
+mod missed_flushes;
+mod node_steps;
+mod notes;
+mod outputs;
 mod parts;
 mod safe;
-mod site;
-mod stepping;
-mod summing;
-mod taking;
+mod steps;
+mod summary;
 mod world;
 
 pub use fault::WorldFault;
 pub use growth::{events_keep_the_shape, server_steps_grow_little};
-pub use machine::Machine;
-pub use site::Site;
 pub use world::World;

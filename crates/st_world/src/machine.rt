@@ -1,31 +1,30 @@
 // The parts of the world, and the observations of the step so far.
-ghost use Rattle.std.specs.Prelude.{◌≡◌, ◌≤◌, ◌<◌, ◌+◌, OnOk, length};
+ghost use Rattle.std.specs.Prelude.{◌≡◌, ◌≤◌, ◌<◌, ◌+◌, Some, OnOk, length, option_map};
 ghost use Rattle.std.specs.Option.{option_copied};
 ghost use Rattle.st_rules.specs.Events as events;
 ghost use Rattle.st_rules.specs.World as world;
 ghost use Rattle.st_world.specs.Keeping.{Stays};
 
-use crate::site::Site;
+use crate::client::WorldClient;
 use st_base::{BlockAt, ClientId, Config, Life, NodeId, ServerId, Stamp};
+use st_client::ClientNode;
 use st_clock::Drift;
-use st_commands::Commands;
-use st_lives::Lives;
 use st_model::FlatLog;
-use st_network::Network;
 use st_rules::{FlushStep, LeaseLife, Observation};
 use st_server::ServerNode;
+use st_world_parts::{Commands, Lives, Network};
 use std::alloc::{AllocError, Global};
 use std::marker::Model;
 
-/// The parts of a world, and what was observed in the step so far. Contracts see them as a scene.
+/// The parts of a world, and what was observed in the step so far. Contracts see them as a step so far (`WorldTurn`).
 #[derive(Drop)]
-pub struct Machine {
+pub(crate) struct WorldMachine {
     pub(crate) alloc: Global,
     pub(crate) config: Config,
     pub(crate) form: u8,
     pub(crate) lives: Lives,
     pub(crate) drift: Drift,
-    pub(crate) clients: Vec<Site>,
+    pub(crate) clients: Vec<WorldClient>,
     pub(crate) servers: Vec<ServerNode>,
     pub(crate) net: Network,
     pub(crate) commands: Commands,
@@ -39,10 +38,10 @@ pub struct Machine {
     pub(crate) present: Vec<LeaseLife>,
 }
 
-impl Model for Machine {
+impl Model for WorldMachine {
     ghost use Rattle.st_rules.specs.Events as shared;
 
-    ghost Value = { shared.Scene };
+    ghost Value = { shared.WorldTurn };
 
     ghost view = { λ m. record {
       world = record {
@@ -65,7 +64,7 @@ impl Model for Machine {
 }
 
 /// The client of a number, from 1.
-pub(crate) fn site_at(clients: &[Site], client: ClientId) -> Option<&Site>
+pub(crate) fn site_at(clients: &[WorldClient], client: ClientId) -> Option<&WorldClient>
     ensures { option_copied result ≡ world.numbered clients.now client.0 }
 {
     if client.0 == 0 {
@@ -84,7 +83,7 @@ pub(crate) fn node_at(servers: &[ServerNode], server: ServerId) -> Option<&Serve
     servers.get((server.0 - 1) as usize)
 }
 
-fn life_at(site: Option<&Site>, server: ServerId) -> Life
+fn life_at(site: Option<&WorldClient>, server: ServerId) -> Life
     ensures { result ≡ events.life_of_site server (option_copied site.entry) }
 {
     match site {
@@ -93,14 +92,32 @@ fn life_at(site: Option<&Site>, server: ServerId) -> Life
     }
 }
 
-impl Machine {
+impl WorldMachine {
     /// One more observation.
-    pub(crate) fn see(&mut self, observation: Observation) -> Result<(), AllocError>
-        ensures exact { OnOk result (self.new ≡ events.see self.old.world self.old observation) }
+    pub(crate) fn observe(&mut self, observation: Observation) -> Result<(), AllocError>
+        ensures exact { OnOk result (self.new ≡ events.observe self.old.world self.old observation) }
         ensures kept { Stays self.old self.new }
     {
         self.seen.push(observation)?;
         Ok(())
+    }
+
+    /// The client of a number, from 1, which is there.
+    pub(crate) fn client_node(&self, client: ClientId) -> &ClientNode
+        requires first { 1 ≤ client.0 }
+        requires last { client.0 ≤ length self.now.world.clients }
+        ensures { option_map (λ site. site.node) (world.site_of self.now.world client) ≡ Some result.now }
+    {
+        &self.clients[client.0 as usize - 1].node
+    }
+
+    /// The server of a number, from 1, which is there.
+    pub(crate) fn server_node(&self, server: ServerId) -> &ServerNode
+        requires first { 1 ≤ server.0 }
+        requires last { server.0 ≤ length self.now.world.servers }
+        ensures { world.node_of self.now.world server ≡ Some result.now }
+    {
+        &self.servers[server.0 as usize - 1]
     }
 
     /// The server of a disk.

@@ -1,29 +1,26 @@
 // The parts of a world, and what they return of it.
-ghost use Rattle.std.specs.Prelude.{◌≡◌, ◌<◌, ◌≤◌, ◌+◌, ◌^◌, [], true, None, IsOk, IfOk, OnOk, length, option_map};
-ghost use Rattle.std.specs.Option.{option_copied};
+ghost use Rattle.std.specs.Prelude.{◌≡◌, ◌<◌, ◌≤◌, ◌+◌, ◌^◌, [], true, None, Some, IsOk, IfOk, OnOk, length, option_map};
 ghost use Rattle.st_base.specs.Config as settings;
 ghost use Rattle.st_rules.specs.Admissible.{refusal};
 ghost use Rattle.st_rules.specs.Events as events;
 ghost use Rattle.st_rules.specs.Safety.{IsHead, is_event};
 ghost use Rattle.st_rules.specs.World as rules;
 ghost use Rattle.st_rules.specs.World.{fresh_world};
-ghost use Rattle.st_network.specs.Pieces as pieces;
+ghost use Rattle.st_world_parts.specs.Pieces as pieces;
 ghost use Rattle.st_world.specs.Heads.{HasCounts, least};
 ghost use Rattle.st_world.specs.Steps.{StepsAs};
 
 use crate::fault::WorldFault;
 use crate::fresh::{push_client_clocks, push_nodes, push_server_clocks, push_sites};
-use crate::machine::{Machine, node_at, site_at};
-use crate::site::Site;
+use crate::machine::WorldMachine;
 use st_base::{ClientId, Config, NodeId, ServerId, Stamp};
+use st_client::ClientNode;
 use st_clock::Drift;
-use st_commands::Commands;
-use st_lives::Lives;
 use st_messages::{Counts, Event};
 use st_model::FlatLog;
-use st_network::Network;
 use st_rules::{Observation, Summary, WorldRefusal, runs_go_on_in_parts};
 use st_server::ServerNode;
+use st_world_parts::{Commands, Lives, Network};
 use std::alloc::{AllocError, Global};
 use std::marker::Model;
 use std::mem;
@@ -32,8 +29,8 @@ use std::mem;
 /// no event then.
 #[derive(Drop)]
 pub(crate) struct Parts {
-    machine: Machine,
-    spare: Machine,
+    machine: WorldMachine,
+    spare: WorldMachine,
     pub(crate) broken: bool,
 }
 
@@ -60,7 +57,12 @@ fn fresh_lives(alloc: Global, counts: &Counts) -> Result<Lives, AllocError>
 
 /// The parts of a world at the start.
 #[tactic(auto, unfolding(st_rules::specs::World::fresh_world))]
-fn fresh(alloc: Global, config: Config, counts: &Counts, form: u8) -> Result<Machine, AllocError>
+fn fresh(
+    alloc: Global,
+    config: Config,
+    counts: &Counts,
+    form: u8,
+) -> Result<WorldMachine, AllocError>
     requires checked { IsOk (settings.check config) }
     requires counts { HasCounts counts.now }
     ensures { IfOk result (λ m. m ≡ events.quiet (fresh_world config counts.now.clients counts.now.servers counts.now.disks counts.now.blocks form)) }
@@ -71,7 +73,7 @@ fn fresh(alloc: Global, config: Config, counts: &Counts, form: u8) -> Result<Mac
     push_nodes(alloc, &mut servers, &config, counts)?;
     let lives = fresh_lives(alloc, counts)?;
     let drift = Drift::new(alloc, counts.clients as usize + counts.servers as usize)?;
-    Ok(Machine {
+    Ok(WorldMachine {
         alloc,
         config,
         form,
@@ -215,18 +217,22 @@ impl Parts {
         self.machine.summary()
     }
 
-    /// Returns the client of a number, from 1.
-    pub(crate) fn client(&self, client: ClientId) -> Option<&Site>
-        ensures { option_copied result ≡ rules.site_of self.now client }
+    /// Returns the client of a number, from 1, which is there.
+    pub(crate) fn client(&self, client: ClientId) -> &ClientNode
+        requires first { 1 ≤ client.0 }
+        requires last { client.0 ≤ length self.now.clients }
+        ensures { option_map (λ site. site.node) (rules.site_of self.now client) ≡ Some result.now }
     {
-        site_at(&self.machine.clients, client)
+        self.machine.client_node(client)
     }
 
-    /// Returns the server of a number, from 1.
-    pub(crate) fn server(&self, server: ServerId) -> Option<&ServerNode>
-        ensures { option_copied result ≡ rules.node_of self.now server }
+    /// Returns the server of a number, from 1, which is there.
+    pub(crate) fn server(&self, server: ServerId) -> &ServerNode
+        requires first { 1 ≤ server.0 }
+        requires last { server.0 ≤ length self.now.servers }
+        ensures { rules.node_of self.now server ≡ Some result.now }
     {
-        node_at(&self.machine.servers, server)
+        self.machine.server_node(server)
     }
 
     /// Returns the log.

@@ -1,19 +1,18 @@
 // The world.
-ghost use Rattle.std.specs.Prelude.{◌≡◌, ◌<◌, ◌+◌, ◌^◌, true, None, IfOk, OnOk, length, option_map};
-ghost use Rattle.std.specs.Option.{option_copied};
+ghost use Rattle.std.specs.Prelude.{◌≡◌, ◌<◌, ◌≤◌, ◌+◌, ◌^◌, true, None, Some, IfOk, OnOk, length, option_map};
 ghost use Rattle.st_rules.specs.Admissible.{refusal};
 ghost use Rattle.st_rules.specs.Events as events;
 ghost use Rattle.st_rules.specs.Safety.{IsHead, is_event};
 ghost use Rattle.st_rules.specs.World as rules;
 ghost use Rattle.st_rules.specs.World.{fresh_world};
-ghost use Rattle.st_network.specs.Pieces as pieces;
+ghost use Rattle.st_world_parts.specs.Pieces as pieces;
 ghost use Rattle.st_world.specs.Safe.{GoesOnSafely, IsLedSafely};
 ghost use Rattle.st_world.specs.Steps.{StepsAs};
 
 use crate::fault::WorldFault;
 use crate::parts::Parts;
-use crate::site::Site;
 use st_base::{ClientId, Config, NodeId, ServerId, Stamp};
+use st_client::ClientNode;
 use st_messages::{Counts, Event};
 use st_model::FlatLog;
 use st_rules::{Observation, Summary, WorldRefusal};
@@ -37,13 +36,27 @@ impl Model for World {
 }
 
 impl World {
-    /// The world of a head.
-    pub fn new(alloc: Global, config: Config, counts: Counts, form: u8) -> Result<World, AllocError>
-        requires head { IsHead config counts.clients counts.servers counts.disks counts.blocks form }
-        ensures fresh { IfOk result (λ w. w ≡ fresh_world config counts.clients counts.servers counts.disks counts.blocks form) }
+    /// The world of a head: the settings, how many clients, servers and disks there are, how many blocks a disk has, and the head's form.
+    pub fn new(
+        alloc: Global,
+        config: &Config,
+        clients: u16,
+        servers: u16,
+        disks: u16,
+        blocks: u32,
+        form: u8,
+    ) -> Result<World, AllocError>
+        requires head { IsHead config.now clients servers disks blocks form }
+        ensures fresh { IfOk result (λ w. w ≡ fresh_world config.now clients servers disks blocks form) }
         ensures led { IfOk result IsLedSafely }
     {
-        let parts = Parts::new(alloc, config, counts, form)?;
+        let counts = Counts {
+            clients,
+            servers,
+            disks,
+            blocks,
+        };
+        let parts = Parts::new(alloc, *config, counts, form)?;
         parts.runs_here_are_safe();
         Ok(World {
             of: Box::new(alloc, parts)?,
@@ -136,16 +149,20 @@ impl World {
         self.of.summary()
     }
 
-    /// Returns the client of a number, from 1.
-    pub fn client(&self, client: ClientId) -> Option<&Site>
-        ensures { option_copied result ≡ rules.site_of self.now client }
+    /// Returns the client of a number, from 1. It is one of this world.
+    pub fn client(&self, client: ClientId) -> &ClientNode
+        requires first { 1 ≤ client.0 }
+        requires last { client.0 ≤ length self.now.clients }
+        ensures { option_map (λ site. site.node) (rules.site_of self.now client) ≡ Some result.now }
     {
         self.of.client(client)
     }
 
-    /// Returns the server of a number, from 1.
-    pub fn server(&self, server: ServerId) -> Option<&ServerNode>
-        ensures { option_copied result ≡ rules.node_of self.now server }
+    /// Returns the server of a number, from 1. It is one of this world.
+    pub fn server(&self, server: ServerId) -> &ServerNode
+        requires first { 1 ≤ server.0 }
+        requires last { server.0 ≤ length self.now.servers }
+        ensures { rules.node_of self.now server ≡ Some result.now }
     {
         self.of.server(server)
     }

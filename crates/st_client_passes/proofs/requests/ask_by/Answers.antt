@@ -1,6 +1,6 @@
 use Rattle.std.proofs.Common.{◌≡◌, subst}
 use Rattle.std.specs.Prelude.{OnOk}
-use Rattle.st_association.specs.Turns.{session_of}
+use Rattle.st_client_association.specs.Turns.{session_of}
 use Rattle.st_client_passes.proofs.Repeating.{first_release, no_release}
 use Rattle.st_client_passes.proofs.requests.ask_by.Goals as goal
 

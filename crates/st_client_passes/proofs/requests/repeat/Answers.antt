@@ -1,6 +1,6 @@
 use Rattle.std.proofs.Common.{◌≡◌, subst}
 use Rattle.std.specs.Prelude.{OnOk}
-use Rattle.st_association.specs.Turns.{session_of}
+use Rattle.st_client_association.specs.Turns.{session_of}
 use Rattle.st_client_passes.proofs.Repeating.{off_tick, on_tick}
 use Rattle.st_client_passes.proofs.requests.repeat.Goals as goal
 

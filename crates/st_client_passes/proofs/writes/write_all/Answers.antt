@@ -1,7 +1,7 @@
 use Rattle.std.proofs.Common.{◌≡◌, ◌∙◌, ap, sym, subst}
 use Rattle.std.specs.Prelude.{OnOk}
 use Rattle.st_rules.specs.ClientPasses.{write_each}
-use Rattle.st_association.specs.Turns.{session_of}
+use Rattle.st_client_association.specs.Turns.{session_of}
 use Rattle.st_client_passes.proofs.Sessions.{writes_with}
 use Rattle.st_client_passes.proofs.writes.write_all.Goals as goal
 

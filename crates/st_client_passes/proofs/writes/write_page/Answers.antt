@@ -1,7 +1,7 @@
 use Rattle.std.proofs.Common.{◌∙◌, sym}
 use Rattle.std.proofs.lemmas.Result.{on_ok_weaker}
 use Rattle.st_rules.specs.ClientPages.{dirty_of}
-use Rattle.st_association.specs.Turns.{session_of}
+use Rattle.st_client_association.specs.Turns.{session_of}
 use Rattle.st_client_passes.proofs.Writing.{due_free, due_out, not_due}
 use Rattle.st_client_passes.proofs.writes.write_page.Goals as goal
 

@@ -5,8 +5,8 @@ use Rattle.st_link.specs.Prefixes.{AppendsPrefix}
 use Rattle.st_replay.specs.Ends.{IsCutOff}
 use Rattle.st_runs.proofs.Known.{if_known}
 use Rattle.st_runs.specs.Replay.{replay_of, report_of}
-use Rattle.st_service.specs.Ends.{Completes, IsAttached, IsServed}
-use Rattle.st_service.specs.Words.{name_in, node_of}
+use Rattle.st_tank.specs.NodeEnds.{Completes, IsAttached, IsServed}
+use Rattle.st_tank.specs.NodeWords.{name_in, node_of}
 use Rattle.st_tank.specs.Status.{status_of}
 use Rattle.st_tank.proofs.Nodes.{no_job, none_is, not_three, nothing_made, nothing_replayed, some_is}
 use Rattle.st_tank.proofs.program.run.Goals as goal

@@ -1,6 +1,6 @@
 use Rattle.std.proofs.Common.{ap, sym, subst, ◌∙◌, vec_capacity}
 use Rattle.std.specs.List.{list_all}
-use Rattle.st_association.specs.Associations.{has_room_at}
+use Rattle.st_client_association.specs.Associations.{has_room_at}
 use Rattle.st_rules.specs.Client.{ClientNode, start}
 use Rattle.st_client.proofs.Crashing.{low_there, none_runs}
 use Rattle.st_client.proofs.Running.{started_fits, starts_in}

@@ -2,7 +2,7 @@ use Rattle.std.proofs.Common.{◌≡◌, map}
 use Rattle.std.specs.Prelude.{◌&&◌}
 use Rattle.std.specs.List.{list_all}
 use Rattle.std.specs.VecDeque.Iter.{deque_iter_rest}
-use Rattle.st_association.specs.Associations.{has_room_at}
+use Rattle.st_client_association.specs.Associations.{has_room_at}
 use Rattle.st_client.specs.Machines.{here_of}
 use Rattle.st_client.proofs.state.State.has_room.Given as goal
 

@@ -2,7 +2,7 @@ use Rattle.std.proofs.Common.{◌≡◌, ◌-◌, ◌≤◌, [], drop, get_or, s
 use Rattle.st_base.specs.declared.config.Config.{Config}
 use Rattle.st_base.specs.declared.ids.ServerId.{ServerId}
 use Rattle.st_client.specs.declared.ends.LeaseEnds.{LeaseEnds}
-use Rattle.st_client.specs.declared.parts.Parts.{Parts}
+use Rattle.st_client.specs.declared.parts.ClientParts.{ClientParts}
 use Rattle.st_client.specs.Nodes.{AreGiven}
 use Rattle.st_client.proofs.Ending.{AreEnds, drop_all, ends_next, next_place, no_ends, place_in, server_at_place}
 use Rattle.st_rules.specs.ClientState.{ClientState}
@@ -24,7 +24,7 @@ put-requires-clause-first c =
     let x = c.self.inside.parts.value in
     let v = ap (λ (s : ClientState). s.associations) c.self.view_is in
     let l = place_in x.associations.items c.args.self.now.associations c.loop-i.i v c.loop-i-test.true c.loop-i.invariant.most in
-    let e = c.index-a.ensures ∙ ap (λ (p : Parts). get_or p.associations.items (c.loop-i.i - 1) c.index-a.result.now) c.deref.ensures in
+    let e = c.index-a.ensures ∙ ap (λ (p : ClientParts). get_or p.associations.items (c.loop-i.i - 1) c.index-a.result.now) c.deref.ensures in
     subst (λ (s : ServerId). 1 ≤ s.0) (sym c.server.ensures)
     (server_at_place x.id x.config x.next_command x.associations.items c.args.self.now.associations (c.loop-i.i - 1) c.index-a.result.now v l e c.requires).0
 
@@ -33,7 +33,7 @@ put-requires-clause-last c =
     let x = c.self.inside.parts.value in
     let v = ap (λ (s : ClientState). s.associations) c.self.view_is in
     let l = place_in x.associations.items c.args.self.now.associations c.loop-i.i v c.loop-i-test.true c.loop-i.invariant.most in
-    let e = c.index-a.ensures ∙ ap (λ (p : Parts). get_or p.associations.items (c.loop-i.i - 1) c.index-a.result.now) c.deref.ensures in
+    let e = c.index-a.ensures ∙ ap (λ (p : ClientParts). get_or p.associations.items (c.loop-i.i - 1) c.index-a.result.now) c.deref.ensures in
     subst (λ (s : ServerId). s.0 ≤ 4) (sym c.server.ensures)
     (server_at_place x.id x.config x.next_command x.associations.items c.args.self.now.associations (c.loop-i.i - 1) c.index-a.result.now v l e c.requires).1
 
@@ -44,7 +44,7 @@ loop-i-preserved c =
     let xs = c.args.self.now.associations in
     let v = ap (λ (s : ClientState). s.associations) c.self.view_is in
     let l = place_in x.associations.items xs c.loop-i.i v c.loop-i-test.true c.loop-i.invariant.most in
-    let e = c.index-a.ensures ∙ ap (λ (p : Parts). get_or p.associations.items (c.loop-i.i - 1) c.index-a.result.now) c.deref.ensures in
+    let e = c.index-a.ensures ∙ ap (λ (p : ClientParts). get_or p.associations.items (c.loop-i.i - 1) c.index-a.result.now) c.deref.ensures in
     let given = subst (λ (m : Config). AreGiven x.id m x.next_command x.associations.items) (ap (λ (s : ClientState). s.config) c.self.view_is) c.self.invariant.given in
     let most = c.loop-i.invariant.most in
     record {

@@ -1,0 +1,5 @@
+pub mod Kept
+pub mod Sending
+pub mod LostRows
+pub mod Done
+pub mod Emptiness

@@ -1,0 +1,11 @@
+use Rattle.std.proofs.Common.{refl}
+use Rattle.st_client_association.proofs.Kept.{lent, store_changed}
+use Rattle.st_client_association.proofs.Done.{version_filled}
+use Rattle.st_client_association.proofs.turn.Turn.fill.Goals as goal
+
+pub invariant_of-self-2 : goal.invariant_of-self-2
+invariant_of-self-2 c =
+    let x = c.self.inside in
+    let h = c.deref_mut.result.now in
+    let k = lent x.here.value h x.next_command x.out.items c.deref_mut.ensures.value c.self.invariant in
+    rw c.in_ok-fill.ensures.ok (store_changed h.id h.config h.server h.life h.session h.store _ x.next_command x.out.items k refl k.given (version_filled h.store.store.pages c.args.ino c.args.page c.args.bytes.now))

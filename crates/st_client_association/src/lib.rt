@@ -1,0 +1,16 @@
+//! A client's association with one server, and a step at it. `docs/PROTOCOL.md`, "The client", has the rules.
+#![tactic(auto)]
+
+mod association;
+mod command_ends;
+mod disks;
+mod lease_loss;
+mod outputs;
+mod pending;
+mod readers;
+mod sessions;
+mod stores;
+mod turn;
+
+pub use association::Association;
+pub use turn::Turn;

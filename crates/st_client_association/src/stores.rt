@@ -1,0 +1,117 @@
+// The store of a step: look-ups, and what its rules change.
+ghost use Rattle.std.specs.Prelude.{◌≡◌, IfOk, OnOk, length};
+ghost use Rattle.std.specs.Option.{option_copied};
+ghost use Rattle.st_rules.specs.ClientPages as pages;
+ghost use Rattle.st_rules.specs.ClientReplies as replies;
+ghost use Rattle.st_rules.specs.ClientState as client;
+
+use crate::turn::Turn;
+use st_base::{ExtentRow, PageBytes, PageNo};
+use st_client_store::Store;
+use st_rules::{DirtyPage, KnownExtent, MappedBlock};
+use std::alloc::AllocError;
+
+impl Turn {
+    /// All that the client has of the server's disks.
+    pub fn store(&self) -> &Store
+        ensures server { result.now.server ≡ self.now.here.server }
+        ensures store { result.now.store ≡ self.now.here.store }
+    {
+        &self.here.store
+    }
+
+    /// Whether the file has no dirty page and no outstanding write.
+    pub fn is_hard(&self, ino: u32) -> bool
+        ensures { result ≡ pages.is_hard self.now.here.store ino }
+    {
+        self.here.store.is_hard(ino)
+    }
+
+    /// Whether the file has no dirty page and no outstanding command.
+    pub fn is_idle(&self, ino: u32) -> bool
+        ensures { result ≡ pages.is_idle self.now.here.store ino }
+    {
+        self.here.store.is_idle(ino)
+    }
+
+    /// The known mapping of a page.
+    pub fn mapping(&self, ino: u32, page: PageNo) -> Option<MappedBlock>
+        ensures { result ≡ pages.mapping_of self.now.here.store.extents ino page }
+    {
+        self.here.store.mapping(ino, page)
+    }
+
+    /// What is known of a page.
+    pub fn known(&self, ino: u32, page: PageNo) -> Option<KnownExtent>
+        ensures { result ≡ pages.known_of self.now.here.store.extents ino page }
+    {
+        self.here.store.known(ino, page)
+    }
+
+    /// The bytes of a page that is dirty or clean. A clean page stays in its place.
+    pub fn cached(&self, ino: u32, page: PageNo) -> Option<&PageBytes>
+        ensures { option_copied result ≡ pages.cached self.now.here.store.pages ino page }
+    {
+        self.here.store.cached(ino, page)
+    }
+
+    /// Whether a read of the page is outstanding.
+    pub fn is_being_read(&self, ino: u32, page: PageNo) -> bool
+        ensures { result ≡ pages.is_being_read self.now.here.store.commands ino page }
+    {
+        self.here.store.is_being_read(ino, page)
+    }
+
+    /// Whether a write of the page is outstanding.
+    pub fn is_being_written(&self, ino: u32, page: PageNo) -> bool
+        ensures { result ≡ pages.is_being_written self.now.here.store.commands ino page }
+    {
+        self.here.store.is_being_written(ino, page)
+    }
+
+    /// The dirty page.
+    pub fn dirty(&self, ino: u32, page: PageNo) -> Option<&DirtyPage>
+        ensures { option_copied result ≡ pages.dirty_of self.now.here.store.pages ino page }
+    {
+        self.here.store.dirty_page(ino, page)
+    }
+
+    /// How many pages are dirty.
+    pub fn dirty_count(&self) -> usize
+        ensures { result ≡ length self.now.here.store.pages.dirty }
+    {
+        self.here.store.dirty_count()
+    }
+
+    /// The places of all dirty pages, by rising file and page.
+    pub fn dirty_places(&self) -> Result<Vec<(u32, PageNo)>, AllocError>
+        ensures { IfOk result (λ v. v.items ≡ pages.dirty_places self.now.here.store.pages) }
+    {
+        self.here.store.dirty_places()
+    }
+
+    /// The file is forgotten from this page on. It does not allocate.
+    pub fn forget_from(&mut self, ino: u32, page: PageNo)
+        ensures { self.new ≡ client.with_store (pages.forget_from self.old.here.store ino page) self.old }
+    {
+        self.here.store.forget_from(ino, page);
+    }
+
+    /// The page is known to have no block.
+    pub fn know_unmapped(&mut self, ino: u32, page: PageNo) -> Result<(), AllocError>
+        ensures { OnOk result (self.new ≡ client.with_store (replies.with_unmapped ino page self.old.here.store) self.old) }
+    {
+        self.here.store.know(KnownExtent {
+            ino,
+            page,
+            mapping: None,
+        })
+    }
+
+    /// Told rows of a file are known.
+    pub fn know_rows(&mut self, ino: u32, rows: &[ExtentRow]) -> Result<(), AllocError>
+        ensures { OnOk result (self.new ≡ client.with_store (replies.with_extents_known ino rows.now self.old.here.store) self.old) }
+    {
+        self.here.store.know_rows(ino, rows)
+    }
+}

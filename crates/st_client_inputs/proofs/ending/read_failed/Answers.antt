@@ -1,7 +1,0 @@
-use Rattle.std.proofs.Common.{◌≡◌, subst}
-use Rattle.std.specs.Prelude.{OnOk}
-use Rattle.st_client_inputs.proofs.Commands.{failed_read}
-use Rattle.st_client_inputs.proofs.ending.read_failed.Goals as goal
-
-pub returns : goal.returns
-returns c = subst (λ u. OnOk c.answer_each.result (c.answer_each.new.self ≡ u)) (failed_read c.args.t.now c.args.c c.server.result c.server.ensures) c.answer_each.ensures

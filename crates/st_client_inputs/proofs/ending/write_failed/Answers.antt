@@ -1,9 +1,0 @@
-use Rattle.std.proofs.Common.{◌≡◌, subst}
-use Rattle.std.specs.Prelude.{OnOk}
-use Rattle.st_client_inputs.proofs.Commands.{failed_write}
-use Rattle.st_client_inputs.proofs.ending.write_failed.Goals as goal
-
-pub returns : goal.returns
-returns c =
-    subst (λ u. OnOk c.answer_each.result (c.answer_each.new.self ≡ u))
-    (failed_write c.args.t.now c.mark_failed.new.t c.args.c c.args.version c.server.result c.mark_failed.ensures c.server.ensures) c.answer_each.ensures

@@ -1,0 +1,266 @@
+// What the pending operations ask of a server: the first that asks is sent.
+ghost use Rattle.std.specs.Prelude.{◌≡◌, true, IfOk, slice_get};
+ghost use Rattle.std.specs.Option.{option_map};
+ghost use Rattle.st_client_association.specs.Turns.{has_session, session_of};
+ghost use Rattle.st_rules.specs.ClientLocks as locks;
+ghost use Rattle.st_rules.specs.ClientPasses as passes;
+ghost use Rattle.st_rules.specs.ClientState as client_state;
+ghost use Rattle.st_client_passes.specs.Asking.{asked_at, asking_at};
+
+use crate::greetings::has_passed;
+use crate::operations::is_open_file;
+use crate::wants::{Wanted, on_behalf, wanted_cut, wanted_itself};
+use st_base::{GrantNo, Mode, NameAsk, PageNo, Stamp};
+use st_client_association::Turn;
+use st_messages::{Ask, Body, NameOp};
+use st_operations::{file_of, is_of, is_sent};
+use st_rules::{HeldLock, LockWait, Operation};
+use std::alloc::AllocError;
+
+/// The mode that an operation needs: a read shared, and all else exclusive.
+fn need(ask: &Ask) -> Mode
+    ensures { result ≡ passes.need ask.now }
+{
+    match ask {
+        Ask::Read(_, _) => Mode::S,
+        _ => Mode::X,
+    }
+}
+
+/// Whether a lock is to be asked for: no wait is known, or its mode is lower, or it was told long ago.
+fn is_wait_old(t: &Turn, now: Stamp, mode: Mode, wait: Option<LockWait>) -> bool
+    ensures { result ≡ passes.is_wait_old t.now.config now mode wait }
+{
+    match wait {
+        None => true,
+        Some(wait) => !wait.mode.covers(mode) || has_passed(t.retry(), wait.at, now),
+    }
+}
+
+#[tactic(auto, unfolding(st_rules::specs::ClientPasses::want_lock))]
+fn want_lock(t: &Turn, now: Stamp, ino: u32, mode: Mode) -> Option<Wanted>
+    requires { has_session t.now ≡ true }
+    ensures { result ≡ passes.want_lock t.now (session_of t.now) now ino mode }
+{
+    if is_wait_old(t, now, mode, t.wait_of(ino)) {
+        on_behalf(Body::Acquire { ino, mode })
+    } else {
+        None
+    }
+}
+
+/// Whether the page is cached, or its place is known.
+fn is_at_hand(t: &Turn, ino: u32, page: PageNo) -> bool
+    ensures { result ≡ passes.is_at_hand t.now ino page }
+{
+    t.cached(ino, page).is_some() || t.known(ino, page).is_some()
+}
+
+#[tactic(auto, unfolding(st_rules::specs::ClientPasses::want_map))]
+fn want_map(t: &Turn, ino: u32, g: GrantNo, page: PageNo) -> Option<Wanted>
+    ensures { result ≡ passes.want_map t.now ino g page }
+{
+    if is_at_hand(t, ino, page) {
+        None
+    } else {
+        on_behalf(Body::Map { ino, g, page })
+    }
+}
+
+#[tactic(auto, unfolding(st_rules::specs::ClientPasses::want_block))]
+fn want_block(t: &Turn, ino: u32, g: GrantNo, page: PageNo) -> Option<Wanted>
+    ensures { result ≡ passes.want_block t.now ino g page }
+{
+    if t.mapping(ino, page).is_some() {
+        None
+    } else {
+        on_behalf(Body::Allocate {
+            ino,
+            g,
+            page,
+            count: 1,
+        })
+    }
+}
+
+#[tactic(auto, unfolding(st_rules::specs::ClientPasses::want_cut))]
+fn want_cut(t: &Turn, ino: u32, body: Body, page: PageNo) -> Option<Wanted>
+    ensures { result ≡ passes.want_cut t.now ino body page }
+{
+    if t.is_idle(ino) {
+        wanted_cut(body, ino, page)
+    } else {
+        None
+    }
+}
+
+/// An ask for a name, as it is sent; a remove names the grant of the file.
+fn name_op(ask: &NameAsk, g: GrantNo) -> Result<NameOp, AllocError>
+    ensures { IfOk result (λ op. op ≡ passes.name_op ask.now g) }
+{
+    match ask {
+        NameAsk::Lookup { dir, name } => Ok(NameOp::Lookup {
+            dir: *dir,
+            name: name.copy()?,
+        }),
+        NameAsk::Create { dir, name } => Ok(NameOp::Create {
+            dir: *dir,
+            name: name.copy()?,
+        }),
+        NameAsk::Mkdir { dir, name } => Ok(NameOp::Mkdir {
+            dir: *dir,
+            name: name.copy()?,
+        }),
+        NameAsk::Remove { dir, name, ino: _ } => Ok(NameOp::Remove {
+            dir: *dir,
+            name: name.copy()?,
+            g,
+        }),
+        NameAsk::Rename {
+            dir,
+            name,
+            dir2,
+            name2,
+        } => Ok(NameOp::Rename {
+            dir: *dir,
+            name: name.copy()?,
+            dir2: *dir2,
+            name2: name2.copy()?,
+        }),
+        NameAsk::List { dir, after } => Ok(NameOp::List {
+            dir: *dir,
+            after: after.copy()?,
+        }),
+    }
+}
+
+/// What an ask with the lock that it needs asks.
+#[tactic(auto, unfolding(st_rules::specs::ClientPasses::want_held))]
+fn want_held(t: &Turn, ask: &Ask, ino: u32, g: GrantNo) -> Result<Option<Wanted>, AllocError>
+    ensures { IfOk result (λ w. w ≡ passes.want_held t.now ask.now ino g) }
+{
+    match ask {
+        Ask::Read(_, page) => Ok(want_map(t, ino, g, *page)),
+        Ask::Write(_, page, _) => Ok(want_block(t, ino, g, *page)),
+        Ask::Patch(_, page, _, _) => Ok(want_block(t, ino, g, *page)),
+        Ask::Cut(_, page) => Ok(want_cut(
+            t,
+            ino,
+            Body::Cut {
+                ino,
+                g,
+                from: *page,
+            },
+            *page,
+        )),
+        Ask::Name(_, name) => Ok(want_cut(t, ino, Body::Name(name_op(name, g)?), PageNo(0))),
+        Ask::Sync(_) => Ok(None),
+    }
+}
+
+#[tactic(auto, unfolding(st_rules::specs::ClientPasses::want_under))]
+fn want_under(
+    t: &Turn,
+    now: Stamp,
+    ask: &Ask,
+    ino: u32,
+    lock: HeldLock,
+) -> Result<Option<Wanted>, AllocError>
+    requires { has_session t.now ≡ true }
+    ensures { IfOk result (λ w. w ≡ passes.want_under t.now (session_of t.now) now ask.now ino lock) }
+{
+    if lock.mode.covers(need(ask)) {
+        want_held(t, ask, ino, lock.g)
+    } else {
+        Ok(want_lock(t, now, ino, need(ask)))
+    }
+}
+
+#[tactic(auto, unfolding(st_rules::specs::ClientPasses::want_on, st_rules::specs::ClientPasses::want_by))]
+fn want_on(t: &Turn, now: Stamp, ask: &Ask, ino: u32) -> Result<Option<Wanted>, AllocError>
+    requires { has_session t.now ≡ true }
+    ensures { IfOk result (λ w. w ≡ passes.want_on t.now (session_of t.now) now ask.now ino) }
+{
+    match t.lock(ino) {
+        None => Ok(want_lock(t, now, ino, need(ask))),
+        Some(lock) => want_under(t, now, ask, ino, lock),
+    }
+}
+
+/// An ask for a name that is no remove of a file.
+#[tactic(auto, unfolding(st_rules::specs::ClientPasses::want_name))]
+fn want_name(ask: &Ask) -> Result<Option<Wanted>, AllocError>
+    ensures { IfOk result (λ w. w ≡ passes.want_name ask.now) }
+{
+    match ask {
+        Ask::Name(_, name) => Ok(wanted_itself(Body::Name(name_op(name, GrantNo(0))?))),
+        _ => Ok(None),
+    }
+}
+
+#[tactic(auto, unfolding(st_rules::specs::ClientPasses::want_at))]
+fn want_at(t: &Turn, now: Stamp, ask: &Ask) -> Result<Option<Wanted>, AllocError>
+    requires { has_session t.now ≡ true }
+    ensures { IfOk result (λ w. w ≡ passes.want_at t.now (session_of t.now) now ask.now (client_state.file_of ask.now)) }
+{
+    match file_of(ask) {
+        None => want_name(ask),
+        Some(ino) => want_on(t, now, ask, ino),
+    }
+}
+
+#[tactic(auto, unfolding(st_rules::specs::ClientPasses::want))]
+fn want(t: &Turn, now: Stamp, ask: &Ask) -> Result<Option<Wanted>, AllocError>
+    requires { has_session t.now ≡ true }
+    ensures { IfOk result (λ w. w ≡ passes.want t.now (session_of t.now) now ask.now) }
+{
+    match ask {
+        Ask::Sync(_) => Ok(None),
+        _ => want_at(t, now, ask),
+    }
+}
+
+/// Whether the operation is of this server, was not sent, and is on a file that is neither demanded nor busy, or on none.
+fn may_ask(t: &Turn, o: &Operation) -> bool
+    requires { has_session t.now ≡ true }
+    ensures { result ≡ passes.may_ask t.now (session_of t.now) o.now }
+{
+    is_of(t.server(), o) && (!is_sent(o) && is_open_file(t.operations(), t, file_of(&o.ask)))
+}
+
+#[tactic(auto, unfolding(st_rules::specs::ClientPasses::asked_by))]
+fn asked_by(t: &Turn, now: Stamp, o: &Operation) -> Result<Option<Wanted>, AllocError>
+    requires { has_session t.now ≡ true }
+    ensures { IfOk result (λ w. w ≡ passes.asked_by t.now (session_of t.now) now o.now) }
+{
+    if may_ask(t, o) {
+        want(t, now, &o.ask)
+    } else {
+        Ok(None)
+    }
+}
+
+/// What the operation at a place asks.
+fn asked_at(t: &Turn, now: Stamp, place: usize) -> Result<Option<Wanted>, AllocError>
+    requires { has_session t.now ≡ true }
+    ensures { IfOk result (λ w. w ≡ asked_at t.now now (slice_get t.now.operations place)) }
+{
+    match t.operations().get(place) {
+        None => Ok(None),
+        Some(o) => asked_by(t, now, o),
+    }
+}
+
+/// The place of the first operation that asks, and what it asks.
+pub fn first_asking(t: &Turn, now: Stamp) -> Result<Option<(usize, Wanted)>, AllocError>
+    requires { has_session t.now ≡ true }
+    ensures { IfOk result (λ found. option_map (asking_at t.now.operations) found ≡ passes.first_asking t.now (session_of t.now) now t.now.operations) }
+{
+    for i in 0..t.operations().len() {
+        match asked_at(t, now, i)? {
+            Some(wanted) => return Ok(Some((i, wanted))),
+            None => {}
+        }
+    }
+    Ok(None)
+}

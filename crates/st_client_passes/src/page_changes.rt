@@ -1,0 +1,200 @@
+// Writes and patches of pages.
+ghost use Rattle.std.specs.Prelude.{◌≡◌, ◌+◌, ◌≤◌, true, IfOk, OnOk, length, option_map};
+ghost use Rattle.st_client_association.specs.Turns.{has_session, session_of};
+ghost use Rattle.st_rules.specs.ClientPages as pages;
+ghost use Rattle.st_rules.specs.ClientPasses as passes;
+ghost use Rattle.st_rules.specs.ClientState as client_state;
+ghost use Rattle.st_rules.specs.FlatLog.{overlay};
+ghost use Rattle.st_client_passes.specs.Passing.{is_serving_at, put_back};
+
+use crate::page_reads::fetch;
+use st_base::{FileId, Mode, PageBytes, PageNo, Stamp};
+use st_client_association::Turn;
+use st_messages::{AppAnswer, Note, PatchBytes};
+use st_rules::Operation;
+use std::alloc::{AllocError, Global};
+
+/// Answers the operation, which is pending no more.
+pub fn answer(t: &mut Turn, o: &Operation, a: AppAnswer) -> Result<bool, AllocError>
+    ensures left { OnOk result (t.new.operations ≡ t.old.operations) }
+    ensures stays { IfOk result (λ stays. put_back o.now stays t.new ≡ passes.answer o.now a t.old) }
+{
+    t.answer(o.op, a)?;
+    Ok(false)
+}
+
+/// A page is changed to these bytes and noted, or too many others are dirty.
+#[tactic(auto, unfolding(st_rules::specs::ClientPasses::change_page, st_rules::specs::ClientPasses::change_by, st_rules::specs::ClientPasses::change))]
+fn change_page(
+    t: &mut Turn,
+    now: Stamp,
+    o: &Operation,
+    file: FileId,
+    page: PageNo,
+    bytes: &PageBytes,
+    note: Note,
+) -> Result<bool, AllocError>
+    requires session { has_session t.old ≡ true }
+    requires serving { is_serving_at t.old now ≡ true }
+    ensures left { OnOk result (t.new.operations ≡ t.old.operations) }
+    ensures stays { IfOk result (λ stays. put_back o.now stays t.new ≡ passes.change_page t.old o.now file page bytes.now note) }
+{
+    if t.change_page(now, file.ino, page, bytes, note)? {
+        answer(t, o, AppAnswer::Written)
+    } else {
+        answer(t, o, AppAnswer::DirtyFull)
+    }
+}
+
+/// Whether the file is held in this mode.
+pub fn holds(t: &Turn, mode: Mode, file: FileId) -> bool
+    requires { has_session t.now ≡ true }
+    ensures { result ≡ passes.holds (session_of t.now) mode file }
+{
+    t.mode(file.ino).covers(mode)
+}
+
+/// Whether the page is mapped, and may be changed.
+fn may_write(t: &Turn, file: FileId, page: PageNo) -> bool
+    requires { has_session t.now ≡ true }
+    ensures { result ≡ passes.may_write t.now (session_of t.now) file page }
+{
+    holds(t, Mode::X, file) && t.mapping(file.ino, page).is_some()
+}
+
+#[tactic(auto, unfolding(st_rules::specs::ClientPasses::write))]
+pub fn write(
+    t: &mut Turn,
+    now: Stamp,
+    o: &Operation,
+    file: FileId,
+    page: PageNo,
+    bytes: &PageBytes,
+) -> Result<bool, AllocError>
+    requires session { has_session t.old ≡ true }
+    requires serving { is_serving_at t.old now ≡ true }
+    ensures left { OnOk result (t.new.operations ≡ t.old.operations) }
+    ensures stays { IfOk result (λ stays. put_back o.now stays t.new ≡ passes.write t.old (session_of t.old) o.now file page bytes.now) }
+{
+    if may_write(t, file, page) {
+        let note = Note::Accepted {
+            file,
+            page,
+            bytes: bytes.copy()?,
+        };
+        change_page(t, now, o, file, page, bytes, note)
+    } else {
+        Ok(true)
+    }
+}
+
+#[tactic(auto, unfolding(st_rules::specs::FlatLog::overlay))]
+fn put(into: &mut [u8], at: usize, bytes: &[u8])
+    requires { at + length bytes.now ≤ length into.old }
+    ensures { into.new ≡ overlay at bytes.now into.old }
+{
+    into[at..at + bytes.len()].copy_from_slice(bytes);
+}
+
+/// The page with these bytes in place of its own from index `at` on.
+fn patched(
+    alloc: Global,
+    old: &PageBytes,
+    at: u16,
+    bytes: &PatchBytes,
+) -> Result<PageBytes, AllocError>
+    requires { at + length bytes.now ≤ 4096 }
+    ensures { IfOk result (λ page. page ≡ overlay at bytes.now old.now) }
+{
+    let mut whole = [0; 4096];
+    old.write_to(&mut whole);
+    put(&mut whole, at as usize, bytes.as_slice());
+    PageBytes::from_slice(alloc, &whole)
+}
+
+/// The patched page, where the page is dirty or clean.
+fn patched_page(
+    t: &Turn,
+    file: FileId,
+    page: PageNo,
+    at: u16,
+    bytes: &PatchBytes,
+) -> Result<Option<PageBytes>, AllocError>
+    requires { at + length bytes.now ≤ 4096 }
+    ensures { IfOk result (λ whole. whole ≡ option_map (overlay at bytes.now) (pages.cached t.now.here.store.pages file.ino page)) }
+{
+    match t.cached(file.ino, page) {
+        None => Ok(None),
+        Some(old) => Ok(Some(patched(t.alloc(), old, at, bytes)?)),
+    }
+}
+
+/// The page is changed to the patched one.
+fn patch_bytes(
+    t: &mut Turn,
+    now: Stamp,
+    o: &Operation,
+    file: FileId,
+    page: PageNo,
+    at: u16,
+    bytes: &PatchBytes,
+    whole: &PageBytes,
+) -> Result<bool, AllocError>
+    requires session { has_session t.old ≡ true }
+    requires serving { is_serving_at t.old now ≡ true }
+    ensures left { OnOk result (t.new.operations ≡ t.old.operations) }
+    ensures stays { IfOk result (λ stays. put_back o.now stays t.new ≡ passes.change_page t.old o.now file page whole.now (Note.Patched file page at bytes.now)) }
+{
+    let note = Note::Patched {
+        file,
+        page,
+        at,
+        bytes: bytes.copy()?,
+    };
+    change_page(t, now, o, file, page, whole, note)
+}
+
+/// The page's bytes are at hand, or are fetched.
+fn patch_at(
+    t: &mut Turn,
+    now: Stamp,
+    o: &Operation,
+    file: FileId,
+    page: PageNo,
+    at: u16,
+    bytes: &PatchBytes,
+) -> Result<bool, AllocError>
+    requires session { has_session t.old ≡ true }
+    requires serving { is_serving_at t.old now ≡ true }
+    requires range { at + length bytes.now ≤ 4096 }
+    ensures left { OnOk result (t.new.operations ≡ t.old.operations) }
+    ensures stays { IfOk result (λ stays. put_back o.now stays t.new ≡ passes.patch_at t.old o.now file page at bytes.now (pages.cached t.old.here.store.pages file.ino page)) }
+{
+    match patched_page(t, file, page, at, bytes)? {
+        None => fetch(t, now, o, file, page),
+        Some(whole) => patch_bytes(t, now, o, file, page, at, bytes, &whole),
+    }
+}
+
+#[tactic(auto, unfolding(st_rules::specs::ClientPasses::patch))]
+pub fn patch(
+    t: &mut Turn,
+    now: Stamp,
+    o: &Operation,
+    file: FileId,
+    page: PageNo,
+    at: u16,
+    bytes: &PatchBytes,
+) -> Result<bool, AllocError>
+    requires session { has_session t.old ≡ true }
+    requires serving { is_serving_at t.old now ≡ true }
+    requires range { at + length bytes.now ≤ 4096 }
+    ensures left { OnOk result (t.new.operations ≡ t.old.operations) }
+    ensures stays { IfOk result (λ stays. put_back o.now stays t.new ≡ passes.patch t.old (session_of t.old) o.now file page at bytes.now) }
+{
+    if may_write(t, file, page) {
+        patch_at(t, now, o, file, page, at, bytes)
+    } else {
+        Ok(true)
+    }
+}

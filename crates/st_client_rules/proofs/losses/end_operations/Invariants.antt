@@ -1,0 +1,10 @@
+use Rattle.std.proofs.Common.{◌≡◌, length}
+use Rattle.st_rules.specs.Client.{end_each, end_operations}
+use Rattle.st_client_rules.specs.Inputs.{session_in}
+use Rattle.st_client_rules.proofs.losses.end_operations.Given as goal
+
+abbrev pub invariant-loop-o : goal.invariant-loop-o
+invariant-loop-o l = end_each (session_in l.epoch) l.ended l.turn ≡ end_operations l.fn.turn (session_in l.epoch)
+
+abbrev pub decreases-loop-o : goal.decreases-loop-o
+decreases-loop-o l = length l.ended

@@ -1,0 +1,3 @@
+pub mod Replied
+pub mod Ending
+pub mod Inputs

@@ -1,0 +1,196 @@
+// What a counting reply does, besides renewing the lease.
+ghost use Rattle.std.specs.Prelude.{◌≡◌, true, IfOk, OnOk};
+ghost use Rattle.st_client_association.specs.Turns.{has_session, session_of};
+ghost use Rattle.st_rules.specs.ClientReplies as replies;
+ghost use Rattle.st_rules.specs.ClientState.{with_store};
+
+use crate::refusals::refused;
+use st_base::{ExtentRow, GrantNo, Mode, PageNo, Stamp};
+use st_client_association::Turn;
+use st_messages::{AppAnswer, Body, NameReply};
+use st_operations::RequestingOperation;
+use st_rules::HeldLock;
+use std::alloc::AllocError;
+
+/// A grant; the wait for the file is forgotten.
+#[tactic(auto, unfolding(st_rules::specs::ClientReplies::granted))]
+pub fn granted(turn: &mut Turn, ino: u32, g: GrantNo, mode: Mode) -> Result<(), AllocError>
+    requires { has_session turn.old ≡ true }
+    ensures { OnOk result (turn.new ≡ replies.granted turn.old (session_of turn.old) ino g mode) }
+{
+    turn.forget_wait(ino);
+    turn.grant(ino, g, mode)
+}
+
+#[tactic(auto, unfolding(st_rules::specs::ClientReplies::queued))]
+fn queued(turn: &mut Turn, now: Stamp, ino: u32, mode: Mode) -> Result<(), AllocError>
+    requires { has_session turn.old ≡ true }
+    ensures { OnOk result (turn.new ≡ replies.queued turn.old (session_of turn.old) now ino mode) }
+{
+    turn.queued(ino, mode, now)
+}
+
+/// A map that found no rows makes its page known as unmapped.
+fn learn_map(turn: &mut Turn, ino: u32, page: PageNo, rows: &[ExtentRow]) -> Result<(), AllocError>
+    ensures { OnOk result (turn.new ≡ with_store (replies.learn_map ino page rows.now turn.old.here.store) turn.old) }
+{
+    if rows.is_empty() {
+        turn.know_unmapped(ino, page)
+    } else {
+        turn.know_rows(ino, rows)
+    }
+}
+
+#[tactic(auto, unfolding(st_rules::specs::ClientReplies::learn))]
+fn learn(turn: &mut Turn, ino: u32, rows: &[ExtentRow], asked: &Body) -> Result<(), AllocError>
+    ensures { OnOk result (turn.new ≡ replies.learn turn.old ino rows.now asked.now) }
+{
+    match asked {
+        Body::Map { page, .. } => learn_map(turn, ino, *page, rows),
+        _ => turn.know_rows(ino, rows),
+    }
+}
+
+fn is_grant(g: GrantNo, lock: Option<HeldLock>) -> bool
+    ensures { result ≡ replies.is_grant g lock }
+{
+    match lock {
+        None => false,
+        Some(lock) => lock.g.0 == g.0,
+    }
+}
+
+/// Whether the file's lock has the grant of the request.
+fn is_current(turn: &Turn, asked: &Body) -> bool
+    requires { has_session turn.now ≡ true }
+    ensures { result ≡ replies.is_current (session_of turn.now).locks asked.now }
+{
+    match asked {
+        Body::Map { ino, g, .. } => is_grant(*g, turn.lock(*ino)),
+        Body::Allocate { ino, g, .. } => is_grant(*g, turn.lock(*ino)),
+        _ => false,
+    }
+}
+
+#[tactic(auto, unfolding(st_rules::specs::ClientReplies::extents))]
+fn extents(turn: &mut Turn, ino: u32, rows: &[ExtentRow], asked: &Body) -> Result<(), AllocError>
+    requires { has_session turn.old ≡ true }
+    ensures { OnOk result (turn.new ≡ replies.extents turn.old (session_of turn.old) ino rows.now asked.now) }
+{
+    if is_current(turn, asked) {
+        learn(turn, ino, rows, asked)
+    } else {
+        Ok(())
+    }
+}
+
+/// The operation of a cut is answered.
+#[tactic(auto, unfolding(st_rules::specs::ClientReplies::acknowledged))]
+fn acknowledged(turn: &mut Turn) -> Result<(), AllocError>
+    ensures { OnOk result (turn.new ≡ replies.acknowledged turn.old) }
+{
+    let server = turn.server();
+    turn.answer_each(&RequestingOperation { server }, &AppAnswer::Cut)
+}
+
+fn name_answer(reply: &NameReply) -> Result<AppAnswer, AllocError>
+    ensures { IfOk result (λ a. a ≡ replies.name_answer reply.now) }
+{
+    match reply {
+        NameReply::Ino(ino) => Ok(AppAnswer::Named(*ino)),
+        NameReply::Listed(rows) => Ok(AppAnswer::Listed(rows.copy()?)),
+        NameReply::Refused(code) => Ok(AppAnswer::Refused(*code)),
+    }
+}
+
+#[tactic(auto, unfolding(st_rules::specs::ClientReplies::drop_lock))]
+fn drop_lock(turn: &mut Turn, ino: u32, lock: HeldLock) -> Result<(), AllocError>
+    requires { has_session turn.old ≡ true }
+    ensures { OnOk result (turn.new ≡ replies.drop_lock turn.old (session_of turn.old) ino lock) }
+{
+    turn.drop_lock(ino);
+    turn.queue_release(ino, lock.g, Mode::None)
+}
+
+#[tactic(auto, unfolding(st_rules::specs::ClientReplies::drop_held))]
+fn drop_held(turn: &mut Turn, ino: u32, lock: Option<HeldLock>) -> Result<(), AllocError>
+    requires { has_session turn.old ≡ true }
+    ensures { OnOk result (turn.new ≡ replies.drop_held turn.old (session_of turn.old) ino lock) }
+{
+    match lock {
+        None => Ok(()),
+        Some(lock) => drop_lock(turn, ino, lock),
+    }
+}
+
+/// The file that was removed, if one was: its lock is dropped.
+#[tactic(auto, unfolding(st_rules::specs::ClientReplies::removed))]
+fn removed(turn: &mut Turn, file: Option<u32>) -> Result<(), AllocError>
+    requires { has_session turn.old ≡ true }
+    ensures { OnOk result (turn.new ≡ replies.removed turn.old (session_of turn.old) file) }
+{
+    match file {
+        None => Ok(()),
+        Some(ino) => {
+            let lock = turn.lock(ino);
+            drop_held(turn, ino, lock)
+        }
+    }
+}
+
+#[tactic(auto, unfolding(st_rules::specs::ClientReplies::named_as))]
+fn named_as(turn: &mut Turn, file: Option<u32>, reply: &NameReply) -> Result<(), AllocError>
+    requires { has_session turn.old ≡ true }
+    ensures { OnOk result (turn.new ≡ replies.named_as turn.old (session_of turn.old) file reply.now) }
+{
+    match reply {
+        NameReply::Ino(_) => removed(turn, file),
+        _ => Ok(()),
+    }
+}
+
+#[tactic(auto, unfolding(st_rules::specs::ClientReplies::named, st_rules::specs::ClientState::answer_each))]
+fn named(turn: &mut Turn, file: Option<u32>, reply: &NameReply) -> Result<(), AllocError>
+    requires { has_session turn.old ≡ true }
+    ensures { OnOk result (turn.new ≡ replies.named turn.old (session_of turn.old) file reply.now) }
+{
+    let server = turn.server();
+    let answer = name_answer(reply)?;
+    turn.answer_each(&RequestingOperation { server }, &answer)?;
+    named_as(turn, file, reply)
+}
+
+#[tactic(auto, unfolding(st_rules::specs::ClientReplies::reasserted))]
+fn reasserted(turn: &mut Turn)
+    requires { has_session turn.old ≡ true }
+    ensures { turn.new ≡ replies.reasserted turn.old (session_of turn.old) }
+{
+    turn.reasserted();
+}
+
+/// The effect of a reply, with the body of the request that it ends and its file.
+#[tactic(auto, unfolding(st_rules::specs::ClientReplies::effect))]
+pub fn effect(
+    turn: &mut Turn,
+    now: Stamp,
+    reply: &Body,
+    file: Option<u32>,
+    asked: &Body,
+) -> Result<(), AllocError>
+    requires { has_session turn.old ≡ true }
+    ensures { OnOk result (turn.new ≡ replies.effect turn.old (session_of turn.old) now reply.now file asked.now) }
+{
+    match reply {
+        Body::Granted { ino, g, mode } => granted(turn, *ino, *g, *mode),
+        Body::Queued { ino, mode } => queued(turn, now, *ino, *mode),
+        Body::Extents { ino, rows } => extents(turn, *ino, rows.as_slice(), asked),
+        Body::Ack => acknowledged(turn),
+        Body::Named(reply) => named(turn, file, reply),
+        Body::Reasserted => {
+            reasserted(turn);
+            Ok(())
+        }
+        Body::Nack { why, a, b } => refused(turn, *why, *a, *b, file, asked),
+        _ => Ok(()),
+    }
+}

@@ -1,0 +1,129 @@
+// Sessions that begin, and newer epochs of a server.
+ghost use Rattle.std.specs.Prelude.{◌≡◌, ◌+◌, ◌≤◌, ◌<◌, ◌^◌, true, OnOk};
+ghost use Rattle.st_client_association.specs.Turns.{has_session, session_of};
+ghost use Rattle.st_rules.specs.ClientReplies as replies;
+
+use st_base::{Epoch, Stamp};
+use st_client_association::Turn;
+use st_messages::{AppAnswer, Body, Header, Note, Why};
+use st_operations::RequestingOperation;
+use std::alloc::AllocError;
+
+/// The lease is noted with its end.
+#[tactic(auto, unfolding(st_rules::specs::ClientReplies::note_lease))]
+pub fn note_lease(turn: &mut Turn) -> Result<(), AllocError>
+    requires { has_session turn.old ≡ true }
+    ensures { OnOk result (turn.new ≡ replies.note_lease (session_of turn.old).lease turn.old) }
+{
+    let server = turn.server();
+    let end = turn.session().end();
+    turn.note(Note::Leased { server, end })
+}
+
+#[tactic(auto, unfolding(st_rules::specs::ClientReplies::begin_session))]
+fn begin_session(turn: &mut Turn, now: Stamp, epoch: Epoch, stamp: Stamp) -> Result<(), AllocError>
+    requires past { stamp.0 ≤ now.0 }
+    requires living { now.0 < stamp.0 + turn.old.config.lease }
+    requires reading { now.0 ≤ 2 ^ 62 }
+    ensures { OnOk result (turn.new ≡ replies.begin_session turn.old epoch stamp) }
+{
+    turn.begin_session(epoch, stamp, now);
+    note_lease(turn)
+}
+
+/// Whether the client greets, and a lease of this stamp would not be over yet.
+fn is_timely(turn: &Turn, now: Stamp, stamp: Stamp) -> bool
+    requires { stamp.0 ≤ now.0 }
+    ensures { result ≡ replies.is_timely turn.now now stamp }
+{
+    turn.greeting().is_some() && now.0 - stamp.0 < turn.config().lease
+}
+
+#[tactic(auto, unfolding(st_rules::specs::ClientReplies::welcome))]
+fn welcome(turn: &mut Turn, now: Stamp, epoch: Epoch, stamp: Stamp) -> Result<(), AllocError>
+    requires past { stamp.0 ≤ now.0 }
+    requires reading { now.0 ≤ 2 ^ 62 }
+    ensures { OnOk result (turn.new ≡ replies.welcome turn.old now epoch stamp) }
+{
+    if is_timely(turn, now, stamp) {
+        begin_session(turn, now, epoch, stamp)
+    } else {
+        Ok(())
+    }
+}
+
+/// Without a session every message but a welcome is passed over.
+#[tactic(auto, unfolding(st_rules::specs::ClientReplies::without_session))]
+pub fn without_session(
+    turn: &mut Turn,
+    now: Stamp,
+    h: Header,
+    body: &Body,
+) -> Result<(), AllocError>
+    requires past { h.stamp ≤ now.0 }
+    requires reading { now.0 ≤ 2 ^ 62 }
+    ensures { OnOk result (turn.new ≡ replies.without_session turn.old now h body.now) }
+{
+    match body {
+        Body::Welcome => welcome(turn, now, Epoch(h.epoch), Stamp(h.stamp)),
+        _ => Ok(()),
+    }
+}
+
+#[tactic(auto, unfolding(st_rules::specs::ClientReplies::follow_epoch))]
+fn follow_epoch(turn: &mut Turn, epoch: Epoch) -> Result<(), AllocError>
+    requires { has_session turn.old ≡ true }
+    ensures { OnOk result (turn.new ≡ replies.follow_epoch turn.old (session_of turn.old) epoch) }
+{
+    let server = turn.server();
+    let old = turn.session().epoch();
+    turn.begin_epoch(epoch);
+    turn.answer_each(
+        &RequestingOperation { server },
+        &AppAnswer::Uncertain(old.0, epoch.0),
+    )
+}
+
+/// Whether it is a later epoch, and the lease was not condemned.
+fn is_newer(turn: &Turn, epoch: Epoch) -> bool
+    requires { has_session turn.now ≡ true }
+    ensures { result ≡ replies.is_newer (session_of turn.now) epoch }
+{
+    let session = turn.session();
+    session.epoch().0 < epoch.0 && !session.is_condemned()
+}
+
+#[tactic(auto, unfolding(st_rules::specs::ClientReplies::newer_epoch))]
+fn newer_epoch(turn: &mut Turn, epoch: Epoch) -> Result<(), AllocError>
+    requires { has_session turn.old ≡ true }
+    ensures { OnOk result (turn.new ≡ replies.newer_epoch turn.old (session_of turn.old) epoch) }
+{
+    if is_newer(turn, epoch) {
+        follow_epoch(turn, epoch)
+    } else {
+        Ok(())
+    }
+}
+
+#[tactic(auto, unfolding(st_rules::specs::ClientReplies::newer_epoch))]
+fn refused_in(turn: &mut Turn, epoch: Epoch, why: Why) -> Result<(), AllocError>
+    requires { has_session turn.old ≡ true }
+    ensures { OnOk result (turn.new ≡ replies.refused_in turn.old (session_of turn.old) epoch why) }
+{
+    match why {
+        Why::OtherEpoch => newer_epoch(turn, epoch),
+        _ => Ok(()),
+    }
+}
+
+/// A message of another epoch: only a refusal as of another epoch tells of a newer one.
+#[tactic(auto, unfolding(st_rules::specs::ClientReplies::of_other_epoch))]
+pub fn of_other_epoch(turn: &mut Turn, epoch: Epoch, body: &Body) -> Result<(), AllocError>
+    requires { has_session turn.old ≡ true }
+    ensures { OnOk result (turn.new ≡ replies.of_other_epoch turn.old (session_of turn.old) epoch body.now) }
+{
+    match body {
+        Body::Nack { why, .. } => refused_in(turn, epoch, *why),
+        _ => Ok(()),
+    }
+}

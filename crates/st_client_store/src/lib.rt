@@ -1,0 +1,11 @@
+//! All that a client has of a server's disks: what it knows of the places of pages, the clean and the dirty pages, the outstanding
+//! disk commands, and the pages that a lease loss lost and of which no application was told yet. `docs/PROTOCOL.md`, "Leases, locks,
+//! pages and commands", has the rules.
+#![tactic(auto)]
+
+mod lost;
+mod store;
+
+pub use lost::LostPages;
+pub use st_page_cache::CacheRefusal;
+pub use store::Store;

@@ -1,3 +1,0 @@
-pub mod Issued
-pub mod Open
-pub mod Owners

@@ -1,7 +1,0 @@
--- How a command stands.
-use Rattle.st_disk.specs.declared.commands.Standing.{Standing}
-use Rattle.st_rules.specs.declared.disks.DiskCommand.{DiskCommand}
-
--- whether the command had its effect, and how it was reported
-abbrev pub standing_of : DiskCommand → Standing
-standing_of c = record { effected = c.effected; report = c.report }

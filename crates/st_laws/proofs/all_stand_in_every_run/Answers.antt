@@ -1,5 +1,0 @@
-use Rattle.st_laws.proofs.Runs.{runs_stand}
-use Rattle.st_laws.proofs.all_stand_in_every_run.Goals as goal
-
-pub returns : goal.returns
-returns c = runs_stand

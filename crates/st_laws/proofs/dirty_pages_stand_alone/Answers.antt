@@ -1,5 +1,0 @@
-use Rattle.st_laws.proofs.Runs.{pages_stand_alone}
-use Rattle.st_laws.proofs.dirty_pages_stand_alone.Goals as goal
-
-pub returns : goal.returns
-returns c = pages_stand_alone

@@ -1,5 +1,0 @@
-use Rattle.st_laws.proofs.Runs.{graces_wait_out}
-use Rattle.st_laws.proofs.graces_wait.Goals as goal
-
-pub returns : goal.returns
-returns c = graces_wait_out

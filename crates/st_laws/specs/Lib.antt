@@ -1,4 +1,0 @@
-pub mod Stands
-pub mod World
-pub mod Law
-pub mod Kept

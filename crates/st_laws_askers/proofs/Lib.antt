@@ -1,4 +1,0 @@
-pub mod Asking
-pub mod Last
-pub mod Served
-pub mod Replies

@@ -1,5 +1,0 @@
-use Rattle.st_laws_asks.proofs.Law.{unused_law}
-use Rattle.st_laws_asks.proofs.expired_leases_use_nothing.Goals as goal
-
-pub returns : goal.returns
-returns c = unused_law

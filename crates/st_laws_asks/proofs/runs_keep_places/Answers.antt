@@ -1,5 +1,0 @@
-use Rattle.st_laws_asks.proofs.Law.{places_law}
-use Rattle.st_laws_asks.proofs.runs_keep_places.Goals as goal
-
-pub returns : goal.returns
-returns c = places_law

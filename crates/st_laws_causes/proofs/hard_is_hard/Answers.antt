@@ -1,5 +1,0 @@
-use Rattle.st_laws_causes.proofs.Law.{hard_law}
-use Rattle.st_laws_causes.proofs.hard_is_hard.Goals as goal
-
-pub returns : goal.returns
-returns c = hard_law

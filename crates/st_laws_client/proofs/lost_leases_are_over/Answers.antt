@@ -1,5 +1,0 @@
-use Rattle.st_laws_client.proofs.Steps.{lost_law}
-use Rattle.st_laws_client.proofs.lost_leases_are_over.Goals as goal
-
-pub returns : goal.returns
-returns c = lost_law

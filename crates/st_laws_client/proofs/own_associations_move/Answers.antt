@@ -1,5 +1,0 @@
-use Rattle.st_laws_client.proofs.Sim.{own_moves}
-use Rattle.st_laws_client.proofs.own_associations_move.Goals as goal
-
-pub returns : goal.returns
-returns c = own_moves

@@ -1,4 +1,0 @@
-pub mod Copies
-pub mod Owed
-pub mod Law
-pub mod World

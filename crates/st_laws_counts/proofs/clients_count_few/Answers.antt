@@ -1,5 +1,0 @@
-use Rattle.st_laws_counts.proofs.Law.{clients_law}
-use Rattle.st_laws_counts.proofs.clients_count_few.Goals as goal
-
-pub returns : goal.returns
-returns c = clients_law

@@ -1,5 +1,0 @@
-use Rattle.st_laws_cutters.proofs.Law.{law}
-use Rattle.st_laws_cutters.proofs.cuts_are_asked.Goals as goal
-
-pub returns : goal.returns
-returns c = law

@@ -1,4 +1,0 @@
-pub mod Paths
-pub mod Frozen
-pub mod Elders
-pub mod Runs

@@ -1,5 +1,0 @@
-use Rattle.st_laws_few.proofs.Runs.{runs_few}
-use Rattle.st_laws_few.proofs.runs_are_few.Goals as goal
-
-pub returns : goal.returns
-returns c = runs_few c.schedules_are_long_enough.ensures.length c.messages_are_few.ensures

@@ -1,3 +1,0 @@
-pub mod Uncut
-pub mod Stays
-pub mod Run

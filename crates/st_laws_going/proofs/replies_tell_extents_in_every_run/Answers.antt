@@ -1,5 +1,0 @@
-use Rattle.st_laws_going.proofs.Law.{replies}
-use Rattle.st_laws_going.proofs.replies_tell_extents_in_every_run.Goals as goal
-
-pub returns : goal.returns
-returns c = replies

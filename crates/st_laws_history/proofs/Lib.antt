@@ -1,9 +1,0 @@
-pub mod Leasing
-pub mod Step
-pub mod Grants
-pub mod Dates
-pub mod Lives
-pub mod Law
-pub mod Sent
-pub mod Replies
-pub mod RepliesLaw

@@ -1,2 +1,0 @@
-//! Write commands that may still have their effect, and whose they are.
-#![tactic(auto)]

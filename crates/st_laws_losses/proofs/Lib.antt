@@ -1,3 +1,0 @@
-pub mod Emptied
-pub mod Law
-pub mod Halves

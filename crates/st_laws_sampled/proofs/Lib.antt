@@ -1,9 +1,0 @@
-pub mod Rules
-pub mod Calm
-pub mod Working
-pub mod Asking
-pub mod Replying
-pub mod Losing
-pub mod Step
-pub mod Lies
-pub mod Run

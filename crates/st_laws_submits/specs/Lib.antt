@@ -1,4 +1,0 @@
-pub mod Submits
-pub mod Lies
-pub mod Left
-pub mod Rest

@@ -1,4 +1,0 @@
-pub mod Listing
-pub mod Walking
-pub mod Joining
-pub mod Law

@@ -1,3 +1,0 @@
-pub mod Clocked
-pub mod Firsts
-pub mod Kept

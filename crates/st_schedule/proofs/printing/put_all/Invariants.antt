@@ -1,7 +1,0 @@
-use Rattle.std.proofs.Common.{◌≡◌, ◌++◌, drop}
-use Rattle.st_schedule.specs.Words.{spaced}
-use Rattle.st_schedule.specs.Grammar.{in_full}
-use Rattle.st_schedule.proofs.printing.put_all.Given as goal
-
-abbrev pub invariant-loop-d : goal.invariant-loop-d
-invariant-loop-d l = l.out.items ++ spaced (in_full (drop l.d-index l.steps)) ≡ l.fn.out.items ++ spaced (in_full l.steps)

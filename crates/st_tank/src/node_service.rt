@@ -1,0 +1,117 @@
+// A node that is served over a link.
+ghost use Rattle.std.specs.Prelude.{◌≡◌, ◌≤◌, ◌⊎◌, IfSome, IfOk};
+ghost use Rattle.st_link.specs.Causes.{Rose};
+ghost use Rattle.st_node.specs.Room.{HasRoomFor};
+ghost use Rattle.st_node.specs.Runs.{MOST};
+ghost use Rattle.st_node.specs.Serving.{HasCauses};
+ghost use Rattle.st_tank.specs.NodeEnds.{AttachesBy, Completes, IsAttached, IsServed, Writes};
+ghost use Rattle.st_tank.specs.NodeKnown.{IsKnown};
+ghost use Rattle.st_tank.specs.NodeWords as words_of;
+
+use crate::node_ends::tell;
+use st_base::{Config, NodeId};
+use st_clock::Clock;
+use st_link::{Link, Sink};
+use st_node::{Node, NodeFault, serve, whole_frames_run_through};
+use std::alloc::{AllocError, Global};
+
+/// The settings of a node, in milliseconds.
+const CONFIG: Config = Config {
+    lease: 10_000,
+    renew: 5_000,
+    quiesce: 7_000,
+    flush: 8_500,
+    demand: 1_000,
+    retry: 500,
+    num: 101,
+    den: 100,
+    grain: 1,
+};
+
+#[tactic(auto, unfolding(crate::specs::NodeWords::started))]
+fn start(alloc: Global, id: NodeId) -> Result<Node, AllocError>
+    requires { IsKnown id }
+    ensures started { IfOk result (λ n. n ≡ words_of.started id) }
+    ensures room { IfOk result (λ n. HasRoomFor MOST n) }
+{
+    match id {
+        NodeId::Server(server) => Node::server(alloc, server, &CONFIG, 4, 4, 4096),
+        NodeId::Client(client) => Node::client(alloc, client, &CONFIG, 4),
+    }
+}
+
+/// Attaches the link at the name, and serves the node over it.
+fn attach_and_serve<L: Link, C: Clock>(
+    alloc: Global,
+    id: NodeId,
+    name: &str,
+    link: &mut L,
+    clock: &mut C,
+    node: &mut Node,
+) -> Result<(), NodeFault>
+    requires started { node.old ≡ words_of.started id }
+    requires room { HasRoomFor MOST node.old }
+    ensures run { IfSome (L.left link.old) (λ bytes. IfSome (C.readings clock.old) (λ readings.
+        Writes result (L.written link.old) (L.written link.new) (words_of.started_run id readings bytes))) }
+    ensures causes { HasCauses result (L.Source.faults link.old) (L.Source.faults link.new) }
+    ensures names { AttachesBy result (L.attached link.old) (L.attached link.new) name.now }
+{
+    let _id = id;
+    match link.attach(name) {
+        Ok(()) => serve(alloc, link, clock, node),
+        Err(_) => Err(NodeFault::Read),
+    }
+}
+
+/// Starts a node, attaches the link at the name, and serves the node over it.
+fn start_and_serve<L: Link, C: Clock>(
+    alloc: Global,
+    id: NodeId,
+    name: &str,
+    link: &mut L,
+    clock: &mut C,
+) -> Result<(), NodeFault>
+    requires { IsKnown id }
+    ensures run { IfSome (L.left link.old) (λ bytes. IfSome (C.readings clock.old) (λ readings.
+        Writes result (L.written link.old) (L.written link.new) (words_of.started_run id readings bytes))) }
+    ensures causes { HasCauses result (L.Source.faults link.old) (L.Source.faults link.new) }
+    ensures names { AttachesBy result (L.attached link.old) (L.attached link.new) name.now }
+{
+    match start(alloc, id) {
+        Ok(mut node) => attach_and_serve(alloc, id, name, link, clock, &mut node),
+        Err(_) => Err(NodeFault::Memory),
+    }
+}
+
+/// Starts a node, attaches the link at the name, serves the node over it, and writes the text of how that ended. Returns the
+/// program's status: 0 where the stream ended at a frame's boundary, 1 where the run stopped, 4 where that could not be told, 5 where
+/// memory ran out, and 6 where the link failed.
+pub fn serve_node<E: Sink, L: Link, C: Clock>(
+    alloc: Global,
+    id: NodeId,
+    name: &str,
+    err: &mut E,
+    link: &mut L,
+    clock: &mut C,
+) -> u8
+    requires { IsKnown id }
+    // How the run over the stream ended, with what was written of it, and with the status and the text of that.
+    ensures served { IsServed id result (L.left link.old) (L.written link.old) (L.written link.new) (C.readings clock.old)
+        (L.Source.faults link.old) (L.Source.faults link.new) (E.written err.old) (E.written err.new) (E.faults err.old) (E.faults err.new) }
+    // Whole frames over a link that does not fail are all served, unless memory runs out.
+    ensures complete { Completes id result (L.left link.old) (L.written link.old) (L.written link.new) (C.readings clock.old)
+        (L.Source.faults link.old) (L.Source.faults link.new) }
+    // The link is attached once, at the name.
+    ensures names { IsAttached result (L.attached link.old) (L.attached link.new) name.now }
+    // At 0 and 1 no count of faults rose.
+    ensures still { result ≤ 1 → (L.Source.faults link.new ≡ L.Source.faults link.old) × (E.faults err.new ≡ E.faults err.old) }
+    ensures write { result ≡ 4 → Rose (E.faults err.old) (E.faults err.new) }
+    ensures link { result ≡ 6 → Rose (L.Source.faults link.old) (L.Source.faults link.new) }
+    ensures others { (result ≤ 1) ⊎ (4 ≤ result) }
+    ensures known { result ≤ 6 }
+{
+    whole_frames_run_through();
+    let ended = start_and_serve(alloc, id, name, link, clock);
+    let (_said, status) = tell(alloc, err, ended);
+    status
+}

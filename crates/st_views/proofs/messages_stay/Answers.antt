@@ -1,5 +1,0 @@
-use Rattle.st_views.proofs.Moves.{moves_grow}
-use Rattle.st_views.proofs.messages_stay.Goals as goal
-
-pub returns : goal.returns
-returns c k a b moves m there = moves_grow moves m there

@@ -1,0 +1,6 @@
+pub mod Keys
+pub mod Later
+pub mod Effects
+pub mod Lasts
+pub mod Opens
+pub mod Stays

@@ -1,0 +1,23 @@
+//! The parts of a world: the clocks and the lives that ended, the disk commands with who issued each, and the network.
+//! `docs/PROTOCOL.md`, "The world", has the rules.
+#![tactic(auto)]
+
+mod clocks;
+mod commands;
+mod cuts;
+mod firsts;
+mod lives;
+mod network;
+mod open;
+mod owners;
+mod places;
+mod reached_ends;
+mod spares;
+
+pub use commands::Commands;
+pub use firsts::LifeKey;
+pub use lives::Lives;
+pub use network::Network;
+pub use owners::OwnerKey;
+pub use places::{MessageEnds, SentPlace};
+pub use st_disk::CommandState;
