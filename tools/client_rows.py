@@ -1,24 +1,18 @@
-#!/usr/bin/env python3
-"""Writes the worked rows of the client machine.
+"""The worked rows of the client machine: crates/st_rows/src/client_*.rt, written by tools/write_rows.
 
-Run from the repository's top as `tools/client_rows.py ORACLE`, ORACLE being the folder that holds the package tank_oracle.
-Each row is a script for one client. The oracle's client plays it, and the script and what the client said are
-written as the contract of a function, into crates/st_rows/src/client_*.rt. No number of a row's answer is typed by hand.
+Each row is a script for one client. The client of reference/ plays it, and the script and what the client said are written as the contract of a
+function. No number of a row's answer is typed by hand.
 """
-import pathlib
-import sys
+import re
 
-sys.path.insert(0, sys.argv[1])
-sys.dont_write_bytecode = True
-from tank_oracle import asks, base, client, server, wire  # noqa: E402
-from tank_oracle.asks import CutAsk, NameAsk, PatchAsk, ReadAsk, SyncAsk, WriteAsk  # noqa: E402
-from tank_oracle.base import Block, File, Tag, uniform_page  # noqa: E402
-from tank_oracle.wire import (  # noqa: E402
-    Ack, App, Demand, Done, Extents, Granted, Message, Nack, Named, Queued, Reasserted, Tick, Welcome,
+from row_records import (
+    Accepted, Client, Acquire, Allocate, AnswerApp, App, Block, Create, Cut, CutAsk, Demand, DemandSeen, Done, Extents, File, Granted, LeasedNote, ListDir,
+    Lookup, LostNote, Map, Message, Mkdir, Nack, Name, NameAsk, Named, PatchAsk, Patched, PlayedClient, Queued, ReadAsk, ReadBlock, Reassert,
+    Released, Remove, RemoveEntry, Rename, Send, Session, SubmitCommand, SyncAsk, Tick, Welcome, WriteAsk, WriteBlock, X, uniform_page,
 )
+from reference.settings import Settings
 
-CONFIG = base.Config(1000, 500, 700, 850, 100, 50, 101, 100, 0)
-NONE, S, X = 0, 1, 2
+CONFIG = Settings(1000, 500, 700, 850, 100, 50, 101, 100, 0)
 G1 = 2 ** 32 + 1
 PAGES = {uniform_page(b): f"(filled {b})" for b in range(256)}
 WHY = ["", "Suspect", "NoSession", "OtherEpoch", "Grace", "GraceOver", "Conflict", "NotHolder", "NoFile", "NoSpace", "TooManyLocks"]
@@ -38,15 +32,17 @@ def overlaid(old, at, data):
 
 
 def name_patches():
-    """Lets the oracle name each page that it patches."""
-    plain = client.ClientNode.change_page
+    """Lets the reference's clients name each page that they patch."""
+    plain = Client.note
 
-    def change_page(node, peer, op, data, note):
-        if isinstance(note, client.Patched):
-            overlaid(node.cached(peer, op.ino, op.ask.page), note.at, note.data)
-        plain(node, peer, op, data, note)
+    def note(client, word, *told):
+        if word == "patch":
+            (server, ino), page, at, data = told
+            store = client.associations[server - 1].store
+            overlaid(store.dirty[ino, page].bytes if (ino, page) in store.dirty else store.clean[ino, page], at, data)
+        plain(client, word, *told)
 
-    client.ClientNode.change_page = change_page
+    Client.note = note
 
 
 name_patches()
@@ -66,19 +62,19 @@ def file_text(f):
 
 def name_op(op, prefix):
     match op:
-        case asks.Lookup(d, n):
+        case Lookup(d, n):
             return f"({prefix}.Lookup {d} {name_text(n)})"
-        case asks.Create(d, n):
+        case Create(d, n):
             return f"({prefix}.Create {d} {name_text(n)})"
-        case asks.Mkdir(d, n):
+        case Mkdir(d, n):
             return f"({prefix}.Mkdir {d} {name_text(n)})"
-        case asks.Remove(d, n, number):
+        case Remove(d, n, number):
             return f"({prefix}.Remove {d} {name_text(n)} (g {number}))"
-        case asks.RemoveEntry(d, n, ino):
+        case RemoveEntry(d, n, ino):
             return f"({prefix}.Remove {d} {name_text(n)} {ino})"
-        case asks.Rename(d, n, d2, n2):
+        case Rename(d, n, d2, n2):
             return f"({prefix}.Rename {d} {name_text(n)} {d2} {name_text(n2)})"
-        case asks.ListDir(d, after):
+        case ListDir(d, after):
             return f"({prefix}.List {d} {name_text(after)})"
 
 
@@ -100,21 +96,21 @@ def ask_text(ask):
 
 def body_text(body):
     match body:
-        case wire.Acquire(ino, mode):
+        case Acquire(ino, mode):
             return f"(bodies.Acquire {ino} {MODES[mode]})"
-        case wire.Released(ino, number, to):
+        case Released(ino, number, to):
             return f"(bodies.Released {ino} (g {number}) {MODES[to]})"
-        case wire.Map(ino, number, p):
+        case Map(ino, number, p):
             return f"(bodies.Map {ino} (g {number}) (page {p}))"
-        case wire.Allocate(ino, number, p, count):
+        case Allocate(ino, number, p, count):
             return f"(bodies.Allocate {ino} (g {number}) (page {p}) {count})"
-        case wire.Cut(ino, number, p):
+        case Cut(ino, number, p):
             return f"(bodies.Cut {ino} (g {number}) (page {p}))"
-        case wire.Name(op):
+        case Name(op):
             return f"(bodies.Name {name_op(op, 'ops')})"
-        case wire.Reassert(rows):
+        case Reassert(rows):
             return "(bodies.Reassert " + list_text([f"({i}, g {n}, {MODES[m]})" for i, n, m in rows]) + ")"
-        case wire.DemandSeen(ino, number):
+        case DemandSeen(ino, number):
             return f"(bodies.DemandSeen {ino} (g {number}))"
         case Nack(why, a, b):
             return f"(bodies.Nack why.{WHY[why]} {a} {b})"
@@ -196,22 +192,22 @@ def answer_text(answer):
 
 def output_text(out):
     match out:
-        case server.Send(m):
+        case Send(m):
             return f"says {m.receiver - 32768} {m.life} {m.epoch} {m.number} {m.stamp} {body_text(m.body)}"
-        case client.SubmitCommand(command, _, wire.ReadBlock(at)):
+        case SubmitCommand(command, ReadBlock(at)):
             return f"reads {command} {at.disk} {at.block}"
-        case client.SubmitCommand(command, _, wire.WriteBlock(at, tag, data)):
+        case SubmitCommand(command, WriteBlock(at, tag, data)):
             t = f"{tag.file.server} {tag.file.ino} {tag.page} {tag.birth}"
             return f"writes {command} {at.disk} {at.block} {t} {bytes_text(data)}"
-        case client.AnswerApp(op, answer):
+        case AnswerApp(op, answer):
             return f"answer {op} {answer_text(answer)}"
-        case client.LeasedNote(s, end):
+        case LeasedNote(s, end):
             return f"noted (notes.Leased (server {s}) (stamp {end}))"
-        case client.LostNote(s, life):
+        case LostNote(s, life):
             return f"noted (notes.Lost (server {s}) (life {life}))"
-        case client.Accepted(f, p, data):
+        case Accepted(f, p, data):
             return f"noted (notes.Accepted {file_text(f)} (page {p}) {bytes_text(data)})"
-        case client.Patched(f, p, at, data):
+        case Patched(f, p, at, data):
             return f"noted (notes.Patched {file_text(f)} (page {p}) {at} {bytes_text(data)})"
 
 
@@ -220,17 +216,23 @@ class Row:
 
     def __init__(self, name, doc, servers=1):
         self.title, self.doc, self.servers = name, doc, servers
-        self.node = client.ClientNode(1, CONFIG, servers)
+        self.node = PlayedClient(1, CONFIG, servers)
         self.start, self.opens = f"(client_of {servers})", "ClientScript::client_script_open"
         self.deeds, self.outs, self.op = [], [], 0
 
-    def begin_with(self, text, peer_fields):
+    def begin_with(self, text, locks, extents=None, clean=None, dirty=None):
         """A row that begins in a state of specs/ClientTables, with a session that has sent two requests."""
         self.start, self.opens = f"({text})", "ClientTables::client_tables_open"
-        peer = self.node.peers[1]
-        peer.epoch, peer.next_number = 1, 3
-        for field, value in peer_fields.items():
-            setattr(peer, field, value)
+        association = self.node.node.associations[0]
+        session = association.session = Session(1, 0)
+        session.next_number, session.locks, session.seen = 3, locks, {ino: lock.grant for ino, lock in locks.items()}
+        store = association.store
+        for (ino, page), extent in (extents or {}).items():
+            store.know(ino, page, extent)
+        for (ino, page), data in (clean or {}).items():
+            store.make_clean(ino, page, data)
+        for (ino, page), data in (dirty or {}).items():
+            store.make_dirty(ino, page, data)
         return self
 
     def give(self, now, thing):
@@ -272,8 +274,7 @@ class Row:
 
     def restart(self):
         self.deeds.append("Restarted")
-        self.node.crash()
-        self.node.start()
+        self.node.restart()
 
     def leased(self, ino=2, byte=77):
         """The client greets, gets an exclusive lock and a block, and writes a page."""
@@ -321,8 +322,8 @@ WORDS = {
 }
 
 
-def write_file(name, rows):
-    import re
+def file_text_of(rows):
+    """The functions of rows, after the names that they use."""
     body = "".join(r.text() for r in rows)
     code = "\n".join(line for line in body.splitlines() if not line.startswith("///"))
     used = lambda w: re.search(rf"(?<![\w.]){w}(?![\w.])", code)
@@ -335,18 +336,10 @@ def write_file(name, rows):
         there = [w for w in words if used(w)]
         if there:
             head += f"ghost use Rattle.{path}.{{{', '.join(there)}}};\n"
-    target = pathlib.Path("crates/st_rows/src") / f"{name}.rt"
-    target.write_text("// Written by tools/client_rows.py.\n" + head + body)
+    return "// Written by tools/client_rows.py.\n" + head + body
 
 
-def main():
+def files():
+    """Each file that has worked rows of the client, and its text."""
     from client_scripts import FILES
-    for name, rows in FILES(Row).items():
-        write_file(name, rows)
-        print(name, len(rows), "rows")
-
-
-if __name__ == "__main__":
-    sys.path.insert(0, str(pathlib.Path(__file__).parent))
-    sys.modules["client_rows"] = sys.modules["__main__"]
-    main()
+    return {f"crates/st_rows/src/{name}.rt": file_text_of(rows) for name, rows in FILES(Row).items()}

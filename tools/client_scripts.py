@@ -1,12 +1,9 @@
 """The scripts of the client's worked rows, by subject; client_rows.py plays them."""
-from collections import OrderedDict
-
-from client_rows import G1, NONE, S, X, File, Tag
-from tank_oracle import asks
-from tank_oracle.asks import NameRow
-from tank_oracle.base import FRESH_TAG, ZEROS, Block, uniform_page
-from tank_oracle.client import Dirty, Lock
-from tank_oracle.wire import Ack, Demand, Extents, Granted, Nack, Named, Queued, Reasserted, Welcome
+from client_rows import G1
+from row_records import (
+    Ack, Block, Create, Demand, Extents, FRESH_TAG, File, Granted, ListDir, Lock, Lookup, Mkdir, NONE, Nack, NameRow, Named, Queued, Reasserted,
+    RemoveEntry, Rename, S, Tag, Welcome, X, ZEROS, uniform_page,
+)
 
 G2, G3 = G1 + 1, G1 + 2
 
@@ -105,11 +102,11 @@ def leases(Row):
     r.sync(0, 2)
     r.done(0, 2, None)
     r.write(0, 2, 2, 79)
-    r.name(0, asks.Create(1, b"n"))
+    r.name(0, Create(1, b"n"))
     r.sync(0, 2)
     r.sync(0, 2)
     r.read(0, 4, 0)
-    r.name(0, asks.Create(1, b"m"))
+    r.name(0, Create(1, b"m"))
     r.tick(1000)
     r.sync(1000, 2)
     yield r
@@ -164,7 +161,7 @@ def leases(Row):
 
 def epochs(Row):
     r = Row("a_new_epoch_gives_up_the_request", "A newer epoch gives up the outstanding request, whose operation is uncertain; the locks are reasserted, and pages stay.").leased()
-    r.name(10, asks.Create(1, b"n"))
+    r.name(10, Create(1, b"n"))
     r.hear(20, 3, 10, Nack(3, 1, 2), epoch=2)
     r.hear(20, 3, 10, Named(0, 10))
     r.hear(20, 1, 10, Reasserted(), epoch=2)
@@ -403,7 +400,7 @@ def operation_rows(Row):
     r = Row("a_server_that_is_not_there_has_no_files", "An ask of a server that is not configured; a sync without dirty pages needs no session.")
     r.read(0, 2, 0, s=2)
     r.sync(0, 2)
-    r.name(0, asks.Lookup(1, b"f2"), s=7)
+    r.name(0, Lookup(1, b"f2"), s=7)
     yield r
 
     r = Row("a_file_is_cut", "A cut waits until the file is idle, is busy until it is answered, and leaves pages that are unmapped.").leased()
@@ -417,16 +414,16 @@ def operation_rows(Row):
     yield r
 
     r = Row("a_file_is_removed", "A removed file's lock is released, and one that was not removed is kept.").hard()
-    r.name(0, asks.RemoveEntry(1, b"f2", 2))
+    r.name(0, RemoveEntry(1, b"f2", 2))
     r.hear(0, 3, 0, Named(2, 1))
-    r.name(0, asks.RemoveEntry(1, b"f2", 2))
+    r.name(0, RemoveEntry(1, b"f2", 2))
     r.hear(0, 4, 0, Named(0, 2))
     r.hear(0, 5, 0, Ack())
     r.read(0, 2, 0)
     yield r
 
     r = Row("a_file_is_removed_while_it_is_demanded", "A demand that comes while the file is removed is seen; the removed file's lock is released once, and its demand is forgotten.").hard()
-    r.name(0, asks.RemoveEntry(1, b"f2", 2))
+    r.name(0, RemoveEntry(1, b"f2", 2))
     r.read(0, 2, 0)
     r.hear(0, 0, 0, Demand(2, G1, NONE))
     r.hear(0, 3, 0, Named(0, 2))
@@ -434,11 +431,11 @@ def operation_rows(Row):
     yield r
 
     r = Row("names_are_answered", "Names need no lock; a directory is removed without one, with grant number 0.")
-    r.name(0, asks.Mkdir(1, b"d"))
+    r.name(0, Mkdir(1, b"d"))
     r.hear(0, 0, 0, Welcome())
-    r.name(0, asks.RemoveEntry(1, b"d", 0))
-    r.name(0, asks.Rename(1, b"a", 10, b"b"))
-    r.name(0, asks.ListDir(1, b"f2"))
+    r.name(0, RemoveEntry(1, b"d", 0))
+    r.name(0, Rename(1, b"a", 10, b"b"))
+    r.name(0, ListDir(1, b"f2"))
     r.hear(0, 1, 0, Named(0, 10))
     r.hear(0, 2, 0, Named(2, 5))
     r.hear(0, 3, 0, Named(0, 11))
@@ -449,7 +446,7 @@ def operation_rows(Row):
     r.read(0, 3, 0)
     r.write(0, 3, 0, 1)
     r.cut(0, 3, 0)
-    r.name(0, asks.RemoveEntry(1, b"f3", 3))
+    r.name(0, RemoveEntry(1, b"f3", 3))
     r.patch(0, 3, 0, 1, bytes([1]))
     r.read(0, 4, 0)
     r.sync(0, 2)
@@ -475,18 +472,21 @@ def operation_rows(Row):
     r.cut(0, 2, 3)
     r.hear(0, 3, 0, Nack(9, 0, 1))
     r.read(0, 2, 0)
-    r.name(0, asks.Lookup(1, b"f2"))
+    r.name(0, Lookup(1, b"f2"))
     r.hear(0, 4, 0, Nack(3, 1, 2), epoch=2)
     r.tick(1000)
     yield r
 
 
 def limit_rows(Row):
-    one_lock = {"locks": {2: Lock(X, G1)}, "greatest": {2: G1}}
-    extents = lambda n: {(2, p): (Block(1, p), p + 1) for p in range(n + 1)}
+    one_lock = {2: Lock(G1, X)}
+
+    def extents(n):
+        return {(2, p): (1, p, p + 1) for p in range(n + 1)}
+
 
     r = Row("a_sixty_fifth_dirty_page_is_one_too_many", "With 64 dirty pages a write of another page is refused, and of one of them accepted; a patch of another page is refused when the page is there.")
-    r.begin_with("dirty_client 64", {**one_lock, "extents": extents(64), "version": 64, "dirty": {(2, p): Dirty(uniform_page(7), p + 1) for p in range(64)}})
+    r.begin_with("dirty_client 64", one_lock, extents=extents(64), dirty={(2, p): uniform_page(7) for p in range(64)})
     r.write(0, 2, 64, 9)
     r.write(0, 2, 63, 9)
     r.patch(0, 2, 64, 0, bytes([9]))
@@ -494,8 +494,7 @@ def limit_rows(Row):
     yield r
 
     r = Row("a_page_that_was_not_used_leaves_the_clean_ones", "Of more than 256 clean pages the one that was used longest ago goes, and is read anew.")
-    clean = OrderedDict(((2, p), uniform_page(7)) for p in reversed(range(256)))
-    r.begin_with("clean_client 256", {**one_lock, "extents": extents(256), "clean": clean})
+    r.begin_with("clean_client 256", one_lock, extents=extents(256), clean={(2, p): uniform_page(7) for p in reversed(range(256))})
     r.read(0, 2, 255)
     r.read(0, 2, 256)
     r.done(0, 1, (Tag(File(1, 2), 256, 257), uniform_page(5)))
@@ -506,7 +505,7 @@ def limit_rows(Row):
 
     r = Row("a_grant_without_a_place_is_given_back", "With 1,024 locks a grant of another file is released, and one of a file that has a lock is installed.")
     files = range(1001, 2025)
-    r.begin_with("locked_client 1024", {"locks": {i: Lock(S, i) for i in files}, "greatest": {i: i for i in files}})
+    r.begin_with("locked_client 1024", {i: Lock(i, S) for i in files})
     r.hear(0, 0, 0, Granted(2025, 2025, S))
     r.hear(0, 3, 0, Ack())
     r.hear(0, 0, 0, Granted(2025, 2025, S))

@@ -1,57 +1,58 @@
-#!/usr/bin/env python3
-"""Prints crates/st_node_tests/src/rows.rt: streams of frames that a node gets, with what it writes and why it stops.
+"""Streams of frames that a node gets, with what it writes and why it stops: crates/st_node_tests/src/rows.rt and schedules/frames/server.rows, written by
+tools/write_rows.
 
-Run from the repository's top as `tools/node_rows.py ORACLE`, ORACLE being the folder that holds the package tank_oracle.
-The oracle serves each stream; no output is typed by hand.
+The node of reference/ serves each stream; no output is typed by hand. The second file has the streams of a server in which no clock reading counts:
+`.ci/frames` gives them to the program.
 """
 import random
 import struct
-import sys
 
-sys.path.insert(0, sys.argv[1])
-sys.dont_write_bytecode = True
-from row_words import runs  # noqa: E402
-from tank_oracle import node, wire  # noqa: E402
-from tank_oracle.asks import Create, CutAsk, NameAsk, PatchAsk, ReadAsk, RemoveEntry, SyncAsk, WriteAsk  # noqa: E402
-from tank_oracle.base import Block, File, Tag  # noqa: E402
-from tank_oracle.wire import (  # noqa: E402
-    Acquire, Ack, Allocate, App, Demand, Done, Extents, Granted, Hello, KeepAlive, Map, Message, Nack, Queued, Reassert, Released, Tick, Welcome,
+import client_streams
+from row_records import (
+    Ack, Acquire, Allocate, App, Block, Create, CutAsk, Demand, Done, Extents, File, Granted, Hello, KeepAlive, Map, Message, Nack, NameAsk, PatchAsk,
+    Queued, ReadAsk, Reassert, Released, RemoveEntry, SyncAsk, Tag, Tick, Welcome, WriteAsk, frame,
 )
+from row_words import runs
+from reference.client import Client
+from reference.clocks import ListedClock
+from reference.node import Node, serve
 
 SERVER = 32769
 GRANTS = 1 << 32
 
 
-def told(fault):
-    """The text of status 1 in this table's words."""
-    return fault.removeprefix("tank: ") if fault else "ok"
+def fresh(kind):
+    """A fresh node of a kind: `two` is client 3 of two servers, with a lease of 100 ticks."""
+    if kind != "two":
+        return Node(kind, 1)
+    node = Node("client", client_streams.SELF)
+    node.machine = Client(client_streams.SELF, client_streams.CONFIG, client_streams.SERVERS)
+    return node
 
 
 def served(kind, data, readings):
-    out, fault = bytearray(), ""
-    try:
-        node.serve([data], out.extend, node.Clock(readings), node.fresh_node(kind, 1))
-    except node.NodeFault as stopped:
-        fault = str(stopped)
-    return bytes(out), told(fault)
+    """What a node writes that gets these bytes, and why it stops."""
+    out = bytearray()
+    fault = serve(fresh(kind), [data], ListedClock(readings), out.extend)
+    return bytes(out), fault.removeprefix("tank: ") if fault else "ok"
 
 
 def sent(body, epoch=1, number=0, life=1, client=1, to=SERVER, stamp=0):
-    return wire.frame(Message(client, to, life, epoch, number, stamp, body))
+    return frame(Message(client, to, life, epoch, number, stamp, body))
 
 
 def told_client(body, number=0, epoch=1, life=1, stamp=0, server=SERVER, to=1):
     """What a server sends to a client."""
-    return wire.frame(Message(server, to, life, epoch, number, stamp, body))
+    return frame(Message(server, to, life, epoch, number, stamp, body))
 
 
 def local(body, to=1):
     """What a client is told by its own surroundings."""
-    return wire.frame(Message(0, to, 0, 0, 0, 0, body))
+    return frame(Message(0, to, 0, 0, 0, 0, body))
 
 
 HELLO = sent(Hello(), epoch=0)
-TICK = wire.frame(Message(0, SERVER, 0, 0, 0, 0, Tick()))
+TICK = frame(Message(0, SERVER, 0, 0, 0, 0, Tick()))
 
 
 def hostile():
@@ -69,8 +70,10 @@ def hostile():
 
 def other():
     yield "a greeting", [0], HELLO
+    yield "a greeting whose length is one more", [0], HELLO[:3] + b"\x27" + HELLO[4:] + b"\x00"
+    yield "a version that is none", [0], b"\x00\x00\x00\x01\x09"
     yield "a frame for another server", [0], sent(Hello(), epoch=0, to=32770)
-    yield "a frame that no server takes", [0], wire.frame(Message(SERVER, 1, 1, 1, 0, 0, Welcome()))
+    yield "a frame that no server takes", [0], frame(Message(SERVER, 1, 1, 1, 0, 0, Welcome()))
     yield "nothing", [0], b""
     yield "a bad frame behind a good one", [0], HELLO + b"\x00\x00\x00\x01\x04" + HELLO
     yield "a kind that is none", [0], HELLO + b"\x00\x00\x00\x02\x01\xff"
@@ -156,19 +159,27 @@ def row(kind, name, readings, data):
     return f"{name} | {kind} | {' '.join(map(str, readings))} | {runs(data) or '-'} | {runs(out) or '-'} | {why}"
 
 
-def main():
-    rows = [row("server", *r) for r in [*hostile(), *other(), *(random_stream(s) for s in range(4))]]
+def frames_row(name, data):
+    """A row for the program: its words, the bytes that come and that are written, its status, and the text of its complaint."""
+    out, why = served("server", data, [0])
+    return f"{name} | server 1 | {runs(data) or '-'} | {runs(out) or '-'} | {0 if why == 'ok' else 1} | {'' if why == 'ok' else 'tank: ' + why}"
+
+
+FRAMES = """\
+# Written by tools/node_rows.py: what a server gets, what it writes, its status, and the text of its complaint. Bytes stand in runs, `HH` or `HH*COUNT`.
+# Of a row whose name begins with `each front`, each front of the bytes that is neither empty nor whole is given."""
+
+
+def files():
+    """The files of streams, and their texts."""
+    servers = [*hostile(), *other(), *(random_stream(s) for s in range(4))]
+    rows = [row("server", *r) for r in servers]
     rows += [row("client", *r) for r in [*client(), *(client_stream(s) for s in range(6))]]
-    print("//! Written by tools/node_rows.py. A row is its name, the kind of node, the readings of the clock, the bytes that come, the bytes that\n"
-          "//! are written, and why the node stops; bytes stand in runs, `HH` or `HH*COUNT`.\n")
-    for i, text in enumerate(rows):
-        assert '"' not in text and "\\" not in text
-        print(f"fn row_{i}() -> &'static str {{\n    \"{text}\"\n}}\n")
-    print(f"/// How many rows there are.\npub const ROWS: u32 = {len(rows)};\n")
-    print("/// The row of this number, from 0.\npub fn row(number: u32) -> &'static str {\n    match number {")
-    for i in range(len(rows) - 1):
-        print(f"        {i} => row_{i}(),")
-    print(f"        _ => row_{len(rows) - 1}(),\n    }}\n}}")
-
-
-main()
+    rows += [row("two", name, run.readings, run.frames) for name, run in client_streams.streams()]
+    assert not any('"' in text or "\\" in text for text in rows)
+    lines = ["//! Written by tools/node_rows.py. A row is its name, the kind of node, the readings of the clock, the bytes that come, the bytes that",
+             "//! are written, and why the node stops; bytes stand in runs, `HH` or `HH*COUNT`.", "",
+             "/// Streams of frames.", 'pub const ROWS: &str = "' + "\\n\\\n".join(rows) + '";', ""]
+    timeless = [frames_row(name, data) for name, _, data in servers if served("server", data, [0]) == served("server", data, [9000])]
+    timeless.append(frames_row("each front of a greeting", HELLO).replace(f"| {runs(served('server', HELLO, [0])[0])} | 0 | ", "| - | 1 | tank: frame cut at 0"))
+    return {"crates/st_node_tests/src/rows.rt": "\n".join(lines), "schedules/frames/server.rows": "\n".join([FRAMES, *timeless, ""])}

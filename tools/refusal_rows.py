@@ -1,23 +1,16 @@
-#!/usr/bin/env python3
-"""Prints crates/st_world_tests/src/rows.rt: events of a world, and which of them are refused.
+"""Lines and events, and which of them are refused: schedules/refusals/, written by tools/write_rows.
 
-Run from the repository's top as `tools/refusal_rows.py ORACLE`, ORACLE being the folder that holds the package tank_oracle; `rt fmt` lays the file out.
-Each refusal of the table of admissible events stands beside an event that differs from it in one thing and is accepted. A line
-here that begins with `!` is to be refused; which refusal it is and with which values is the oracle's. Only where an event has no
-line in a schedule its refusal stands here, behind `=`. A full network is tried by tools/full_network.
+Each refusal of the table of admissible events stands beside an event that differs from it in one thing and is accepted. A line here that begins with
+`!` is to be refused; which refusal it is and with which values is said by reference/. Of the lines below LINES it says which are refused too.
+`.ci/refusals` gives the rows to the program. A full network is tried by tools/full_network.
 """
-import sys
-
-sys.path.insert(0, sys.argv[1])
-sys.dont_write_bytecode = True
-from tank_oracle.schedule import ScheduleReader  # noqa: E402
-from tank_oracle.world import World, WorldRefusal  # noqa: E402
+import row_records  # noqa: F401  (it makes reference/ known)
+from reference.schedule import LineRefused, ScheduleReader
+from reference.world import World
 
 SETTINGS = "1000 500 700 850 100 50 101 100"
 RATED = f"tank 1 {SETTINGS} 2 2 2 8"
 DRIFTING = f"tank 2 {SETTINGS} 5 2 2 2 8"
-
-NODE_NAMES = {"c1": "CLIENT_1", "c2": "CLIENT_2", "c3": "NO_CLIENT", "s1": "SERVER_1", "s2": "SERVER_2", "s3": "NO_SERVER"}
 
 NODES = """
 ! tick c3
@@ -108,19 +101,6 @@ heal c1 s1
 deliver 2
 """
 
-FRONT = """\
-//! Written by tools/refusal_rows.py: events of a world, each with its refusal, or with nothing where it is accepted.
-use crate::tests::Call;
-use crate::tests::Call::{
-    Advance, Crash, Cut, Deliver, Done, Effect, Failed, Heal, Lose, Read, Start, Sync, Tick, Write,
-};
-use st_base::{ClientId, NodeId, ServerId, Stamp};
-use st_rules::WorldRefusal;
-use st_rules::WorldRefusal::{
-    ClockDrift, ClockRate, DiskState, FlushMissed, LateDisk, LinkCut, LostMessage, NoCommand,
-    NoMessage, NoNode, NotRunning, Running,
-};"""
-
 # the second client opens its file at the first server and writes a page of it
 OPENED = """
 app c2 write 1:3 0 1
@@ -154,7 +134,6 @@ FLUSHES = OPENED + """
 ! adv 102 100 100 100
 ! adv 100 100 100 102
 ! adv 100 99 100 100
-! adv 0 0 0 0 = ClockRate 0 0
 adv 101 100 100 100
 ! adv 900 900 900 900
 adv 400 400 400 400
@@ -263,33 +242,115 @@ crash c2
 adv 1000 1000 1000 1000
 """
 
+# lines one by one, and which of them a reader or the world refuses
+LINES = """
+adv x
+adv 01
+adv 1 2
+adv 1 2 3 4
+adv 1 2 3
+adv 0
+adv 7 7 7
+adv 4294967296
+adv
+adv 1 02 3
+tick c01
+tick c1 x
+tick c100
+tick x1
+tick s99
+cut c1
+heal c1 s0
+cut s1 c2
+deliver
+deliver 0
+deliver -1
+lose 99999999999999999999999999
+report 1
+report 1 oK
+report 3 fail
+effect 4294967295
+app c1 write 1:2 0 256
+app c1 write 1:2 0 077
+app c1 write 1:2 1048576 0
+app c1 write 1:2 0 255
+app s1 sync 1:2
+app c1 cut 1:02 3
+app c1 read 65536:2 0
+app c1 sync 65535:4294967295
+app c1 sync 1:2:3
+app c1 fetch 1:2
+app c1 lookup 1:1 a\xff
+app c1 remove 1:1 n 4294967296
+app c1 remove 1:1 n 0
+app c1 rename 1:1 n 0 m
+app c1 rename 1:1 n 2 m
+app c1 list 1:1 -
+app c1 list 1:1
+app c1 patch 1:2 0 0 1 7
 
-class Table:
-    """A world of the oracle, and the rows of the events that it was given."""
+ adv 1
+adv  1
+adv 1 
+\xff\x00
+end 
+ends
+tank 1 1000 500 700 850 100 50 101 100 2 1 1 8
+""" + "deliver " * 32 + "\n" + "deliver " * 32 + "x\n"
 
-    def __init__(self, head):
-        self.reader = ScheduleReader()
-        head = self.reader.line(head.encode())
-        self.world = World(head.config, head.counts, head.form)
+DRIFTING_LINES = """
+adv 0
+adv 0 4294967295 7
+app c1 patch 1:2 0 0 1 7
+app c1 patch 1:2 0 4095 2 7
+app c1 patch 1:2 0 4096 1 7
+app c1 patch 1:2 3 4095 1 7
+"""
 
-    def take(self, line):
-        """Takes the event of a line; returns its refusal, or nothing."""
-        event = self.reader.line(line.encode())
-        try:
-            self.world.check(event)
-        except WorldRefusal as refusal:
-            return str(refusal)
-        self.world.step(event)
-        return ""
+BEHIND = "\nend\n\nx\nend\n" + "deliver " * 32 + "\n" + "deliver " * 32 + "x\n"
 
-    def row(self, line):
-        words, _, given = line.removeprefix("! ").partition(" = ")
-        told = given or self.take(words)
-        assert bool(told) == line.startswith("! "), (line, told)
-        return f"({call(words.split())}, {f'Some({refusal_of(told.split())})' if told else 'None'})"
+HEADS = """
 
-    def rows(self, script):
-        return [self.row(line) for line in lines_of(script)]
+tanks 1
+end
+tank 3 1
+tank 1 1000
+tank 1 1000 500
+tank 1 0 500 700 850 100 50 101 100 2 1 1 8
+tank 1 1000 700 700 850 100 50 101 100 2 1 1 8
+tank 1 1000 500 700 850 100 50 99 100 2 1 1 8
+tank 1 2000000000000 500 700 850 100 50 101 100 2 1 1 8
+tank 1 1000 500 700 850 100 0 101 100 2 1 1 8
+tank 2 1000 500 700 850 100 50 101 100 1001 2 1 1 8
+tank 1 1000 500 700 850 100 50 101 100 17 1 1 8
+tank 1 1000 500 700 850 100 50 101 100 2 4 3 8
+tank 1 9223372036854775808 500 700 850 100 50 101 100 2 1 1 8
+tank 1 9223372036854775807 500 700 850 100 50 101 100 16 4 8 4096
+tank 1 1000 500 700 850 100 50 101 100 2 1 1 8 9
+tank 1 1000 500 700 850 100 50 101 100 2 1 1 8 
+""" + "deliver " * 32 + "x\n"
+
+SMALL = f"tank 1 {SETTINGS} 2 1 1 8"
+SMALL_DRIFTING = f"tank 2 {SETTINGS} 5 2 1 1 8"
+
+# for each file its head, its script, and what it says of itself
+FILES = {
+    "nodes": (RATED, NODES, "Nodes that are not there, that run, and that do not."),
+    "messages": (RATED, MESSAGES, "Messages that were not sent, that are lost, and whose direction is cut."),
+    "commands": (RATED, COMMANDS, "Disk commands that were not submitted, or whose state admits no effect or report."),
+    "rates": (RATED, FLUSHES, "Clocks that run apart too fast, and a lease end that is reached with a dirty page or a write that is not reported."),
+    "clients": (RATED, CLIENTS, "Several clients and servers at their lease ends: the first client, and then the first server, is named."),
+    "late-writes": (RATED, LATE, "Effects of writes at and behind the lease end of the life that submitted them."),
+    "late-reads": (RATED, READS, "Effects of reads at the lease end."),
+    "drift": (DRIFTING, DRIFTS, "Clocks with a grain that run apart too far: the first pair is named, with its excess."),
+}
+
+LINE_FILES = {
+    "lines": (SMALL, LINES, "Lines that a reader refuses, with the column; a few that it reads, which the world takes or refuses."),
+    "lines-with-a-grain": (SMALL_DRIFTING, DRIFTING_LINES, "Lines behind a head of the second form."),
+    "lines-behind-the-end": (SMALL, BEHIND, "What stands behind the end."),
+    "heads": ("", HEADS, "First lines that are no head."),
+}
 
 
 def lines_of(script):
@@ -299,60 +360,54 @@ def lines_of(script):
         yield from [f"deliver {k}" for k in range(int(first), int(last) + 1)] if more else [line]
 
 
-def asked(client, what, file, *rest):
-    """The ask of a client, as it stands in the table: it writes its own file, and reads that of the second client."""
-    server, ino = file.split(":")
-    assert int(ino) == 3 if what == "read" else int(ino) == int(client[1:]) + 1
-    return f"{what.capitalize()}({', '.join([client[1:], server, *rest])})"
+def told(name, values):
+    """A refusal as the report has it."""
+    return " ".join(map(str, [name, *values]))
 
 
-def call(words):
-    """The event of a line, as it stands in the table."""
-    kind, *rest = words
-    match kind:
-        case "app":
-            return asked(*rest)
-        case "report":
-            return f"{'Done' if rest[1] == 'ok' else 'Failed'}({rest[0]})"
-        case "adv":
-            return f"Advance([{', '.join(rest)}])"
-        case _:
-            return f"{kind.capitalize()}({', '.join(NODE_NAMES.get(word, word) for word in rest)})"
+def rows(head, script):
+    """The lines of a script, behind each that is refused its refusal."""
+    reader = ScheduleReader()
+    world = World(reader.line(head.encode()))
+    for line in lines_of(script):
+        event = reader.line(line.removeprefix("! ").encode())
+        refusal = world.refusal(event)
+        assert line.startswith("! ") == (refusal is not None), (line, refusal)
+        if refusal is not None:
+            yield f"{line} > {told(refusal[0], refusal[1:])}"
+        else:
+            world.step(event)
+            yield line
 
 
-def refusal_of(words):
-    """A refusal, as it stands in the table."""
-    kind, *rest = words
-    match kind:
-        case "FlushMissed":
-            return f"FlushMissed(ClientId({rest[0][1:]}), ServerId({rest[1][1:]}))"
-        case "LateDisk":
-            return f"LateDisk(Stamp({rest[0]}), Stamp({rest[1]}))"
-        case _:
-            return f"{kind}({', '.join(NODE_NAMES.get(word, word) for word in rest)})"
+def line_rows(head, lines):
+    """Lines as the rows of a file; those that are refused have their refusal behind them."""
+    reader, world = ScheduleReader(), None
+    if head:
+        world = World(reader.line(head.encode()))
+    for line in lines.split("\n")[1:-1]:
+        if not head:
+            reader = ScheduleReader()
+        try:
+            event = reader.line(line.encode("latin-1"))
+        except LineRefused as refused:
+            yield f"! {line} > {told(refused.name, refused.values)}"
+            continue
+        refusal = world.refusal(event) if world and line != "end" else None
+        if refusal is not None:
+            yield f"! {line} > {told(refusal[0], refusal[1:])}"
+            continue
+        if world and line != "end":
+            world.step(event)
+        yield line
 
 
-def printed(name, what, head, script):
-    print(f"\n/// {what}\npub const {name}: &[(Call, Option<WorldRefusal>)] = &[")
-    for row in Table(head).rows(script):
-        print(f"    {row},")
-    print("];")
+def file(name, says, head, rows):
+    """A file and its text."""
+    return f"schedules/refusals/{name}.rows", "\n".join([f"# {says}", *filter(None, [head]), *rows, ""])
 
 
-def main():
-    print(FRONT)
-    for node, name in NODE_NAMES.items():
-        kind = "Client" if node[0] == "c" else "Server"
-        print(f"\nconst {name}: NodeId = NodeId::{kind}({kind}Id({node[1]}));")
-    printed("NODES", "Nodes that are not there, that run, and that do not.", RATED, NODES)
-    printed("MESSAGES", "Messages that were not sent, that are lost, and whose direction is cut.", RATED, MESSAGES)
-    printed("COMMANDS", "Commands that were not submitted, that had their effect, and that were reported.", RATED, COMMANDS)
-    printed("FLUSHES", "Clocks that differ too much, and a page that is not flushed by the lease end.", RATED, FLUSHES)
-    printed("CLIENTS", "Two clients that come to their lease ends at two servers.", RATED, CLIENTS)
-    printed("LATE", "Commands of a life that a crash ended, before and at its lease end.", RATED, LATE)
-    printed("READS", "Commands of a life that lasts, before and at its lease end, and after it.", RATED, READS)
-    printed("DRIFTS", "Clocks that drift apart, under the second form of a head.", DRIFTING, DRIFTS)
-
-
-if __name__ == "__main__":
-    main()
+def files():
+    """Each file of lines and events, and its text."""
+    events = [file(name, says, head, rows(head, script)) for name, (head, script, says) in FILES.items()]
+    return dict(events + [file(name, says, head, line_rows(head, lines)) for name, (head, lines, says) in LINE_FILES.items()])

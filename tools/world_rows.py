@@ -1,122 +1,115 @@
-#!/usr/bin/env python3
-"""Writes the worked rows of the world.
+"""The worked rows of the world: crates/st_rows/src/world_*.rt and the proofs of world_safety, written by tools/write_rows.
 
-Run from the repository's top as `tools/world_rows.py ORACLE`, ORACLE being the folder that holds the package tank_oracle and
-the folder rows. Each row is a schedule there, or one in tools/rows, with its report beside it. Its events, what is observed at
-each, and the counts or the refusal are written as the contract of a function, into crates/st_rows/src/world_*.rt. No number of
-a row is typed by hand, and what is written has the row's report as its text. The reports in tools/rows are the oracle's.
+Each row is a schedule of the repository with its report beside it. Its events, what is observed at each, and the counts or the refusal are written
+as the contract of a function. No number of a row is typed by hand: the world of reference/ runs it, and what is written has the row's report as its
+text. The reports of tools/rows are those of an independent reading of the protocol.
 """
 import pathlib
 import re
-import sys
 
-sys.path.insert(0, sys.argv[1])
-sys.path.insert(0, str(pathlib.Path(__file__).parent))
-sys.dont_write_bytecode = True
-from client_rows import answer_text, ask_text, body_text, bytes_text, list_text, name_patches, overlaid  # noqa: E402,F401
-from tank_oracle import report, schedule, world  # noqa: E402
-from tank_oracle.base import is_client, server_id  # noqa: E402
-from tank_oracle.wire import ReadBlock  # noqa: E402
+from client_rows import answer_text, ask_text, body_text, bytes_text, list_text
+from row_records import SERVER_BASE, answer_record, ask_record, body_record
+from reference import report
+from reference.flat_log import GONE
+from reference.schedule import ScheduleReader
+from reference.world import World
 
-ROWS = pathlib.Path(sys.argv[1]) / "rows"
-OWN_ROWS = pathlib.Path(__file__).parent / "rows"
-ROWS_CRATE = pathlib.Path("crates/st_rows")
-# the name of a row, the function and what its doc says; one file of functions a group. Of several rows with one name, `#2` is the
-# second.
+ROOT = pathlib.Path(__file__).resolve().parent.parent
+# for each row its schedule, the function and what its doc says; one file of functions a group
 FILES = {
     "world_reads": [
-        ("own-write", "own_write", "A client reads what it wrote."),
-        ("no-message", "no_message", "A request is answered again with its kept reply, and a message that was not sent is refused."),
-        ("operations-full", "operations_full", "The seventeenth operation of a client is refused."),
-        ("patch", "patch", "A patch of a written page; its effect makes both entries hard, also after a crash."),
-        ("patch-of-a-new-page", "patch_of_a_new_page", "A patch of a page that is first read from its disk."),
-        ("cut", "cut", "A file is cut, and its page reads as zeros."),
+        ("schedules/own-write", "own_write", "A client reads what it wrote."),
+        ("schedules/no-message", "no_message", "A request is answered again with its kept reply, and a message that was not sent is refused."),
+        ("schedules/seventeen-reads", "operations_full", "The seventeenth operation of a client is refused."),
+        ("schedules/patch", "patch", "A patch of a written page; its effect makes both entries hard, also after a crash."),
+        ("schedules/rows/patch-of-a-new-page", "patch_of_a_new_page", "A patch of a page that is first read from its disk."),
+        ("schedules/cut", "cut", "A file is cut, and its page reads as zeros."),
     ],
     "world_names": [
-        ("names", "names", "A name that is there is refused."),
-        ("cycle", "cycle", "A directory doesn't come under itself."),
-        ("reused-block", "reused_block", "A block that a removed file gave back has a new birth."),
+        ("schedules/names", "names", "A name that is there is refused."),
+        ("schedules/rows/rename-cycle", "cycle", "A directory doesn't come under itself."),
+        ("schedules/reused-block", "reused_block", "A block that a removed file gave back has a new birth."),
     ],
     "world_leases": [
-        ("dating", "dating", "A lease is dated from the greeting's sending."),
-        ("keep-alive", "keep_alive", "A keep-alive is sent from renewal on, and dates the lease."),
-        ("equality", "equality", "A lease is over from its end on."),
-        ("late-reply", "late_reply", "A reply at the lease end comes too late."),
+        ("schedules/dating", "dating", "A lease is dated from the greeting's sending."),
+        ("schedules/keep-alive", "keep_alive", "A keep-alive is sent from renewal on, and dates the lease."),
+        ("schedules/rows/equality", "equality", "A lease is over from its end on."),
+        ("schedules/late-reply", "late_reply", "A reply at the lease end comes too late."),
     ],
     "world_clocks": [
-        ("rate-boundary", "rate_boundary", "An advance at the bound, and one beyond it."),
-        ("drift-of-clients", "drift_of_clients", "Clocks that drift apart over three advances."),
-        ("drift-from-rest", "drift_from_rest", "Clocks that stand while another runs."),
+        ("schedules/clock-rate", "rate_boundary", "An advance at the bound, and one beyond it."),
+        ("schedules/clock-drift", "drift_of_clients", "Clocks that drift apart over three advances."),
+        ("schedules/rows/drift-from-rest", "drift_from_rest", "Clocks that stand while another runs."),
     ],
     "world_theft": [
-        ("theft", "theft", "A crashed client's lock is stolen when its timer ends."),
-        ("theft#2", "theft_with_a_grain", "With a grain the timer is longer."),
+        ("schedules/theft", "theft", "A crashed client's lock is stolen when its timer ends."),
+        ("schedules/theft-under-drift", "theft_with_a_grain", "With a grain the timer is longer."),
     ],
     "world_cuts": [
-        ("one-sided-cut", "one_sided_cut", "A client that is cut off one way flushes its pages before its lock is stolen."),
-        ("link-cut", "link_cut", "A reply of a cut direction is not delivered."),
-        ("healed", "healed", "A healed direction delivers."),
-        ("link-cut#2", "request_cut", "A request of a cut direction is not delivered."),
-        ("cut-twice", "cut_twice", "A direction that was cut twice is healed once; a cut speaks of its own direction alone."),
-        ("lost-message", "lost_message", "A message that was lost is not delivered."),
-        ("no-node", "no_node", "A node that is not there."),
+        ("schedules/one-sided-cut", "one_sided_cut", "A client that is cut off one way flushes its pages before its lock is stolen."),
+        ("schedules/link-cut", "link_cut", "A reply of a cut direction is not delivered."),
+        ("schedules/rows/healed", "healed", "A healed direction delivers."),
+        ("schedules/rows/link-cut-from-a-client", "request_cut", "A request of a cut direction is not delivered."),
+        ("tools/rows/cut-twice", "cut_twice", "A direction that was cut twice is healed once; a cut speaks of its own direction alone."),
+        ("schedules/lost-message", "lost_message", "A message that was lost is not delivered."),
+        ("schedules/rows/no-node", "no_node", "A node that is not there."),
     ],
     "world_locks": [
-        ("demand-before-grant", "demand_before_grant", "A demand that comes before its grant."),
-        ("repeated-release", "repeated_release", "A release that comes again changes nothing."),
+        ("schedules/demand-before-grant", "demand_before_grant", "A demand that comes before its grant."),
+        ("schedules/repeated-release", "repeated_release", "A release that comes again changes nothing."),
     ],
     "world_disks": [
-        ("late-disk", "late_disk", "An effect before the lease end of a crashed client."),
-        ("late-disk-refused", "late_disk_refused", "An effect at the lease end is refused."),
-        ("flush-missed", "flush_missed", "An advance to the lease end of a client that has not flushed is refused."),
-        ("flush-missed#2", "flush_outstanding", "So is one while the flush is outstanding."),
-        ("sync", "sync", "A sync is answered when its page is hard."),
-        ("late-read", "late_read", "A request that is sent again renews the lease by its new stamp; the effect of a read at the lease end is refused."),
+        ("schedules/rows/late-disk", "late_disk", "An effect before the lease end of a crashed client."),
+        ("schedules/late-disk-refused", "late_disk_refused", "An effect at the lease end is refused."),
+        ("schedules/flush-missed", "flush_missed", "An advance to the lease end of a client that has not flushed is refused."),
+        ("schedules/rows/flush-missed-at-the-end", "flush_outstanding", "So is one while the flush is outstanding."),
+        ("schedules/rows/sync", "sync", "A sync is answered when its page is hard."),
+        ("schedules/rows/late-read", "late_read", "A request that is sent again renews the lease by its new stamp; the effect of a read at the lease end is refused."),
     ],
     "world_failures": [
-        ("failed-flush", "failed_flush", "A write whose flush failed is dropped, and the next sync is told so."),
-        ("ambiguous-failure", "ambiguous_failure", "A command that was reported failed and had its effect."),
+        ("schedules/failed-flush", "failed_flush", "A write whose flush failed is dropped, and the next sync is told so."),
+        ("schedules/ambiguous-failure", "ambiguous_failure", "A command that was reported failed and had its effect."),
     ],
     "world_restarts": [
-        ("restart-while-a-timer-runs", "restart_while_a_timer_runs", "A server that starts again while a timer runs accepts the client's locks."),
-        ("second-reassert", "second_reassertion", "A reassertion that comes again is answered again."),
+        ("schedules/restart", "restart_while_a_timer_runs", "A server that starts again while a timer runs accepts the client's locks."),
+        ("schedules/rows/second-reassertion", "second_reassertion", "A reassertion that comes again is answered again."),
     ],
     "world_reassertion": [
-        ("repeated-reassertion", "repeated_reassertion", "A reassertion that comes again when grace is over brings no lock back."),
+        ("schedules/repeated-reassertion", "repeated_reassertion", "A reassertion that comes again when grace is over brings no lock back."),
     ],
     "world_refusals": [
-        ("no-client", "no_client", "A client that is not there is asked nothing."),
-        ("not-running", "not_running", "A message is not delivered to a server that doesn't run."),
-        ("stopped-client", "stopped_client", "A client that doesn't run takes no step, and its clock goes on."),
-        ("stopped-twice", "stopped_twice", "A server that doesn't run can't stop."),
-        ("running", "running", "A client that starts again is in its next life; a server that runs can't start."),
-        ("lost-twice", "lost_twice", "A message is lost once."),
-        ("no-command", "no_command", "A command that was not submitted has no effect."),
-        ("no-command-to-report", "no_command_to_report", "Nor has it a report."),
+        ("tools/rows/no-client", "no_client", "A client that is not there is asked nothing."),
+        ("tools/rows/not-running", "not_running", "A message is not delivered to a server that doesn't run."),
+        ("tools/rows/stopped-client", "stopped_client", "A client that doesn't run takes no step, and its clock goes on."),
+        ("tools/rows/stopped-twice", "stopped_twice", "A server that doesn't run can't stop."),
+        ("tools/rows/running", "running", "A client that starts again is in its next life; a server that runs can't start."),
+        ("tools/rows/lost-twice", "lost_twice", "A message is lost once."),
+        ("tools/rows/no-command", "no_command", "A command that was not submitted has no effect."),
+        ("tools/rows/no-command-to-report", "no_command_to_report", "Nor has it a report."),
     ],
     "world_commands": [
-        ("effect-twice", "effect_twice", "A command has its effect once."),
-        ("effect-of-a-reported-command", "effect_of_a_reported_command", "A command that was reported has no effect."),
-        ("success-without-effect", "success_without_effect", "A command without an effect is not reported as done."),
-        ("failed-read", "failed_read", "A failed read is told; a report for a client that was started again tells nobody; and there is one report."),
+        ("tools/rows/effect-twice", "effect_twice", "A command has its effect once."),
+        ("tools/rows/effect-of-a-reported-command", "effect_of_a_reported_command", "A command that was reported has no effect."),
+        ("tools/rows/success-without-effect", "success_without_effect", "A command without an effect is not reported as done."),
+        ("tools/rows/failed-read", "failed_read", "A failed read is told; a report for a client that was started again tells nobody; and there is one report."),
     ],
     "world_lives": [
-        ("later-life-waits", "later_life_waits", "A client that is greeted while its locks of an earlier life stand waits until they are stolen."),
-        ("later-life-replaces", "later_life_replaces", "Without locks its new life is welcome at once; an older greeting, request and welcome are passed over."),
-        ("uncertain-at-a-loss", "uncertain_at_a_loss", "A name that was asked is uncertain at a loss, though the server gave it."),
-        ("two-servers", "two_servers", "A client with leases at two servers, each with its own disk, loses them in rising order."),
-        ("condemned", "condemned", "A client that is refused as a suspect serves nothing new, flushes, and loses its lease."),
+        ("tools/rows/later-life-waits", "later_life_waits", "A client that is greeted while its locks of an earlier life stand waits until they are stolen."),
+        ("tools/rows/later-life-replaces", "later_life_replaces", "Without locks its new life is welcome at once; an older greeting, request and welcome are passed over."),
+        ("tools/rows/uncertain-at-a-loss", "uncertain_at_a_loss", "A name that was asked is uncertain at a loss, though the server gave it."),
+        ("tools/rows/two-servers", "two_servers", "A client with leases at two servers, each with its own disk, loses them in rising order."),
+        ("tools/rows/condemned", "condemned", "A client that is refused as a suspect serves nothing new, flushes, and loses its lease."),
     ],
     "world_epochs": [
-        ("new-epoch", "new_epoch", "A name that was asked in an epoch that is over is uncertain; without locks an empty reassertion is accepted."),
-        ("grace", "grace", "In grace no greeting is welcome; the first grant after it has a number of the new epoch."),
-        ("late-reassertion", "late_reassertion", "A reassertion that comes when grace is over is refused, and finds its client's lease lost."),
+        ("tools/rows/new-epoch", "new_epoch", "A name that was asked in an epoch that is over is uncertain; without locks an empty reassertion is accepted."),
+        ("tools/rows/grace", "grace", "In grace no greeting is welcome; the first grant after it has a number of the new epoch."),
+        ("tools/rows/late-reassertion", "late_reassertion", "A reassertion that comes when grace is over is refused, and finds its client's lease lost."),
     ],
     "world_asks": [
-        ("no-file", "no_file", "A server that is not there and an inode that is no file have no files."),
-        ("not-the-holder", "not_the_holder", "A remove of an entry that is another file than the asker means is refused."),
-        ("directories", "directories", "Directories are made, filled, listed and removed; one with entries is not removed."),
-        ("lowered-demand", "lowered_demand", "A demand is repeated on a tick and lowered when its waiter wants more; the lock is given up in two steps."),
+        ("tools/rows/no-file", "no_file", "A server that is not there and an inode that is no file have no files."),
+        ("tools/rows/not-the-holder", "not_the_holder", "A remove of an entry that is another file than the asker means is refused."),
+        ("tools/rows/directories", "directories", "Directories are made, filled, listed and removed; one with entries is not removed."),
+        ("tools/rows/lowered-demand", "lowered_demand", "A demand is repeated on a tick and lowered when its waiter wants more; the lock is given up in two steps."),
     ],
 }
 # the rows over which every promise is computed
@@ -125,27 +118,27 @@ FIELDS = [
     "told", "logged", "once", "locked", "order", "emptied", "history",
 ]
 SAFE = [
-    ("theft", "theft_is_safe", "Every promise is kept in the row of the theft."),
-    ("one-sided-cut", "one_sided_cut_is_safe", "Every promise is kept in the row of the one-sided cut."),
-    ("failed-flush", "failed_flush_is_safe", "Every promise is kept in the row of the failed flush."),
-    ("restart-while-a-timer-runs", "restart_is_safe", "Every promise is kept in the row of the restart while a timer runs."),
+    ("schedules/theft", "theft_is_safe", "Every promise is kept in the row of the theft."),
+    ("schedules/one-sided-cut", "one_sided_cut_is_safe", "Every promise is kept in the row of the one-sided cut."),
+    ("schedules/failed-flush", "failed_flush_is_safe", "Every promise is kept in the row of the failed flush."),
+    ("schedules/restart", "restart_is_safe", "Every promise is kept in the row of the restart while a timer runs."),
 ]
 
 
-def fate_text(fate):
-    if isinstance(fate, str):
-        return f"fates.{fate.capitalize()}"
-    return "(fates.Gone causes.Crash)" if fate.command is None else f"(fates.Gone (causes.Failed {fate.command}))"
+def fate_text(entry):
+    if entry.fate != GONE:
+        return f"fates.{entry.fate.capitalize()}"
+    return "(fates.Gone causes.Crash)" if entry.cause is None else f"(fates.Gone (causes.Failed {entry.cause}))"
 
 
 def entry_text(e):
     """An entry of the log, in the words of crates/st_rows/proofs/WorldLogs.antt."""
-    file, fate = f"{e.file.server} {e.file.ino} {e.page}", fate_text(e.fate)
+    file = f"{e.file[0]} {e.file[1]} {e.page}"
     match e.kind:
         case "write":
-            return f"(written {e.client} {e.life} {file} {bytes_text(e.data)} {fate})"
+            return f"(written {e.client} {e.life} {file} {bytes_text(e.bytes)} {fate_text(e)})"
         case "patch":
-            return f"(patched {e.client} {e.life} {file} {e.at} {bytes_text(e.data)} {fate})"
+            return f"(patched {e.client} {e.life} {file} {e.at} {bytes_text(e.bytes)} {fate_text(e)})"
         case "cut":
             return f"(was_cut {file})"
 
@@ -155,74 +148,62 @@ def log_text(entries):
 
 
 def node(n):
-    return f"(client_node {n})" if is_client(n) else f"(server_node {server_id(n)})"
+    return f"(client_node {n})" if n < SERVER_BASE else f"(server_node {n - SERVER_BASE})"
 
 
 def event_text(e):
     match e:
-        case schedule.TickNode(n):
-            return f"(events.Tick {node(n)})"
-        case schedule.AppAsk(client, ask):
-            return f"(ask {client} {ask_text(ask)})"
-        case schedule.Deliver(k):
-            return f"(events.Deliver {k})"
-        case schedule.Lose(k):
-            return f"(events.Lose {k})"
-        case schedule.CutLink(a, b):
-            return f"(events.Cut {node(a)} {node(b)})"
-        case schedule.HealLink(a, b):
-            return f"(events.Heal {node(a)} {node(b)})"
-        case schedule.Advance(steps):
+        case "app", client, ask:
+            return f"(ask {client} {ask_text(ask_record(ask))})"
+        case "adv", steps:
             return f"(events.Advance {list_text([str(s) for s in steps])})"
-        case schedule.Effect(k):
-            return f"(events.Effect {k})"
-        case schedule.Report(k, ok):
+        case "report", k, ok:
             return f"(events.Report {k} {'true' if ok else 'false'})"
-        case schedule.Crash(n):
-            return f"(events.Crash {node(n)})"
-        case schedule.Start(n):
-            return f"(events.Start {node(n)})"
+        case ("cut" | "heal") as word, a, b:
+            return f"(events.{word.capitalize()} {node(a)} {node(b)})"
+        case ("tick" | "crash" | "start") as word, n:
+            return f"(events.{word.capitalize()} {node(n)})"
+        case word, k:
+            return f"(events.{word.capitalize()} {k})"
 
 
 def seen_text(o):
     match o:
-        case world.Sent(k, m):
-            return f"sent {k} {m.sender} {m.receiver} {m.life} {m.epoch} {m.number} {m.stamp} {body_text(m.body)}"
-        case world.Submitted(k, c, number, ReadBlock(at)):
-            return f"read_out {k} {c} {number} {at.disk} {at.block}"
-        case world.Submitted(k, c, number, what):
-            tag = what.tag
-            return (f"write_out {k} {c} {number} {what.at.disk} {what.at.block} {tag.file.server} {tag.file.ino} {tag.page} "
-                    f"{tag.birth} {bytes_text(what.data)}")
-        case world.Answered(c, op, answer):
-            return f"answered {c} {op} {answer_text(answer)}"
-        case world.Wrote(i, c, f, p, data):
-            return f"wrote {i} {c} {f.server} {f.ino} {p} {bytes_text(data)}"
-        case world.PatchedAt(i, c, f, p, at, data):
-            return f"patched {i} {c} {f.server} {f.ino} {p} {at} {bytes_text(data)}"
-        case world.CutAt(i, f, p):
-            return f"cut {i} {f.server} {f.ino} {p}"
-        case world.Hardened(i):
+        case "sent", k, m:
+            return f"sent {k} {m.sender} {m.receiver} {m.life} {m.epoch} {m.number} {m.stamp} {body_text(body_record(m.kind, m.body))}"
+        case "submit", k, c, number, disk, block, None:
+            return f"read_out {k} {c} {number} {disk} {block}"
+        case "submit", k, c, number, disk, block, (server, ino, page, birth, data):
+            return f"write_out {k} {c} {number} {disk} {block} {server} {ino} {page} {birth} {bytes_text(data)}"
+        case "answer", c, op, answer:
+            return f"answered {c} {op} {answer_text(answer_record(answer))}"
+        case "write", i, c, f, p, data:
+            return f"wrote {i} {c} {f[0]} {f[1]} {p} {bytes_text(data)}"
+        case "patch", i, c, f, p, at, data:
+            return f"patched {i} {c} {f[0]} {f[1]} {p} {at} {bytes_text(data)}"
+        case "cut", i, f, p:
+            return f"cut {i} {f[0]} {f[1]} {p}"
+        case "hard", i:
             return f"seen.Hardened {i}"
-        case world.Dropped(i, None):
+        case "dropped", i, None:
             return f"dropped {i}"
-        case world.Dropped(i, k):
+        case "dropped", i, k:
             return f"failed {i} {k}"
-        case world.Leased(c, s, end):
+        case "dated", c, s, end:
             return f"leased {c} {s} {end}"
-        case world.LostLease(c, s, life):
+        case "lost", c, s, life:
             return f"lost {c} {s} {life}"
-        case world.Suspected(s, c, start):
+        case "suspected", s, c, start:
             return f"suspected {s} {c} {start}"
-        case world.Stolen(s, c, life):
+        case "stolen", s, c, life:
             return f"stolen {s} {c} {life}"
 
 
 def refusal_text(refusal):
-    """A refusal as the report prints it."""
-    name, *values = str(refusal).split()
+    """A refusal, by its name and its values."""
+    name, *values = refusal
     out = []
-    for i, v in enumerate(values):
+    for v in map(str, values):
         kind, number = v[0], v[1:]
         if name == "FlushMissed":
             out.append(f"(c {number})" if kind == "c" else f"(server {number})")
@@ -235,53 +216,40 @@ def refusal_text(refusal):
     return " ".join([f"refusals.{name}", *out])
 
 
-def row_path(name):
-    """The schedule of a row: one of ours, or one beside the oracle, where a number stands before the name."""
-    if (OWN_ROWS / f"{name}.schedule").exists():
-        return OWN_ROWS / f"{name}.schedule"
-    plain, _, which = name.partition("#")
-    there = sorted(p for p in ROWS.glob("row-*.schedule") if re.fullmatch(rf"row-[^-]+-{plain}", p.stem))
-    return there[int(which or 1) - 1]
-
-
 class Row:
     """A schedule, step by step: its events, what is observed at each, the counts, and the refusal that ends it."""
 
     def __init__(self, name):
-        path = row_path(name)
-        text = path.read_bytes()
+        path = ROOT / f"{name}.schedule"
         self.told, self.logs, self.events, self.refused = [], [], [], None
-        reader = schedule.ScheduleReader()
-        lines = []
-        for number, line in enumerate(schedule.split_lines(text), 1):
-            item = reader.line(line)
-            if isinstance(item, schedule.Head):
-                self.head = item
-                self.world = world.World(item.config, item.counts, item.form)
-                lines.append("tank report 1")
-            elif not isinstance(item, schedule.End):
-                self.events.append(item)
-                try:
-                    seen = self.world.step(item)
-                except world.WorldRefusal as refusal:
-                    self.refused = refusal
-                    lines.append(f"line {number} {refusal}")
-                    break
-                self.told.append(seen)
-                self.logs.append(log_text(self.world.log.entries))
-                lines += [f"{len(self.told)} {report.observation_text(o)}" for o in seen]
+        reader, lines = ScheduleReader(), ["tank report 1"]
+        for number, line in enumerate(path.read_bytes().splitlines(), 1):
+            event = reader.line(line)
+            if number == 1:
+                self.head, self.world = event, World(event)
+                continue
+            if event == ("end",):
+                continue
+            self.events.append(event)
+            self.refused = self.world.refusal(event)
+            if self.refused:
+                lines.append(report.refusal_text(number, self.refused[0], self.refused[1:]))
+                break
+            seen = self.world.step(event)
+            self.told.append(seen)
+            self.logs.append(log_text(self.world.log.entries))
+            lines += [f"{len(self.told)} {report.observation_text(o)}" for o in seen]
         if self.refused is None:
-            lines.append(f"end {self.world.summary()}")
-        wanted = path.with_suffix(".report").read_text()
-        assert "".join(line + "\n" for line in lines) == wanted, path
+            lines.append(report.summary_text(self.world.summary()))
+        assert "".join(line + "\n" for line in lines) == path.with_suffix(".report").read_text(), path
 
     def fresh(self):
-        c = self.head.counts
-        counts = f"{c.clients} {c.servers} {c.disks} {c.blocks}"
-        return f"(world_of {counts})" if self.head.form == 1 else f"(grainy_world {self.head.config.grain} {counts})"
+        head = self.head
+        counts = f"{head.clients} {head.servers} {head.disks} {head.blocks}"
+        return f"(world_of {counts})" if head.form == 1 else f"(grainy_world {head.settings.grain} {counts})"
 
     def counts(self):
-        return "(counts " + " ".join(re.findall(r"\d+", self.world.summary())) + ")"
+        return "(counts " + " ".join(map(str, self.world.summary())) + ")"
 
     def safe_text(self, name, doc):
         """The contract that says that every promise is kept over the row."""
@@ -292,7 +260,7 @@ class Row:
     def safe_answer(self, name):
         """Its proof: each promise computes, step by step."""
         def owed(o):
-            return "refl" if isinstance(o, world.Answered) and o.answer.word == "read" else "tt"
+            return "refl" if o[0] == "answer" and o[3][0] == "read" else "tt"
 
         def nested(items):
             return "".join(f"({i}, " for i in items) + "tt" + ")" * len(items)
@@ -304,7 +272,7 @@ class Row:
             return each(lambda os: nested([fact(o) for o in os]))
 
         def logged(o):
-            return "refl" if isinstance(o, world.Answered) and o.answer.word in ("written", "cut") else "tt"
+            return "refl" if o[0] == "answer" and o[3][0] in ("written", "cut") else "tt"
 
         plain = each(lambda os: "refl")
         fields = {f: plain for f in FIELDS}
@@ -361,8 +329,8 @@ WORDS = {
 }
 
 
-def write_file(name, body, tool="world_rows.py"):
-    """Writes functions after the names that they use, in a file that says which tool wrote it."""
+def file_text_of(body, tool="world_rows.py", uses=USES):
+    """Functions after the names that they use, in a file that says which tool wrote it."""
     code = re.sub(r"///.*|pub fn \w+", "", body)
 
     def used(word):
@@ -371,26 +339,20 @@ def write_file(name, body, tool="world_rows.py"):
     prelude = [w for w in ("◌≡◌",) if "≡" in code] + ["◌∷◌", "[]"] + [w for w in ("None", "Some", "codes", "false", "true") if used(w)]
     prelude += ["◌++◌"] if "++" in code else []
     head = f"ghost use Rattle.std.specs.Prelude.{{{', '.join(prelude)}}};\n"
-    for path, mark in USES:
+    for path, mark in uses:
         if mark in code:
             head += f"ghost use Rattle.{path};\n"
     for path, words in WORDS.items():
         there = [w for w in words if used(w)]
         if there:
             head += f"ghost use Rattle.{path}.{{{', '.join(there)}}};\n"
-    (ROWS_CRATE / "src" / f"{name}.rt").write_text(f"// Written by tools/{tool}.\n" + head + body)
+    return f"// Written by tools/{tool}.\n" + head + body
 
 
-def write_answer(name, text):
-    folder = ROWS_CRATE / "proofs" / "world_safety" / name
-    folder.mkdir(parents=True, exist_ok=True)
-    (folder / "Answers.antt").write_text("-- Written by tools/world_rows.py.\n" + text)
-
-
-if __name__ == "__main__":
-    for name, rows in FILES.items():
-        write_file(name, "".join(Row(path).text(title, doc) for path, title, doc in rows))
-        print(name, len(rows), "rows")
-    write_file("world_safety", "".join(Row(path).safe_text(title, doc) for path, title, doc in SAFE))
-    for path, title, _ in SAFE:
-        write_answer(title, Row(path).safe_answer(title))
+def files():
+    """Each file that has worked rows of the world, and its text."""
+    texts = {name: "".join(Row(path).text(title, doc) for path, title, doc in rows) for name, rows in FILES.items()}
+    texts["world_safety"] = "".join(Row(path).safe_text(title, doc) for path, title, doc in SAFE)
+    answers = {f"crates/st_rows/proofs/world_safety/{title}/Answers.antt": "-- Written by tools/world_rows.py.\n" + Row(path).safe_answer(title)
+               for path, title, _ in SAFE}
+    return {**{f"crates/st_rows/src/{name}.rt": file_text_of(text) for name, text in texts.items()}, **answers}

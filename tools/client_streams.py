@@ -1,109 +1,60 @@
-#!/usr/bin/env python3
-"""Prints crates/st_client_tests/src/rows.rt: what a client is given, and what it puts out.
+"""Streams of frames of a client against two servers, which are played by hand and by chance. tools/node_rows.py uses it.
 
-Run from the repository's top as `tools/client_node_rows.py ORACLE`, ORACLE being the folder that holds the package tank_oracle.
-The oracle's client takes each step, and its outputs stand behind the step. No output is typed by hand. Two servers are played by hand
-and by chance. The lines of the oracle's client that no step came to are told on the standard error. They are three: the 257th clean page, the
-1,025th lock, and a reply of a kind that no server sends in a session. So each rule of the client is reached, and each case of it.
+The client of reference/ takes each step, so that each message can answer what the client asked.
 """
 import random
-import sys
 
-sys.path.insert(0, sys.argv[1])
-sys.dont_write_bytecode = True
-from row_words import body_words, fitting_reply, message_words, runs, rust  # noqa: E402
-from tank_oracle import asks, base, client, wire  # noqa: E402
-from tank_oracle.asks import CutAsk, NameAsk, PatchAsk, ReadAsk, SyncAsk, WriteAsk  # noqa: E402
-from tank_oracle.base import FRESH_TAG, NONE, S, X, Block, File, Tag, uniform_page  # noqa: E402
-from tank_oracle.server import Send  # noqa: E402
-from tank_oracle.wire import (  # noqa: E402
-    Ack, App, AppDone, Demand, Done, Extents, Granted, Message, Nack, Named, Queued, Reasserted, Submit, Tick, Welcome,
+from row_records import (
+    Ack, App, Block, Create, CutAsk, Demand, Done, Extents, FRESH_TAG, File, Granted, ListDir, Lookup, Message, Mkdir, NONE, Nack, NameAsk, NameRow,
+    Named, PatchAsk, PlayedClient, Queued, ReadAsk, Reasserted, RemoveEntry, Rename, S, SERVER_BASE, SyncAsk, Tag, Tick, UNMAPPED, Welcome, WriteAsk,
+    X, body_record, frame, uniform_page,
 )
+from row_words import fitting_reply
+from reference.settings import Settings
 
-CONFIG = base.Config(100, 50, 70, 85, 10, 5, 3, 2, 2)
+CONFIG = Settings(100, 50, 70, 85, 10, 5, 3, 2, 2)
 SELF, SERVERS = 3, 2
 G1 = 2 ** 32 + 1
-LOCAL = {(1, 64): "tick", (1, 65): "app", (2, 65): "patch", (1, 66): "answer", (1, 67): "submit", (1, 68): "done"}
 
 
-def told(message):
-    """A message as its kind, its header's numbers, and the bytes of its body; one of the node's surroundings as a word and its body."""
-    data = wire.encode(message)
-    assert wire.decode(data) == message and len(data) >= 38
-    if data[1] >= 64:
-        return " ".join([LOCAL[data[0], data[1]], *body_words(data)])
-    return message_words(data)
+class Peer:
+    """What a client has of one server, for those who play that server."""
+
+    def __init__(self, association):
+        session, store = association.session, association.store
+        self.server, self.life, self.greeting = association.server, association.life, association.greeted
+        self.epoch, self.date = (session.epoch, session.date) if session else (0, 0)
+        self.locks, self.greatest = (session.locks, session.seen) if session else ({}, {})
+        self.commands = store.commands
+        self.outstanding = Outstanding(session.request) if session and session.request else None
+        self.extents = {(ino, page): (Block(*extent[:2]), extent[2]) for ino, pages in store.known.items()
+                        for page, extent in pages.items() if extent is not UNMAPPED}
 
 
-def note(number, *fields):
-    """A note as its number and its fields: (size, value) or bytes."""
-    return "note " + runs(bytes([number]) + b"".join(f if isinstance(f, bytes) else f[1].to_bytes(f[0]) for f in fields))
+class Outstanding:
+    """The outstanding request: its number, its body and when it was last sent."""
 
-
-def file_fields(file, page):
-    return (2, file.server), (4, file.ino), (4, page)
-
-
-def spelled(output):
-    match output:
-        case Send(message):
-            return told(message)
-        case client.SubmitCommand(command, _, what):
-            return told(Message(SELF, 0, 0, 0, 0, 0, Submit(command, what)))
-        case client.AnswerApp(op, answer):
-            return told(Message(SELF, 0, 0, 0, 0, 0, AppDone(op, answer)))
-        case client.LeasedNote(server, end):
-            return note(1, (2, server), (8, end))
-        case client.LostNote(server, life):
-            return note(2, (2, server), (8, life))
-        case client.Accepted(file, page, data):
-            return note(3, *file_fields(file, page), data)
-        case client.Patched(file, page, at, data):
-            return note(4, *file_fields(file, page), (2, at), data)
+    def __init__(self, request):
+        self.number, self.sent, self.body = request.number, request.sent, body_record(request.kind, request.body)
 
 
 class Run:
-    """A node of the oracle, with the lines of what it took."""
+    """A node of the reference, with the frames that it took and the readings of its clock."""
 
     def __init__(self):
-        self.lines, self.steps, self.now, self.ops = [], 0, 0, 0
-        self.fresh()
+        self.readings, self.frames, self.now, self.ops = [], b"", 0, 0
+        self.node = PlayedClient(SELF, CONFIG, SERVERS)
 
-    def line(self, what, outputs=()):
-        self.lines.append(f"{self.now} {what} = " + ("; ".join(spelled(o) for o in outputs) or "-"))
+    def step(self, message):
+        """A frame, which is passed over where it is for another node."""
+        self.readings.append(self.now)
+        self.frames += frame(message)
+        if message.receiver == SELF:
+            self.node.step(self.now, message.body if isinstance(message.body, (App, Done, Tick)) else message)
 
-    def fresh(self):
-        self.node = client.ClientNode(SELF, CONFIG, SERVERS)
-        self.now, self.ops = 0, 0
-        self.line("fresh")
-
-    def crash(self):
-        self.node.crash()
-        self.line("crash")
-        self.told()
-        self.lines.append(f"{self.now} tick = crashed")
-        self.lines.append(f"{self.now} {told(self.message(1, Welcome(), 0, 0, 1))} = crashed")
-
-    def start(self):
-        self.node.start()
-        self.line("start")
-        self.told()
-
-    def told(self):
-        """The life, the phase, the lease's end, whether a page is dirty, and whether a write is out, at each server."""
-        n, rows = self.node, []
-        for s in range(1, SERVERS + 1):
-            end = n.lease_end(s)
-            rows.append(f"{n.life(s)} {n.phase(s, self.now) or '-'} {'-' if end is None else end} {n.has_dirty(s):d} {n.has_write_out(s):d}")
-        self.lines.append(f"{self.now} told = " + ", ".join(rows))
-
-    def step(self, thing, what):
-        outputs = self.node.step(self.now, thing)
-        self.steps += 1
-        self.line(what, outputs)
-        if self.steps % 4 == 0:
-            self.told()
-        return outputs
+    def local(self, body):
+        """What a client is told by its own surroundings."""
+        self.step(Message(0, SELF, 0, 0, 0, 0, body))
 
     def at(self, now):
         assert now >= self.now
@@ -112,12 +63,11 @@ class Run:
 
     def tick(self, later=0):
         self.now += later
-        return self.step(Tick(), "tick")
+        return self.local(Tick())
 
     def app(self, ask):
         self.ops += 1
-        thing = App(self.ops, ask)
-        return self.step(thing, told(Message(0, SELF, 0, 0, 0, 0, thing)))
+        return self.local(App(self.ops, ask))
 
     def write(self, s, ino, page, byte):
         return self.app(WriteAsk(File(s, ino), page, uniform_page(byte)))
@@ -138,19 +88,19 @@ class Run:
         return self.app(NameAsk(s, op))
 
     def message(self, s, body, number, stamp, epoch, life=None, to=SELF):
-        return Message(base.SERVER_BASE + s, to, life or (self.peer(s).life if s in self.node.peers else 1), epoch, number, stamp, body)
+        return Message(SERVER_BASE + s, to, life or (self.peer(s).life if s <= SERVERS else 1), epoch, number, stamp, body)
 
     def peer(self, s):
-        return self.node.peers[s]
+        """What the client has of a server."""
+        return Peer(self.node.node.associations[s - 1])
 
     def hear(self, s, body, number=None, stamp=None, epoch=None, life=None, to=SELF):
         """A message of server s; by default the reply to the outstanding request, or number and stamp 0."""
-        peer = self.node.peers.get(s)
+        peer = self.peer(s) if s <= SERVERS else None
         q = None if peer is None else peer.outstanding
         number = (q.number if q else 0) if number is None else number
         stamp = (q.sent if q and number == q.number else 0) if stamp is None else stamp
-        m = self.message(s, body, number, stamp, (peer.epoch or 1) if epoch is None else epoch, life, to)
-        return self.step(m, told(m))
+        return self.step(self.message(s, body, number, stamp, (peer.epoch or 1) if epoch is None else epoch, life, to))
 
     def welcome(self, s, epoch=1):
         return self.hear(s, Welcome(), 0, self.peer(s).greeting, epoch)
@@ -160,14 +110,13 @@ class Run:
         return self.hear(s, body, 0, 0)
 
     def done(self, command, result):
-        thing = Done(command, result)
-        return self.step(thing, told(Message(0, SELF, 0, 0, 0, 0, thing)))
+        return self.local(Done(command, result))
 
     def last_command(self):
-        return self.node.next_command - 1
+        return self.node.node.next_command - 1
 
     def read_done(self, command, byte, own=True):
-        for peer in self.node.peers.values():
+        for peer in map(self.peer, range(1, SERVERS + 1)):
             if command in peer.commands:
                 c = peer.commands[command]
                 tag = Tag(File(peer.server, c.ino), c.page, peer.extents[c.ino, c.page][1]) if own else FRESH_TAG
@@ -265,11 +214,11 @@ def demands(r):
 
 def names(r):
     """Names found, listed and refused; a cut; removes of a file: the pages go out first, the lock goes at the end; a file in use waits."""
-    r.name(1, asks.Lookup(1, b"f2"))
-    r.name(1, asks.ListDir(1, b""))
-    r.name(1, asks.Mkdir(1, b"d"))
+    r.name(1, Lookup(1, b"f2"))
+    r.name(1, ListDir(1, b""))
+    r.name(1, Mkdir(1, b"d"))
     r.hear(1, Named(0, 2))
-    r.hear(1, Named(1, (asks.NameRow(2, 1, b"f2"), asks.NameRow(10, 2, b"d"))))
+    r.hear(1, Named(1, (NameRow(2, 1, b"f2"), NameRow(10, 2, b"d"))))
     r.hear(1, Named(2, 2))
     r.write(1, 2, 0, 0x51)
     r.cut(1, 2, 1)
@@ -279,20 +228,20 @@ def names(r):
     r.read(1, 2, 1)
     r.hear(1, Ack())
     r.hear(1, Extents(2, ()))
-    r.name(1, asks.RemoveEntry(1, b"f2", 2))
+    r.name(1, RemoveEntry(1, b"f2", 2))
     r.read(1, 2, 0)
     r.free(1, Demand(2, G1 + 1, NONE))
     r.hear(1, Named(0, 2))
     r.hear(1, Ack())
     r.hear(1, Nack(8, 2, 0))
-    r.name(1, asks.RemoveEntry(1, b"d", 0))
+    r.name(1, RemoveEntry(1, b"d", 0))
     r.hear(1, Named(0, 10))
-    r.name(1, asks.Rename(1, b"a", 10, b"b"))
+    r.name(1, Rename(1, b"a", 10, b"b"))
     r.hear(1, Named(0, 4))
     r.cut(1, 4, 0)
     r.hear(1, Granted(4, G1 + 12, X))
     r.hear(1, Nack(7, 4, 0))
-    r.name(1, asks.RemoveEntry(1, b"f4", 4))
+    r.name(1, RemoveEntry(1, b"f4", 4))
     r.hear(1, Nack(7, 4, 0))
 
 
@@ -312,11 +261,11 @@ def refusals(r):
     r.read_done(r.last_command(), 0x65)
     r.read(4, 2, 0)
     r.sync(7, 1)
-    r.name(3, asks.Lookup(1, b"f2"))
+    r.name(3, Lookup(1, b"f2"))
     for i in range(16):
         r.read(2, 2, i)
     r.read(1, 4, 3)
-    r.name(2, asks.Lookup(1, b"f2"))
+    r.name(2, Lookup(1, b"f2"))
 
 
 def second_server(r):
@@ -338,7 +287,7 @@ def renewal(r):
     r.hear(1, Ack())
     r.tick(2)
     r.write(1, 4, 3, 0x66)
-    r.name(1, asks.Create(1, b"n"))
+    r.name(1, Create(1, b"n"))
     r.hear(1, Nack(4, 0, 0))
     r.hear(1, Nack(1, 0, 0))
     r.read(1, 4, 3)
@@ -353,8 +302,8 @@ def renewal(r):
 def losing(r):
     """A reply that comes when the lease is over: the lease is lost first. Dirty pages are told once, what was sent is uncertain, the rest is
     quiesced; a message of the life before is passed over."""
-    r.at(r.peer(2).date + 99).told()
-    r.at(r.peer(2).date + 100).told()
+    r.at(r.peer(2).date + 99)
+    r.at(r.peer(2).date + 100)
     r.hear(2, Ack())
     r.at(r.peer(1).date + 85).tick()
     r.tick(5)
@@ -376,7 +325,7 @@ def restarted(r):
     r.write(1, 4, 3, 0x68)
     r.write(1, 4, 4, 0x69)
     r.hear(1, Extents(4, (at(4, 12),)))
-    r.name(1, asks.Mkdir(1, b"e"))
+    r.name(1, Mkdir(1, b"e"))
     r.read(1, 6, 0)
     r.free(1, Granted(7, G1 + 21, S))
     r.free(1, Demand(8, G1 + 9, NONE))
@@ -405,10 +354,8 @@ def restarted(r):
     r.at(r.peer(1).date + 100).tick()
 
 
-def crashing(r):
-    """A crash keeps the lives alone."""
-    r.crash()
-    r.start()
+def begun(r):
+    """Writes and syncs at two servers, of which one is not greeted yet."""
     r.tick(1)
     r.write(1, 2, 0, 0x12)
     r.sync(2, 2)
@@ -455,8 +402,8 @@ def by_chance(r, rng, count):
             r.patch(s, ino(), page(), rng.choice((0, 7, 4000)), bytes([byte(), byte()]))
         else:
             r.name(s, rng.choice((
-                asks.Create(1, b"n"), asks.RemoveEntry(1, b"f2", 2), asks.RemoveEntry(1, b"f3", 3), asks.RemoveEntry(1, b"d", 0),
-                asks.ListDir(1, b""), asks.Rename(1, b"a", 10, b"b"))))
+                Create(1, b"n"), RemoveEntry(1, b"f2", 2), RemoveEntry(1, b"f3", 3), RemoveEntry(1, b"d", 0),
+                ListDir(1, b""), Rename(1, b"a", 10, b"b"))))
 
     def hear(s):
         peer, k = r.peer(s), rng.random()
@@ -471,7 +418,7 @@ def by_chance(r, rng, count):
             return r.free(s, Granted(ino(), grant(peer), rng.choice((S, X, X))))
         if k < 0.94:
             i = ino()
-            g = peer.locks[i].g + rng.choice((0, 0, 0, 1, -1)) if i in peer.locks else grant(peer)
+            g = peer.locks[i].grant + rng.choice((0, 0, 0, 1, -1)) if i in peer.locks else grant(peer)
             return r.free(s, Demand(i, g, rng.choice((NONE, S))))
         if k < 0.965:
             return r.hear(s, Nack(3, peer.epoch, peer.epoch + 1), rng.randint(0, 3), 0, peer.epoch + 1)
@@ -506,12 +453,19 @@ def by_chance(r, rng, count):
             r.tick()
 
 
-def script(rng):
+def by_hand():
+    """Passages by hand, one after the other."""
     r = Run()
-    for passage in (beginning, patches, demands, names, refusals, second_server, renewal, losing, restarted, crashing):
+    for passage in (beginning, patches, demands, names, refusals, second_server, renewal, losing, restarted):
         passage(r)
-    by_chance(r, rng, 110)
-    r.told()
+    return r
+
+
+def drawn(seed):
+    """A session that begins, and what comes by chance."""
+    r = Run()
+    begun(r)
+    by_chance(r, random.Random(seed), 110)
     return r
 
 
@@ -527,56 +481,13 @@ def full():
     r.write(1, 2, 64, 64)
     r.hear(1, Extents(2, (at(64),)))
     r.write(1, 2, 5, 0x80)
-    r.told()
     return r
 
 
-class Reached:
-    """The lines of the oracle's client that were reached."""
-
-    def __init__(self):
-        self.lines = set()
-
-    def trace(self, frame, event, _):
-        if frame.f_code.co_filename != client.__file__:
-            return None
-        self.lines.add(frame.f_lineno)
-        return self.trace
-
-    def __enter__(self):
-        sys.settrace(self.trace)
-        return self
-
-    def __exit__(self, *_):
-        sys.settrace(None)
-
-    def missed(self):
-        """The lines that have code inside a method and were not reached."""
-        code, found = [compile(open(client.__file__).read(), client.__file__, "exec")], set()
-        while code:
-            c = code.pop()
-            inner = [k for k in c.co_consts if hasattr(k, "co_lines")]
-            code += inner
-            if c.co_flags & 1 and c.co_name != "<lambda>":
-                found |= {n for _, _, n in c.co_lines() if n} - {c.co_firstlineno}
-        text = open(client.__file__).read().split("\n")
-        return [(n, text[n - 1].strip()) for n in sorted(found - self.lines)]
-
-
-def main():
-    with Reached() as reached:
-        run, many = script(random.Random(int(sys.argv[2]) if len(sys.argv) > 2 else 20)), full()
-    missed = reached.missed()
-    for n, line in missed:
-        print(n, line, file=sys.stderr)
-    assert len(missed) == 3
-    print(run.steps, len(run.lines), many.steps, len(many.lines), file=sys.stderr)
-    print("//! Written by tools/client_node_rows.py. A line is a moment, what the client is given, and what it puts out. A message is its kind, its")
-    print("//! sender, its receiver, its life, epoch, number and stamp, and the bytes of its body in runs, `HH` or `HH*COUNT`; one from or to the node's")
-    print("//! surroundings is a word and its body. A note is its number, from 1, and its fields. After `told` stands each server's life, phase, end of")
-    print("//! the lease, whether a page is dirty, and whether a write is out.\n")
-    print(rust("script", "Steps of one node against two servers.", run.lines))
-    print(rust("full", "Writes of more pages than may be dirty.", many.lines), end="")
-
-
-main()
+def streams():
+    """For each stream what it shows, and its run."""
+    return [
+        ("two servers: greetings, locks, pages, patches, names, refusals, renewal, losses, a new epoch", by_hand()),
+        *((f"two servers, by chance {seed}", drawn(seed)) for seed in (20, 21)),
+        ("no more than 64 dirty pages", full()),
+    ]
