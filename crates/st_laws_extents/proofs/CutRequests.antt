@@ -2,13 +2,13 @@ pub mod Asked
 pub mod Cutting
 pub mod EndedLives
 pub mod Fresh
-pub mod Going
 pub mod Hearing
 pub mod Law
 pub mod Named
 pub mod New
 pub mod Requesting
 pub mod Seen
+pub mod ServersGoOn
 pub mod Standing
 pub mod Step
 pub mod Walking

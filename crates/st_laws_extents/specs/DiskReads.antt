@@ -1,3 +1,3 @@
-pub mod Found
 pub mod Law
+pub mod OutstandingReads
 pub mod Reads

@@ -1,3 +1,3 @@
-pub mod Going
 pub mod Keys
+pub mod RequestsGoOn
 pub mod Seen

@@ -1,2 +1,2 @@
 pub mod Law
-pub mod Sampled
+pub mod SubmittedReads

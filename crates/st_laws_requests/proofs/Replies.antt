@@ -1,4 +1,5 @@
 pub mod Asking
+pub mod EachEvent
 pub mod Last
 pub mod Replies
 pub mod Served

@@ -1,3 +1,4 @@
 pub mod Client
 pub mod Losses
 pub mod Notes
+pub mod Session

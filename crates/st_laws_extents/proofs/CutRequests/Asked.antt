@@ -22,7 +22,8 @@ use Rattle.st_lemmas.proofs.Tables.{same_or_not}
 use Rattle.st_laws_refine.specs.Views.Halves.{held_in}
 use Rattle.st_laws_refine.specs.Client.Shown.{Lasts}
 use Rattle.st_laws_leases.specs.Sides.World.{AllStand}
-use Rattle.st_laws_reads.specs.AllClients.Clear.{Cuts, cuts_from}
+use Rattle.st_laws_steps.specs.Client.Session.{cuts_from}
+use Rattle.st_laws_reads.specs.AllClients.Clear.{Cuts}
 use Rattle.st_laws_reads.specs.AllClients.Law.{Running}
 use Rattle.st_laws_reads.proofs.AllClients.Cutting.{unheld}
 use Rattle.st_laws_requests.specs.Cuts.Cuts.{CutsHold}

@@ -30,7 +30,8 @@ use Rattle.st_laws_refine.specs.Views.Halves.{epoch_in}
 use Rattle.st_laws_leases.specs.Dates.Dates.{messages}
 use Rattle.st_laws_leases.specs.Sides.World.{AllStand}
 use Rattle.st_laws_refine.specs.Server.Stands.{pairs}
-use Rattle.st_laws_reads.specs.AllClients.Clear.{Cuts, cuts_from}
+use Rattle.st_laws_steps.specs.Client.Session.{cuts_from}
+use Rattle.st_laws_reads.specs.AllClients.Clear.{Cuts}
 use Rattle.st_laws_reads.specs.AllClients.Law.{Running}
 use Rattle.st_laws_requests.specs.Replies.Reached.{IsBehind, Reached}
 use Rattle.st_laws_requests.specs.Cuts.Cuts.{CutsHold, Numbers, Numbered, SameBody, view}

@@ -55,7 +55,7 @@ use Rattle.st_laws_extents.proofs.CutRequests.Requesting.{remove_more}
 use Rattle.st_laws_extents.proofs.CutRequests.Seen.{cuts_known}
 use Rattle.st_laws_extents.proofs.CutRequests.Standing.{given_held}
 use Rattle.st_laws_extents.proofs.CutRequests.World.{stand_again}
-use Rattle.st_laws_extents.proofs.CutRequests.Going.{event_goes}
+use Rattle.st_laws_extents.proofs.CutRequests.ServersGoOn.{event_goes}
 use Rattle.st_laws_extents.specs.CutRequests.EndedLives.{GoesBetween}
 use Rattle.st_laws_extents.specs.CutRequests.Fresh.{FreshAreOutstanding}
 use Rattle.st_laws_extents.proofs.CutRequests.Fresh.{outstanding}

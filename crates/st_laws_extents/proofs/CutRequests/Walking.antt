@@ -6,11 +6,12 @@ use Rattle.st_base.specs.declared.ids.ServerId.{ServerId}
 use Rattle.st_base.specs.declared.ids.Stamp.{Stamp}
 use Rattle.st_base.specs.declared.mode.Mode.{Mode}
 use Rattle.st_messages.specs.declared.ask.Ask.{Ask}
+use Rattle.st_rules.specs.declared.client.KnownExtent.{KnownExtent}
 use Rattle.st_rules.specs.Client as cl
 use Rattle.st_rules.specs.ClientPasses as cp
 use Rattle.st_rules.specs.ClientReplies as cr
 use Rattle.st_rules.specs.ClientState.{ClientSession, Turn, only_at, with_session}
-use Rattle.st_laws_steps.proofs.Client.Sessions.{AsksNothing}
+use Rattle.st_laws_steps.specs.Client.Session.{AsksNothing}
 use Rattle.st_laws_steps.proofs.Client.Sessions as sessions
 use Rattle.st_laws_extents.specs.CutRequests.Asks.{Fact, Of}
 
@@ -35,8 +36,8 @@ module _ (F : Fact) where
   pub k_session : (t : Turn) (s r : ClientSession) → t.here.session ≡ Some s → (Of F t.here.server t.here.life.0 (Some s) → Of F t.here.server t.here.life.0 (Some r)) → K t (with_session r t)
   k_session t s r e f h = f (subst (Of F t.here.server t.here.life.0) e h)
 
-  alike : (server : ServerId) (life : ℕ) (s r : ClientSession) → AsksNothing s r → Of F server life (Some s) → Of F server life (Some r)
-  alike server life s r a h =
+  alike : (xs : List KnownExtent) (server : ServerId) (life : ℕ) (s r : ClientSession) → AsksNothing xs s r → Of F server life (Some s) → Of F server life (Some r)
+  alike xs server life s r a h =
       subst (λ x. F server life x.0 r.requests r.cutting r.due) (sym a.epoch)
       (subst (λ x. F server life s.epoch.0 x r.cutting r.due) (sym a.requests)
       (subst (λ x. F server life s.epoch.0 s.requests x r.due) (sym a.cutting) (subst (λ x. F server life s.epoch.0 s.requests s.cutting x) (sym a.due) h)))
@@ -54,10 +55,10 @@ module _ (F : Fact) where
   k_greeting now tick t = sessions.k_greeting (λ s l o. Of F s l o) alike now tick t
 
   pub k_finish : (number : ℕ) (r : Option (Option (Tag × List ℕ))) (t : Turn) → K t (cl.finish number r t)
-  k_finish number r t = sessions.k_finish (λ s l o. Of F s l o) alike number r t
+  k_finish number r t = sessions.k_finish (λ s l o. Of F s l o) number r t
 
   pub k_take : (s : ServerId) (op : ℕ) (ask : Ask) (t : Turn) → K t (only_at s (cl.take_ask op ask) t)
-  k_take s op ask t = sessions.k_take (λ s l o. Of F s l o) alike s op ask t
+  k_take s op ask t = sessions.k_take (λ s l o. Of F s l o) s op ask t
 
   pub k_granted : (t : Turn) (s : ClientSession) (ino : ℕ) (g : GrantNo) (mode : Mode) → t.here.session ≡ Some s → K t (cr.granted t s ino g mode)
   k_granted t s ino g mode e = sessions.k_granted (λ s l o. Of F s l o) alike t s ino g mode e

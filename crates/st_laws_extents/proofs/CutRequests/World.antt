@@ -37,6 +37,7 @@ use Rattle.st_laws_leases.specs.Dates.Dates.{message_in, messages}
 use Rattle.st_laws_leases.proofs.Dates.Said.{Alike, Said, client_said, flushed, server_said}
 use Rattle.st_lemmas.proofs.Steps.{step_happens}
 use Rattle.st_laws_requests.specs.Replies.Reached.{AtMessage, AtReceiver, AtServer, Ends, InputNew, IsBehind, NewOwed, Refusal, Says}
+use Rattle.st_laws_requests.proofs.Replies.EachEvent.{Comes, event_leaves}
 use Rattle.st_laws_requests.proofs.Replies.Replies.{RepliesHold}
 use Rattle.st_laws_requests.specs.Cuts.Cuts.{CutsHold, Numbers, Numbered, SameBody, view}
 use Rattle.st_laws_extents.specs.CutRequests.Asks.{AsksBehind, AsksStand, Of, Tells}
@@ -155,16 +156,12 @@ module _ (past : List Step) (t : Traced) (d : CutsHold past t) (r : RepliesHold 
             go (inr z) = absurd (no_refusal a x q numbers stands asked life epoch number more_than fine z)
 
   -- A step of a client.
-  Comes : ClientInput → Type 0
-  Comes (inputs.Control m) = Has m (messages t.world)
-  Comes i = Unit {0}
-
   start : (v : World) (c : ClientId) (server : ServerId) (life epoch : ℕ) → IsServed v c server life epoch 1
   start v c server life epoch n at k pos e = absurd (omega (arith, pos, e))
 
-  client_step : (v : World) → v.clients ≡ t.world.clients → v.servers ≡ t.world.servers → (c : ClientId) (i : ClientInput) (site old : ClientSite) → site.node ≡ old.node → site_of t.world c ≡ Some old → Comes i →
+  client_step : (v : World) → v.clients ≡ t.world.clients → v.servers ≡ t.world.servers → (c : ClientId) (i : ClientInput) (site old : ClientSite) → site.node ≡ old.node → site_of t.world c ≡ Some old → Comes t.world i →
       AllAsked G (ev.client_takes v c i site).world
-  unfolding ev.client_takes ev.client_took cl.node_step Comes
+  unfolding ev.client_takes ev.client_took cl.node_step
   client_step v ps ss c i site old same at k = go site.node.running refl
     where
       now : Stamp
@@ -200,7 +197,7 @@ module _ (past : List Step) (t : Traced) (d : CutsHold past t) (r : RepliesHold 
       here : ClientState
       here = site.node.state
 
-      tells_each : site.node.running ≡ true → (i : ClientInput) → Comes i → TellsEach (IsServed t.world c) (G c) (start t.world c) here i
+      tells_each : site.node.running ≡ true → (i : ClientInput) → Comes t.world i → TellsEach (IsServed t.world c) (G c) (start t.world c) here i
       tells_each run (inputs.Control m) k = λ e x j. tells c old at (ap (λ (n : cl.ClientNode). n.running) (sym same) ∙ run) m k (e ∙ id) x (subst (λ (n : cl.ClientNode). Has x n.state.associations) same j) x.session refl
         where
           id : here.id.0 ≡ c.0
@@ -260,76 +257,7 @@ module _ (past : List Step) (t : Traced) (d : CutsHold past t) (r : RepliesHold 
       go true = placed s node next sc.world at said.clients said.servers (λ c life epoch n z. record { up_to = let y = z.up_to in omega (arith, y, same); behind = λ run e. k.goes c life n (z.behind run (e ∙ same)) })
       go false = still w refl refl
 
-  -- Every event.
-  at_client : (c : ClientId) (i : ClientInput) → Comes i → AllAsked G (ev.at_client w c i (site_of w c)).world
-  unfolding ev.at_client w
-  at_client c i k = go (site_of w c) refl
-    where
-      go : (o : Option ClientSite) → site_of w c ≡ o → AllAsked G (ev.at_client w c i o).world
-      go None q = still w refl refl
-      go (Some site) q = client_step w refl refl c i site site refl q k
-
-  at_server : (s : ServerId) (i : ServerInput) → ((node : ServerNode) → node_of w s ≡ Some node → InputNew (server.thefts (server.turn node.state []) (clock_of w (nodes.Server s))) (clock_of w (nodes.Server s)) i) → AllAsked G (ev.at_server w s i (node_of w s)).world
-  unfolding ev.at_server w
-  at_server s i owed = go (node_of w s) refl
-    where
-      go : (o : Option ServerNode) → node_of w s ≡ o → AllAsked G (ev.at_server w s i o).world
-      go None q = still w refl refl
-      go (Some node) q = server_step s i node q (owed node q)
-
-  asks_happen : (c : ClientId) (ask : Ask) → AllAsked G (ev.asks_at w c ask (site_of w c)).world
-  unfolding ev.asks_at w Comes
-  asks_happen c ask = go (site_of w c) refl
-    where
-      go : (o : Option ClientSite) → site_of w c ≡ o → AllAsked G (ev.asks_at w c ask o).world
-      go None q = still w refl refl
-      go (Some site) q = client_step w refl refl c (inputs.App (site.asks + 1) ask) (ev.asked_once_more site) site refl q tt
-
-  delivers : (k : ℕ) → AtMessage w (world.message_of w k) → AllAsked G (ev.delivers w (world.message_of w k)).world
-  unfolding ev.delivers ev.delivers_to w Comes
-  delivers k = go (world.message_of w k) refl
-    where
-      to : (m : Message) (n : NodeId) → Has m (messages t.world) → AtReceiver w m n → AllAsked G (ev.delivers_to w m n).world
-      to m (nodes.Client c) h f = at_client c (inputs.Control m) h
-      to m (nodes.Server s) h f = at_server s (serving.Control m) (λ node q. subst (AtServer w m s) q f)
-
-      go : (o : Option SentMessage) → world.message_of w k ≡ o → AtMessage w o → AllAsked G (ev.delivers w o).world
-      go None q f = still w refl refl
-      go (Some m) q f = to m.message (world.receiver_of m) (has_map_in message_in t.world.net.messages m (numbered_has t.world.net.messages k m q)) f
-
-  loses : (k : ℕ) → AllAsked G (ev.loses_message w k (world.message_of w k))
-  unfolding ev.loses_message w
-  loses k = go (world.message_of w k)
-    where
-      go : (o : Option SentMessage) → AllAsked G (ev.loses_message w k o)
-      go None = still w refl refl
-      go (Some m) = still (ev.with_lost k m w) refl refl
-
-  reports : (k : ℕ) (ok : Bool) → AllAsked G (ev.reports_of w k ok).world
-  unfolding ev.reports_of ev.tells ev.tells_client ev.tells_site w Comes
-  reports k ok = go (world.issued_of w k)
-    where
-      v : World
-      v = ev.with_disks (ev.disks_after w.disks (Rattle.st_rules.specs.Disks.done w.disks k ok)) w
-
-      none : AllAsked G v
-      none = still v refl refl
-
-      comes : (x : IssuedCommand) → Comes (ev.end_told v k ok x)
-      comes x = tt
-
-      same : (x : IssuedCommand) (site : ClientSite) → site_of w x.client ≡ Some site → (b : Bool) → AllAsked G (if b then ev.client_takes v x.client (ev.end_told v k ok x) site else ev.quiet v).world
-      same x site q true = client_step v refl refl x.client (ev.end_told v k ok x) site site refl q (comes x)
-      same x site q false = none
-
-      at : (x : IssuedCommand) (o : Option ClientSite) → site_of w x.client ≡ o → AllAsked G (ev.tells_client v k ok x o).world
-      at x None q = none
-      at x (Some site) q = same x site q (ev.is_same_instance x site)
-
-      go : (o : Option IssuedCommand) → AllAsked G (ev.tells v k ok o).world
-      go None = none
-      go (Some x) = at x (site_of w x.client) refl
-
+  -- Crashes and starts.
   -- a client without sessions
   emptied : (v : World) (c : ClientId) (old new : ClientSite) → site_of t.world c ≡ Some old → v.clients ≡ with_numbered c.0 new t.world.clients → v.servers ≡ t.world.servers →
       ((a : Association) → Has a new.node.state.associations → a.session ≡ None) → AllAsked G v
@@ -342,61 +270,28 @@ module _ (past : List Step) (t : Traced) (d : CutsHold past t) (r : RepliesHold 
   none_of : (f : Association → Association) → ((x : Association) → (f x).session ≡ None) → (xs : List Association) → (a : Association) → Has a (map f xs) → a.session ≡ None
   none_of f n xs a i = let z = has_map f xs a i in ap (λ (y : Association). y.session) z.2 ∙ n z.0
 
-  crashes_client : (c : ClientId) → AllAsked G (ev.crashes_client w c (site_of w c)).world
+  stopped : (c : ClientId) (site : ClientSite) → site_of t.world c ≡ Some site → AllAsked G (ev.crashes_client w c (Some site)).world
   unfolding ev.crashes_client ev.marks w cl.crash
-  crashes_client c = go (site_of w c) refl
-    where
-      go : (o : Option ClientSite) → site_of w c ≡ o → AllAsked G (ev.crashes_client w c o).world
-      go None q = still w refl refl
-      go (Some site) q = emptied (ev.crashes_client w c (Some site)).world c site (ev.stopped_site site) q refl refl (none_of cl.crashed_association (λ a. refl) site.node.state.associations)
+  stopped c site q = emptied (ev.crashes_client w c (Some site)).world c site (ev.stopped_site site) q refl refl (none_of cl.crashed_association (λ a. refl) site.node.state.associations)
 
-  starts_client : (c : ClientId) → AllAsked G (ev.starts_client w c (site_of w c))
+  begun : (c : ClientId) (site : ClientSite) → site_of t.world c ≡ Some site → AllAsked G (ev.starts_client w c (Some site))
   unfolding ev.starts_client w cl.start
-  starts_client c = go (site_of w c) refl
-    where
-      go : (o : Option ClientSite) → site_of w c ≡ o → AllAsked G (ev.starts_client w c o)
-      go None q = still w refl refl
-      go (Some site) q = emptied (ev.starts_client w c (Some site)) c site (ev.started_site site) q refl refl (none_of cl.started_association (λ a. refl) site.node.state.associations)
+  begun c site q = emptied (ev.starts_client w c (Some site)) c site (ev.started_site site) q refl refl (none_of cl.started_association (λ a. refl) site.node.state.associations)
 
-  crashes_server : (s : ServerId) → AllAsked G (ev.crashes_server w s (node_of w s))
+  off : {A : Type 0} → false ≡ true → A
+  off e = cc
+
+  crashed : (s : ServerId) (node : ServerNode) → node_of t.world s ≡ Some node → AllAsked G (ev.crashes_server w s (Some node))
   unfolding ev.crashes_server server.crash w
-  crashes_server s = go (node_of w s) refl
-    where
-      off : {A : Type 0} → false ≡ true → A
-      off e = cc
+  crashed s node q = placed s node (server.crash_node node) (ev.crashes_server w s (Some node)) q refl refl (λ c life epoch n z. record { up_to = z.up_to; behind = λ run. off run })
 
-      go : (o : Option ServerNode) → node_of w s ≡ o → AllAsked G (ev.crashes_server w s o)
-      go None q = still w refl refl
-      go (Some node) q = placed s node (server.crash_node node) (ev.crashes_server w s (Some node)) q refl refl (λ c life epoch n z. record { up_to = z.up_to; behind = λ run. off run })
-
-  starts_server : (s : ServerId) → AllAsked G (ev.starts_server w s (node_of w s))
+  started : (s : ServerId) (node : ServerNode) → node_of t.world s ≡ Some node → AllAsked G (ev.starts_server w s (Some node))
   unfolding ev.starts_server server.start server.begin_epoch w
-  starts_server s = go (node_of w s) refl
-    where
-      go : (o : Option ServerNode) → node_of w s ≡ o → AllAsked G (ev.starts_server w s o)
-      go None q = still w refl refl
-      go (Some node) q =
-          placed s node (server.start_node node (clock_of w (nodes.Server s))) (ev.starts_server w s (Some node)) q refl refl
-          (λ c life epoch n z. record { up_to = let y = z.up_to in omega (arith, y); behind = λ run e. let y = z.up_to in absurd (omega (arith, y, e)) })
+  started s node q =
+      placed s node (server.start_node node (clock_of w (nodes.Server s))) (ev.starts_server w s (Some node)) q refl refl
+      (λ c life epoch n z. record { up_to = let y = z.up_to in omega (arith, y); behind = λ run e. let y = z.up_to in absurd (omega (arith, y, e)) })
 
-  happens : (e : Event) → NewOwed w e → AllAsked G (ev.happens w e).world
-  unfolding ev.happens ev.ticks ev.crashes ev.starts ev.advances ev.effects ev.marks w Comes
-  happens (events.Tick (nodes.Client c)) f = at_client c inputs.Tick tt
-  happens (events.Tick (nodes.Server s)) f = at_server s serving.Tick (λ node q. tt)
-  happens (events.App c ask) f = asks_happen c ask
-  happens (events.Deliver k) f = delivers k f
-  happens (events.Lose k) f = loses k
-  happens (events.Cut from to) f = still (ev.happens w (events.Cut from to)).world refl refl
-  happens (events.Heal from to) f = still (ev.happens w (events.Heal from to)).world refl refl
-  happens (events.Advance steps) f = still (ev.happens w (events.Advance steps)).world refl refl
-  happens (events.Effect k) f = still (ev.happens w (events.Effect k)).world refl refl
-  happens (events.Report k ok) f = reports k ok
-  happens (events.Crash (nodes.Client c)) f = crashes_client c
-  happens (events.Crash (nodes.Server s)) f = crashes_server s
-  happens (events.Start (nodes.Client c)) f = starts_client c
-  happens (events.Start (nodes.Server s)) f = starts_server s
-
-  -- an event of a run
+  -- Every event.
   pub stand_again : (e : Event) (sc : WorldTurn) → NewOwed (ev.counted t.world) e → world_step t.world e ≡ Ok sc → AllAsked G sc.world
   unfolding w
-  stand_again e sc f h = let z = step_happens t.world e sc h in subst (λ (x : WorldTurn). AllAsked G x.world) (sym z.1) (happens e f)
+  stand_again = event_leaves t.world (λ v. AllAsked G v) (λ v cs ss ms. still v cs ss) (λ v cs ss net c i site old q at k. client_step v cs ss c i site old q at k) (λ s i node at k owed. server_step s i node at owed) stopped begun crashed started

@@ -59,7 +59,7 @@ use Rattle.st_laws_reads.proofs.AllClients.Takings.{Takes, keeps, mine_there, th
 use Rattle.st_laws_pages.proofs.Writes.Joining.{IsNew, all_say, flushes_disks}
 use Rattle.st_laws_reads.proofs.OpenWrites.Growing.{grows_all}
 use Rattle.st_laws_extents.proofs.Submits.Taking.{TakenIn, WasCommand}
-use Rattle.st_laws_extents.specs.DiskReads.Found.{ReadsClean}
+use Rattle.st_laws_extents.specs.DiskReads.OutstandingReads.{ReadsClean}
 use Rattle.st_laws_extents.specs.DiskReads.Reads.{EachRight, ReadRight, ReadsHold, ReadsLie}
 use Rattle.st_laws_extents.proofs.DiskReads.Contents.{content_others, content_said}
 use Rattle.st_laws_extents.proofs.DiskReads.Step.{ReadStays, all_behind, reads_behind}
@@ -219,7 +219,7 @@ module _ (asks : ℕ → ℕ → Option Ask) (k : Config) (count : ℕ) (past mo
       same =
           sym (ap (λ l. content l (file_at st.a pc.ino) pc.page) log_v ∙ content_said (client c) x.site.node.state b.server pc (file_at st.a pc.ino) st.server refl T.out S (behind st.unchanged) ∙ ap (λ l. content l (file_at st.a pc.ino) pc.page) tk.log)
         where
-          behind : Rattle.st_laws_extents.specs.DiskReads.Found.Unchanged b.server pc (cl.client_step x.site.node.state (clock_of W (nodes.Client (client c))) x.input).out → Rattle.st_laws_extents.specs.DiskReads.Found.Unchanged b.server pc T.out
+          behind : Rattle.st_laws_extents.specs.DiskReads.OutstandingReads.Unchanged b.server pc (cl.client_step x.site.node.state (clock_of W (nodes.Client (client c))) x.input).out → Rattle.st_laws_extents.specs.DiskReads.OutstandingReads.Unchanged b.server pc T.out
           behind u = u
 
   own_reads : (b : Association) → Has b M.node.state.associations → (pc : PageCommand) → Has pc b.store.commands → pc.kind ≡ io.Read → EachRight sc.world sc.world.log c M b pc

@@ -22,7 +22,7 @@ use Rattle.st_lemmas.specs.Lists.{Has}
 use Rattle.st_lemmas.proofs.Contents.{content_last}
 use Rattle.st_lemmas.proofs.Lookups.{if_false}
 use Rattle.st_laws_pages.proofs.Disks.Law.{same_place_is}
-use Rattle.st_laws_extents.specs.DiskReads.Found.{Unchanged}
+use Rattle.st_laws_extents.specs.DiskReads.OutstandingReads.{Unchanged}
 
 -- one entry that does not touch the page
 pub content_more : (f : FileId) (p : PageNo) (es : List LogEntry) (e : LogEntry) → touches f p e ≡ false → content (es ++ e ∷ []) f p ≡ content es f p

@@ -84,7 +84,7 @@ use Rattle.st_laws_reads.proofs.AllClients.Alone.{while_at}
 use Rattle.st_laws_reads.proofs.AllClients.Settled.{law as settled_law}
 use Rattle.st_laws_extents.proofs.Submits.Others.{free_at}
 use Rattle.st_laws_extents.proofs.Submits.Taking.{WasCommand, report_open}
-use Rattle.st_laws_extents.specs.DiskReads.Found.{ReadsClean}
+use Rattle.st_laws_extents.specs.DiskReads.OutstandingReads.{ReadsClean}
 use Rattle.st_laws_extents.specs.DiskReads.Reads.{ReadRight, ReadsHold}
 use Rattle.st_laws_extents.proofs.DiskReads.Client.{being_read}
 use Rattle.st_laws_extents.proofs.DiskReads.Contents.{content_more}

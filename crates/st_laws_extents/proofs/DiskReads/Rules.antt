@@ -34,7 +34,7 @@ use Rattle.st_laws_steps.specs.Client.Client as client
 use Rattle.st_laws_steps.specs.Client.Client.{ChangesPage, GoesOn, Plain, Unasked, with_greeted}
 use Rattle.st_laws_steps.proofs.Clash.{clash}
 use Rattle.st_laws_steps.proofs.Client.Nexts.{append_assoc, dirty_put, empty_right}
-use Rattle.st_laws_extents.specs.DiskReads.Found.{ReadsClean, ReadsKept, Unchanged}
+use Rattle.st_laws_extents.specs.DiskReads.OutstandingReads.{ReadsClean, ReadsKept, Unchanged}
 
 abbrev Changes : Stamp → Turn → Turn → Type 0
 Changes now t u = ReadsKept now t u

@@ -36,7 +36,7 @@ use Rattle.st_laws_steps.proofs.Client.Nexts.{Next, changes_next, found_fewer, f
 use Rattle.st_laws_steps.proofs.Client.Replying.{c_hear}
 use Rattle.st_laws_steps.proofs.Client.Stepping.{LossesLeft, LostOrNot, finish_next, losses_left, pairs_has}
 use Rattle.st_laws_pages.proofs.Flush.Quiet.{AllQuiet, losses_quiet}
-use Rattle.st_laws_extents.specs.DiskReads.Found.{ReadsClean, ReadsKept, Unchanged}
+use Rattle.st_laws_extents.specs.DiskReads.OutstandingReads.{ReadsClean, ReadsKept, Unchanged}
 use Rattle.st_laws_extents.proofs.DiskReads.Rules.{both_of, changes_kept}
 
 -- The end of a command.

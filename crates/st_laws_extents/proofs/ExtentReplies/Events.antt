@@ -39,6 +39,7 @@ use Rattle.st_laws_leases.specs.Dates.Dates.{message_in, messages}
 use Rattle.st_laws_leases.proofs.Dates.Said.{Alike, Said, client_said, flushed, server_said}
 use Rattle.st_lemmas.proofs.Steps.{step_happens}
 use Rattle.st_laws_requests.specs.Replies.Reached.{AtMessage, AtReceiver, AtServer, InputNew, NewOwed}
+use Rattle.st_laws_requests.proofs.Replies.EachEvent.{Brings, Comes, event_leaves}
 use Rattle.st_laws_requests.proofs.Replies.Replies.{RepliesHold}
 use Rattle.st_laws_requests.proofs.Replies.Served.{Served, served}
 use Rattle.st_rules.specs.Events.{cuts, sends, server_notes}
@@ -51,7 +52,7 @@ use Rattle.st_rules.specs.ClientState.{Association}
 use Rattle.st_laws_leases.proofs.Dates.Steps.{has_numbered}
 use Rattle.std.proofs.Common.{◌∷◌}
 use Rattle.st_messages.specs.declared.output.Output.TheVariants as outputs
-use Rattle.st_laws_extents.proofs.CutRequests.Going.{sent_from}
+use Rattle.st_laws_extents.proofs.CutRequests.ServersGoOn.{sent_from}
 
 set_cases : {A : Type 0} (xs : List A) (n m : ℕ) (y z x : A) → numbered xs n ≡ Some y → numbered (with_numbered n z xs) m ≡ Some x → ((m ≡ n) × (x ≡ z)) ⊎ ((m ≢ n) × (numbered xs m ≡ Some x))
 set_cases {A} xs n m y z x at h = go (same_or_not m n)
@@ -59,16 +60,6 @@ set_cases {A} xs n m y z x at h = go (same_or_not m n)
     go : (m ≡ n) ⊎ (m ≢ n) → ((m ≡ n) × (x ≡ z)) ⊎ ((m ≢ n) × (numbered xs m ≡ Some x))
     go (inl q) = inl (q, some_is (sym h ∙ ap (numbered (with_numbered n z xs)) q ∙ numbered_own xs n z y at))
     go (inr q) = inr (q, sym (numbered_other xs n m z (numbered_below xs n y at).0 q) ∙ h)
-
--- a lost message is the same message
-map_set : {A B : Type 0} (f : A → B) (xs : List A) (n : ℕ) (y z : A) → f z ≡ f y → slice_get xs n ≡ Some y → map f (set xs n z) ≡ map f xs
-map_set f [] n y z e q = cc
-map_set f (x ∷ xs) zero y z e q = ap (λ v. v ∷ map f xs) (e ∙ ap f (sym (some_is q)))
-map_set f (x ∷ xs) (suc n) y z e q = ap (λ v. f x ∷ v) (map_set f xs n y z e q)
-
-lost_same : (w : World) (k : ℕ) (m : SentMessage) → world.message_of w k ≡ Some m → messages (ev.with_lost k m w) ≡ messages w
-lost_same w zero m e = cc
-lost_same w (suc n) m e = map_set message_in w.net.messages n m (record m { lost = true }) refl e
 
 -- what a server says leaves the clocks
 says_one : (s : ServerId) (o : Output) (sc : WorldTurn) → (server_says sc s o).world.clocks ≡ sc.world.clocks
@@ -111,13 +102,9 @@ module _ (past : List Step) (t : Traced) (r : RepliesHold past t) (few : length 
   placed s old new v at ss ms g = inl (record { nodes = nodes_placed s old new v at ss g; messages = λ m h x e. subst (Has m) ms h })
 
   -- A step of a client.
-  Comes : ClientInput → Type 0
-  Comes (inputs.Control m) = Has m (messages t.world)
-  Comes i = Unit {0}
-
-  client_step : (v : World) → v.clients ≡ t.world.clients → v.servers ≡ t.world.servers → v.net ≡ t.world.net → (c : ClientId) (i : ClientInput) (site old : ClientSite) → site.node ≡ old.node → site_of t.world c ≡ Some old → Comes i →
+  client_step : (v : World) → v.clients ≡ t.world.clients → v.servers ≡ t.world.servers → v.net ≡ t.world.net → (c : ClientId) (i : ClientInput) (site old : ClientSite) → site.node ≡ old.node → site_of t.world c ≡ Some old → Comes t.world i →
       EventTells t.world (ev.client_takes v c i site).world
-  unfolding ev.client_takes ev.client_took cl.node_step Comes
+  unfolding ev.client_takes ev.client_took cl.node_step
   client_step v ps ss net c i site old same at k = go site.node.running refl
     where
       now : Stamp
@@ -154,7 +141,7 @@ module _ (past : List Step) (t : Traced) (r : RepliesHold past t) (few : length 
       Lived : ServerId → ℕ → Type 0
       Lived s life = (x : Association) × Has x site.node.state.associations × (x.server ≡ s) × (x.life.0 ≤ life)
 
-      comes : (i : ClientInput) → Comes i → Rattle.st_laws_leases.proofs.Dates.Hearing.Comes (messages t.world) c now Lived (λ s life z. (z.0, z.1, z.2, let y = z.3 in omega (arith, y))) i
+      comes : (i : ClientInput) → Comes t.world i → Rattle.st_laws_leases.proofs.Dates.Hearing.Comes (messages t.world) c now Lived (λ s life z. (z.0, z.1, z.2, let y = z.3 in omega (arith, y))) i
       comes inputs.Tick k = tt
       comes (inputs.App op ask) k = tt
       comes (inputs.Control m) k = k
@@ -222,109 +209,35 @@ module _ (past : List Step) (t : Traced) (r : RepliesHold past t) (few : length 
       go true run = inr (record { server = s; node = node; there = at; running = run; now = now; input = i; comes = comes; clients = said.clients; clocks = says_clocks s u.out a; servers = said.servers; messages = from; says = λ m h. (k.sent m h).0; dated = λ m h. (k.sent m h).1; epoch = ap (λ (y : Rattle.st_base.specs.declared.ids.Epoch.Epoch). y.0) k.epoch })
       go false run = still w refl refl
 
-  -- Every event.
-  at_client : (c : ClientId) (i : ClientInput) → Comes i → EventTells t.world (ev.at_client w c i (site_of w c)).world
-  unfolding ev.at_client w
-  at_client c i k = go (site_of w c) refl
+  -- Crashes and starts.
+  -- a message that comes to a server was sent
+  brought : (i : ServerInput) → Brings t.world i → (m : Message) → i ≡ serving.Control m → Has m (messages t.world)
+  brought serving.Tick k m e = cc e
+  brought (serving.Control n) k m e = subst (λ x. Has x (messages t.world)) (input_is n m e) k
     where
-      go : (o : Option ClientSite) → site_of w c ≡ o → EventTells t.world (ev.at_client w c i o).world
-      go None q = still w refl refl
-      go (Some site) q = client_step w refl refl refl c i site site refl q k
+      input_is : (n m : Message) → serving.Control n ≡ serving.Control m → n ≡ m
+      input_is n m e = cc
 
-  at_server : (s : ServerId) (i : ServerInput) → ((node : ServerNode) → node_of w s ≡ Some node → InputNew (server.thefts (server.turn node.state []) (clock_of w (nodes.Server s))) (clock_of w (nodes.Server s)) i) → ((m : Message) → i ≡ serving.Control m → Has m (messages t.world)) → EventTells t.world (ev.at_server w s i (node_of w s)).world
-  unfolding ev.at_server w
-  at_server s i owed comes = go (node_of w s) refl
-    where
-      go : (o : Option ServerNode) → node_of w s ≡ o → EventTells t.world (ev.at_server w s i o).world
-      go None q = still w refl refl
-      go (Some node) q = server_step s i node q (owed node q) comes
-
-  asks_happen : (c : ClientId) (ask : Ask) → EventTells t.world (ev.asks_at w c ask (site_of w c)).world
-  unfolding ev.asks_at w Comes
-  asks_happen c ask = go (site_of w c) refl
-    where
-      go : (o : Option ClientSite) → site_of w c ≡ o → EventTells t.world (ev.asks_at w c ask o).world
-      go None q = still w refl refl
-      go (Some site) q = client_step w refl refl refl c (inputs.App (site.asks + 1) ask) (ev.asked_once_more site) site refl q tt
-
-  delivers : (k : ℕ) → AtMessage w (world.message_of w k) → EventTells t.world (ev.delivers w (world.message_of w k)).world
-  unfolding ev.delivers ev.delivers_to w Comes
-  delivers k = go (world.message_of w k) refl
-    where
-      input_is : (m n : Message) → serving.Control m ≡ serving.Control n → m ≡ n
-      input_is m n e = cc
-
-      to : (m : Message) (n : NodeId) → Has m (messages t.world) → AtReceiver w m n → EventTells t.world (ev.delivers_to w m n).world
-      to m (nodes.Client c) h f = at_client c (inputs.Control m) h
-      to m (nodes.Server s) h f = at_server s (serving.Control m) (λ node q. subst (AtServer w m s) q f) (λ n e. subst (λ x. Has x (messages t.world)) (input_is m n e) h)
-
-      go : (o : Option SentMessage) → world.message_of w k ≡ o → AtMessage w o → EventTells t.world (ev.delivers w o).world
-      go None q f = still w refl refl
-      go (Some m) q f = to m.message (world.receiver_of m) (has_map_in message_in t.world.net.messages m (numbered_has t.world.net.messages k m q)) f
-
-  loses : (k : ℕ) → EventTells t.world (ev.loses_message w k (world.message_of w k))
-  unfolding ev.loses_message w
-  loses k = go (world.message_of w k) refl
-    where
-      go : (o : Option SentMessage) → world.message_of w k ≡ o → EventTells t.world (ev.loses_message w k o)
-      go None q = still w refl refl
-      go (Some m) q = still (ev.with_lost k m w) refl (lost_same w k m q)
-
-  reports : (k : ℕ) (ok : Bool) → EventTells t.world (ev.reports_of w k ok).world
-  unfolding ev.reports_of ev.tells ev.tells_client ev.tells_site w Comes
-  reports k ok = go (world.issued_of w k)
-    where
-      v : World
-      v = ev.with_disks (ev.disks_after w.disks (Rattle.st_rules.specs.Disks.done w.disks k ok)) w
-
-      none : EventTells t.world v
-      none = still v refl refl
-
-      comes : (x : IssuedCommand) → Comes (ev.end_told v k ok x)
-      comes x = tt
-
-      same : (x : IssuedCommand) (site : ClientSite) → site_of w x.client ≡ Some site → (b : Bool) → EventTells t.world (if b then ev.client_takes v x.client (ev.end_told v k ok x) site else ev.quiet v).world
-      same x site q true = client_step v refl refl refl x.client (ev.end_told v k ok x) site site refl q (comes x)
-      same x site q false = none
-
-      at : (x : IssuedCommand) (o : Option ClientSite) → site_of w x.client ≡ o → EventTells t.world (ev.tells_client v k ok x o).world
-      at x None q = none
-      at x (Some site) q = same x site q (ev.is_same_instance x site)
-
-      go : (o : Option IssuedCommand) → EventTells t.world (ev.tells v k ok o).world
-      go None = none
-      go (Some x) = at x (site_of w x.client) refl
-
-  crashes_client : (c : ClientId) → EventTells t.world (ev.crashes_client w c (site_of w c)).world
+  stopped : (c : ClientId) (site : ClientSite) → site_of t.world c ≡ Some site → EventTells t.world (ev.crashes_client w c (Some site)).world
   unfolding ev.crashes_client ev.marks w cl.crash
-  crashes_client c = go (site_of w c) refl
-    where
-      go : (o : Option ClientSite) → site_of w c ≡ o → EventTells t.world (ev.crashes_client w c o).world
-      go None q = still w refl refl
-      go (Some site) q = still (ev.crashes_client w c (Some site)).world refl refl
+  stopped c site q = still (ev.crashes_client w c (Some site)).world refl refl
 
-  starts_client : (c : ClientId) → EventTells t.world (ev.starts_client w c (site_of w c))
+  begun : (c : ClientId) (site : ClientSite) → site_of t.world c ≡ Some site → EventTells t.world (ev.starts_client w c (Some site))
   unfolding ev.starts_client w cl.start
-  starts_client c = go (site_of w c) refl
-    where
-      go : (o : Option ClientSite) → site_of w c ≡ o → EventTells t.world (ev.starts_client w c o)
-      go None q = still w refl refl
-      go (Some site) q = still (ev.starts_client w c (Some site)) refl refl
+  begun c site q = still (ev.starts_client w c (Some site)) refl refl
 
-  crashes_server : (s : ServerId) → EventTells t.world (ev.crashes_server w s (node_of w s))
+  off : {A : Type 0} → false ≡ true → A
+  off e = cc
+
+  crashed : (s : ServerId) (node : ServerNode) → node_of t.world s ≡ Some node → EventTells t.world (ev.crashes_server w s (Some node))
   unfolding ev.crashes_server server.crash w
-  crashes_server s = go (node_of w s) refl
-    where
-      off : {A : Type 0} → false ≡ true → A
-      off e = cc
+  crashed s node q = placed s node (server.crash_node node) (ev.crashes_server w s (Some node)) q refl refl (record { extents = refl; kept = λ run. off run })
 
-      go : (o : Option ServerNode) → node_of w s ≡ o → EventTells t.world (ev.crashes_server w s o)
-      go None q = still w refl refl
-      go (Some node) q = placed s node (server.crash_node node) (ev.crashes_server w s (Some node)) q refl refl (record { extents = refl; kept = λ run. off run })
-
-  starts_server : (s : ServerId) → EventTells t.world (ev.starts_server w s (node_of w s))
+  started : (s : ServerId) (node : ServerNode) → node_of t.world s ≡ Some node → EventTells t.world (ev.starts_server w s (Some node))
   unfolding ev.starts_server server.start server.begin_epoch w
-  starts_server s = go (node_of w s) refl
+  started s node q =
+      placed s node (server.start_node node (clock_of w (nodes.Server s))) (ev.starts_server w s (Some node)) q refl refl
+      (record { extents = refl; kept = λ run c life number ino rows k. absurd (empty c life number ino rows k) })
     where
       empty : {e : Rattle.st_base.specs.declared.ids.Epoch.Epoch} (c : ClientId) (life number ino : ℕ) (rows : List ExtentRow) → KeptRows (Rattle.st_rules.specs.Sessions.no_sessions e) c life number ino rows → ⊥
       empty c life number ino rows k = none k.session k.is
@@ -332,30 +245,7 @@ module _ (past : List Step) (t : Traced) (r : RepliesHold past t) (few : length 
           none : (y : Session) → ◌≡◌ {A = Option Session} None (Some y) → ⊥
           none y q = cc
 
-      go : (o : Option ServerNode) → node_of w s ≡ o → EventTells t.world (ev.starts_server w s o)
-      go None q = still w refl refl
-      go (Some node) q =
-          placed s node (server.start_node node (clock_of w (nodes.Server s))) (ev.starts_server w s (Some node)) q refl refl
-          (record { extents = refl; kept = λ run c life number ino rows k. absurd (empty c life number ino rows k) })
-
-  happens : (e : Event) → NewOwed w e → EventTells t.world (ev.happens w e).world
-  unfolding ev.happens ev.ticks ev.crashes ev.starts ev.advances ev.effects ev.marks w Comes
-  happens (events.Tick (nodes.Client c)) f = at_client c inputs.Tick tt
-  happens (events.Tick (nodes.Server s)) f = at_server s serving.Tick (λ node q. tt) (λ m e. cc e)
-  happens (events.App c ask) f = asks_happen c ask
-  happens (events.Deliver k) f = delivers k f
-  happens (events.Lose k) f = loses k
-  happens (events.Cut from to) f = still (ev.happens w (events.Cut from to)).world refl refl
-  happens (events.Heal from to) f = still (ev.happens w (events.Heal from to)).world refl refl
-  happens (events.Advance steps) f = still (ev.happens w (events.Advance steps)).world refl refl
-  happens (events.Effect k) f = still (ev.happens w (events.Effect k)).world refl refl
-  happens (events.Report k ok) f = reports k ok
-  happens (events.Crash (nodes.Client c)) f = crashes_client c
-  happens (events.Crash (nodes.Server s)) f = crashes_server s
-  happens (events.Start (nodes.Client c)) f = starts_client c
-  happens (events.Start (nodes.Server s)) f = starts_server s
-
-  -- an event of a run
+  -- Every event.
   pub event_tells : (e : Event) (sc : WorldTurn) → NewOwed (ev.counted t.world) e → world_step t.world e ≡ Ok sc → EventTells t.world sc.world
   unfolding w
-  event_tells e sc f h = let z = step_happens t.world e sc h in subst (λ (x : WorldTurn). EventTells t.world x.world) (sym z.1) (happens e f)
+  event_tells = event_leaves t.world (λ v. EventTells t.world v) (λ v cs ss ms. still v ss ms) client_step (λ s i node at k owed. server_step s i node at owed (brought i k)) stopped begun crashed started

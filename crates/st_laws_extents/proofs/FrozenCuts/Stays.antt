@@ -44,7 +44,7 @@ use Rattle.st_rules.specs.Admissible as adm
 use Rattle.st_rules.specs.World as world
 use Rattle.st_laws_reads.proofs.FrozenLives.Falling.{OwnRow, V, own_row, there_too}
 use Rattle.st_laws_reads.proofs.OpenWrites.Tracked.{tracked}
-use Rattle.st_laws_extents.proofs.CutRequests.Going.{event_goes}
+use Rattle.st_laws_extents.proofs.CutRequests.ServersGoOn.{event_goes}
 use Rattle.st_laws_extents.proofs.CutRequests.EndedLives.{harmless, harmless_stays, life_stays}
 use Rattle.st_laws_extents.proofs.CutRequests.Law.{followed, gifts_stay, owed}
 

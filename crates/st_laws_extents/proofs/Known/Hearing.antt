@@ -29,7 +29,8 @@ use Rattle.st_lemmas.specs.Lists.{Has}
 use Rattle.st_lemmas.proofs.Lookups.{some_is}
 use Rattle.st_lemmas.proofs.Puts.{has_put}
 use Rattle.st_lemmas.proofs.Tables.{and_true}
-use Rattle.st_laws_reads.specs.AllClients.Clear.{Cleared, cuts_from}
+use Rattle.st_laws_steps.specs.Client.Session.{cuts_from}
+use Rattle.st_laws_reads.specs.AllClients.Clear.{Cleared}
 use Rattle.st_laws_extents.specs.Known.Known.{Fact, HasLock, KnownAs, Locked, Tells, told_at}
 use Rattle.st_laws_extents.proofs.Known.Knowing as walk
 use Rattle.st_laws_extents.proofs.Known.Locks.{filter_keeps, lock_found}

@@ -14,7 +14,8 @@ use Rattle.st_rules.specs.Extents.{numbers}
 use Rattle.st_rules.specs.History.{Traced, traced, traced_after}
 use Rattle.st_rules.specs.Safety as safety
 use Rattle.st_rules.specs.Safety.{IsHead, Promise, Step, Throughout, is_event, step, steps}
-use Rattle.st_rules.specs.World.{World, ClientSite, fresh_world}
+use Rattle.st_base.specs.declared.ids.ClientId.{ClientId}
+use Rattle.st_rules.specs.World.{World, ClientSite, fresh_world, site_of}
 use Rattle.st_protocol.specs.Assoc.{Config}
 use Rattle.st_lemmas.specs.Lists.{Has}
 use Rattle.st_lemmas.proofs.Steps.{step_happens}
@@ -64,8 +65,11 @@ module _ (k : Config) (count : ℕ) (past : List Step) (t : Traced) (e : Event) 
   after : AllStand k count sc.world
   after = stays k count t.world e sc s.all (full count t.world e s.all.nodes in_range) is
 
+  all_fit : (c : ClientId) (site : ClientSite) → site_of t.world c ≡ Some site → (a : Association) → Has a site.node.state.associations → Fit a
+  all_fit c site q = (s.all.fates.lives.lives.sites c site q).fit
+
   clear_after : AllCleared sc.world
-  clear_after = clear_step t.world e sc is s.clear
+  clear_after = clear_step t.world e sc is all_fit s.clear
 
   -- the cuts of the event are free
   owed : (f : Event) → e ≡ f → CutsOwed (counted t.world) f
@@ -115,7 +119,7 @@ module _ (k : Config) (count : ℕ) (past : List Step) (t : Traced) (e : Event) 
   next =
       let z = goes (taken (counted t.world) e) refl told in (
         record { known = z.0; submits = z.1 },
-        record { all = after; clear = clear_after; waits = (cut_law t.world e sc is (waits_owed k count t.world s.all e (step_happens t.world e sc is).0) s.waits).holds; locked = locked_step t.world e sc is s.clear s.locked; know = z.0 },
+        record { all = after; clear = clear_after; waits = (cut_law t.world e sc is (waits_owed k count t.world s.all e (step_happens t.world e sc is).0) s.waits).holds; locked = locked_step t.world e sc is all_fit s.clear s.locked; know = z.0 },
       )
 
 -- At the start nothing is known.

@@ -112,7 +112,7 @@ module _ (R : Fact) where
   lose_said now t h = go t.here.session
     where
       over : (s : ClientSession) (b : Bool) → OutputsAs R (if b then cl.lose_session t s else t).out
-      over s true = walk.said_each R s _ _ (walk.say1 R t.here.server None [] t.out _ tt (record { known = λ e i. absurd i; said = h })).said
+      over s true = walk.said_each R now s _ _ (walk.say1 R t.here.server None [] t.out _ tt (record { known = λ e i. absurd i; said = h })).said
       over s false = h
 
       go : (o : Option ClientSession) → OutputsAs R (cl.lose_by t now o).out

@@ -25,7 +25,7 @@ use Rattle.st_rules.specs.ClientState as state
 use Rattle.st_rules.specs.ClientState.{ClientSession, Turn, answer_each, with_session, with_store}
 use Rattle.st_laws_extents.specs.Known.Current.{LockSeen}
 use Rattle.st_laws_extents.proofs.Known.Current.{law}
-use Rattle.st_laws_extents.specs.LockedRequests.Going.{Before, Free, Of, Stand}
+use Rattle.st_laws_extents.specs.LockedRequests.RequestsGoOn.{Before, Free, Of, Stand}
 use Rattle.st_laws_extents.proofs.LockedRequests.Walking as walk
 
 no_request : {A : Type 0} (q : Request) → ◌≡◌ {A = Option Request} None (Some q) → A

@@ -19,7 +19,7 @@ use Rattle.st_rules.specs.ClientState.{ClientSession, Turn, send, with_store}
 use Rattle.st_lemmas.proofs.Lookups.{some_is}
 use Rattle.st_base.specs.Mode.{covers}
 use Rattle.st_laws_extents.specs.Known.Current.{LockSeen}
-use Rattle.st_laws_extents.specs.LockedRequests.Going.{Before, Free, Of, RequestGoes, Stand, Under}
+use Rattle.st_laws_extents.specs.LockedRequests.RequestsGoOn.{Before, Free, Of, RequestGoes, Stand, Under}
 use Rattle.st_laws_extents.proofs.LockedRequests.Walking as walk
 
 -- What an operation asks: extents under the grant of the lock that is held.

@@ -24,7 +24,7 @@ use Rattle.st_laws_pages.proofs.Causes.Law.{site_is}
 use Rattle.st_rules.specs.ClientState.{Turn}
 use Rattle.std.proofs.Common.{Bool, true, false, if◌then◌else◌}
 use Rattle.st_laws_extents.proofs.Known.World.{set_cases}
-use Rattle.st_laws_extents.specs.LockedRequests.Going.{Of}
+use Rattle.st_laws_extents.specs.LockedRequests.RequestsGoOn.{Of}
 use Rattle.st_laws_extents.specs.LockedRequests.Seen.{AllSeen, Seen, any_before, any_free}
 use Rattle.st_laws_extents.proofs.LockedRequests.Step.{Each, each, step_goes}
 

@@ -10,7 +10,7 @@ use Rattle.st_rules.specs.ClientReplies as cr
 use Rattle.st_rules.specs.ClientState.{Association, ClientState, ClientTurn, Turn, at_each, at_these, client_turn, enter, leave, only_at, server_of, with_associations}
 use Rattle.st_lemmas.specs.Lists.{Has}
 use Rattle.st_lemmas.proofs.Tables.{has_append}
-use Rattle.st_laws_extents.specs.LockedRequests.Going.{Before, Free, Of}
+use Rattle.st_laws_extents.specs.LockedRequests.RequestsGoOn.{Before, Free, Of}
 use Rattle.st_laws_extents.proofs.LockedRequests.Walking.{k_finish, k_take}
 use Rattle.st_laws_extents.proofs.LockedRequests.Hearing.{k_hear}
 use Rattle.st_laws_extents.proofs.LockedRequests.Requesting.{a_passes}

@@ -35,7 +35,7 @@ use Rattle.st_laws_reads.proofs.AllClients.Takings.{Takes}
 use Rattle.st_laws_extents.proofs.Known.World.{set_cases}
 use Rattle.st_laws_extents.specs.ExtentReplies.Law.{RequestsGo, Untold, WasAsked}
 use Rattle.st_laws_extents.specs.ExtentReplies.Told.{AskedAt}
-use Rattle.st_laws_extents.specs.LockedRequests.Going.{Before, Free, Of, Stand}
+use Rattle.st_laws_extents.specs.LockedRequests.RequestsGoOn.{Before, Free, Of, Stand}
 use Rattle.st_laws_extents.specs.LockedRequests.Keys.{KeysTold}
 use Rattle.st_laws_extents.specs.LockedRequests.Seen.{AllSeen, any_before, any_free}
 use Rattle.st_laws_extents.proofs.LockedRequests.Step.{Each, step_goes}

@@ -7,16 +7,17 @@ use Rattle.st_base.specs.declared.ids.Stamp.{Stamp}
 use Rattle.st_base.specs.declared.mode.Mode.{Mode}
 use Rattle.st_messages.specs.declared.ask.Ask.{Ask}
 use Rattle.st_messages.specs.declared.ask.Ask.TheVariants as asks
+use Rattle.st_rules.specs.declared.client.KnownExtent.{KnownExtent}
 use Rattle.st_rules.specs.Client as cl
 use Rattle.st_rules.specs.ClientLocks as locks
 use Rattle.st_rules.specs.ClientPasses as cp
 use Rattle.st_rules.specs.ClientReplies as cr
 use Rattle.st_rules.specs.ClientState.{ClientSession, Turn, only_at, with_session}
 use Rattle.st_laws_steps.proofs.Client.Sessions as sessions
-use Rattle.st_laws_steps.proofs.Client.Sessions.{AsksNothing, LocksStep, LocksStay, LocksReduced, LocksGranted, LocksDemanded}
+use Rattle.st_laws_steps.specs.Client.Session.{AsksNothing, LocksStep, LocksStay, LocksReduced, LocksGranted, LocksDemanded}
 use Rattle.st_laws_extents.specs.Known.Current.{LockSeen, LocksGoOn}
 use Rattle.st_laws_extents.proofs.Known.Current.{go_same, demands_go_on, grant_goes_on, reduce_goes_on}
-use Rattle.st_laws_extents.specs.LockedRequests.Going.{Before, Free, Of, Stand, Under}
+use Rattle.st_laws_extents.specs.LockedRequests.RequestsGoOn.{Before, Free, Of, Stand, Under}
 use Rattle.st_messages.specs.declared.message.Body.{Body}
 use Rattle.st_messages.specs.declared.message.Body.TheVariants as bodies
 use Rattle.st_rules.specs.ClientReplies.{is_current}
@@ -74,14 +75,14 @@ module _ (U : Free) (W : Before) where
   k_session t s r e f h = f (subst (Of U W t.here.server t.here.life.0) e h)
 
   -- a session that asks nothing has locks that go on
-  locks_on : (c d : locks.LockCache) → LocksStep c d → LockSeen c → LocksGoOn c d
-  locks_on c _ (LocksStay _) h = go_same c h
-  locks_on c _ (LocksReduced _ ino) h = reduce_goes_on c ino h
-  locks_on _ _ (LocksGranted z ino g mode) h = grant_goes_on z ino g mode h
-  locks_on c _ (LocksDemanded _ ino g to) h = demands_go_on c ino g to h
+  locks_on : (xs : List KnownExtent) (c d : locks.LockCache) → LocksStep xs c d → LockSeen c → LocksGoOn c d
+  locks_on xs c _ (LocksStay _) h = go_same c h
+  locks_on xs c _ (LocksReduced _ ino g to e n) h = reduce_goes_on c ino h
+  locks_on xs _ _ (LocksGranted z ino g mode) h = grant_goes_on z ino g mode h
+  locks_on xs c _ (LocksDemanded _ ino g to) h = demands_go_on c ino g to h
 
-  alike : (server : ServerId) (life : ℕ) (s r : ClientSession) → AsksNothing s r → Of U W server life (Some s) → Of U W server life (Some r)
-  alike server life s r a h = k_locks server life s r a.epoch a.requests (locks_on s.locks r.locks a.locks) h
+  alike : (xs : List KnownExtent) (server : ServerId) (life : ℕ) (s r : ClientSession) → AsksNothing xs s r → Of U W server life (Some s) → Of U W server life (Some r)
+  alike xs server life s r a h = k_locks server life s r a.epoch a.requests (locks_on xs s.locks r.locks a.locks) h
 
   pub k_operations : (now : Stamp) (t : Turn) → K t (cp.operations now t)
   k_operations now t = sessions.k_operations (λ s l o. Of U W s l o) alike now t
@@ -96,10 +97,10 @@ module _ (U : Free) (W : Before) where
   k_greeting now tick t = sessions.k_greeting (λ s l o. Of U W s l o) alike now tick t
 
   pub k_finish : (number : ℕ) (r : Option (Option (Tag × List ℕ))) (t : Turn) → K t (cl.finish number r t)
-  k_finish number r t = sessions.k_finish (λ s l o. Of U W s l o) alike number r t
+  k_finish number r t = sessions.k_finish (λ s l o. Of U W s l o) number r t
 
   pub k_take : (s : ServerId) (op : ℕ) (ask : Ask) (t : Turn) → K t (only_at s (cl.take_ask op ask) t)
-  k_take s op ask t = sessions.k_take (λ s l o. Of U W s l o) alike s op ask t
+  k_take s op ask t = sessions.k_take (λ s l o. Of U W s l o) s op ask t
 
   pub k_granted : (t : Turn) (s : ClientSession) (ino : ℕ) (g : GrantNo) (mode : Mode) → t.here.session ≡ Some s → K t (cr.granted t s ino g mode)
   k_granted t s ino g mode e = sessions.k_granted (λ s l o. Of U W s l o) alike t s ino g mode e

@@ -30,7 +30,7 @@ use Rattle.st_laws_extents.specs.Known.Known.{Fact, Knows, Locked}
 use Rattle.st_laws_extents.specs.Known.Lies.{AllKnow, AllLocked, InputTold, LiesAs, anything, lies}
 use Rattle.st_laws_extents.proofs.Known.Step.{Each, Fine, Told, lost_knows, step_fine}
 use Rattle.st_laws_extents.specs.DiskReads.Reads.{LiesAt, ReadsLie}
-use Rattle.st_laws_extents.specs.Samples.Sampled.{KnownTo}
+use Rattle.st_laws_extents.specs.Samples.SubmittedReads.{KnownTo}
 use Rattle.st_laws_extents.proofs.Samples.Step.{all_sent}
 
 -- what is known by one fact is known by another

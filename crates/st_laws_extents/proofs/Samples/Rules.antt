@@ -32,7 +32,7 @@ use Rattle.st_laws_steps.proofs.Clash.{clash}
 use Rattle.st_laws_steps.proofs.Client.Passing.{IsPassing}
 use Rattle.st_laws_steps.proofs.Client.Only.{Only, Ends, Goes}
 use Rattle.st_laws_steps.proofs.Client.Nexts.{append_assoc, empty_right}
-use Rattle.st_laws_extents.specs.Samples.Sampled.{Begun, GoesTo, KnownTo, ReadsSent, StaysKnown, SubmitsNone}
+use Rattle.st_laws_extents.specs.Samples.SubmittedReads.{Begun, GoesTo, KnownTo, ReadsSent, StaysKnown, SubmitsNone}
 use Rattle.st_laws_extents.proofs.Samples.Calm.{none_said, plain_none}
 
 abbrev Changes : Stamp → Turn → Turn → Type 0
@@ -104,18 +104,6 @@ both_of now t u v a b =
         )
 
 -- The changes.
-after_says : {now : Stamp} (t : Turn) (o : Output) → Plain o → Change now t (say t o)
-after_says {now} t o p = plain now t (say t o) (o ∷ []) refl refl (plain_none o p) refl refl
-
-after_operates : {now : Stamp} (t : Turn) (os : List Operation) → Change now t (with_operations os t)
-after_operates {now} t os = plain now t (with_operations os t) [] (empty_right t.out) refl none_said refl refl
-
-after_greets : {now : Stamp} (t : Turn) (g : Option Stamp) → Change now t (with_greeted g t)
-after_greets {now} t g = plain now t (with_greeted g t) [] (empty_right t.out) refl none_said refl refl
-
-after_follows : {now : Stamp} (t : Turn) (s u : ClientSession) → t.here.session ≡ Some s → GoesOn t.here.store s u → Change now t (with_session u t)
-after_follows {now} t s u e g = plain now t (with_session u t) [] (empty_right t.out) refl none_said refl refl
-
 -- a file of an outstanding command is not idle
 not_idle : (st : Store) (pc : PageCommand) (ino : ℕ) → Has pc st.commands → pc.ino ≡ ino → pages.is_idle st ino ≡ true → ⊥
 not_idle st pc ino i e idle =
@@ -136,9 +124,6 @@ unfolding pages.forget_from pages.drop_from
 after_forgets {now} t ino p idle =
     kept now t (with_store (pages.forget_from t.here.store ino p) t) [] (empty_right t.out) refl none_said
     (λ pc i. (i, λ m e. forget_mapped ino p pc.ino pc.page t.here.store.extents (λ q. not_idle t.here.store pc ino i q idle) ∙ e))
-
-after_caches : {now : Stamp} (t : Turn) (clean : List CleanPage) → Change now t (with_store (record t.here.store { pages = record t.here.store.pages { clean = clean } }) t)
-after_caches {now} t clean = plain now t (with_store (record t.here.store { pages = record t.here.store.pages { clean = clean } }) t) [] (empty_right t.out) refl none_said refl refl
 
 after_writes : {now : Stamp} (t : Turn) (s : ClientSession) (f : FileId) (p : PageNo) (bytes : List ℕ) (n : Note) → t.here.session ≡ Some s → is_serving t.config s now ≡ true → f.server ≡ t.here.server → pages.is_mapped t.here.store.extents f.ino p ≡ true → ChangesPage f p n →
     Change now t (passes.with_pages_changed (pages.written t.here.store.pages f.ino p bytes) f.ino p (note t n))
@@ -212,21 +197,21 @@ after_submits {now} t s ino p d m se e i w =
     no z = cc
 
 -- Each change of a pass, and such changes.
-change_sent : (now : Stamp) (t u : Turn) (c : client.Change now t u) → IsPassing now t u c → ReadsSent now t u
-change_sent now t _ (client.Says _ o p) q = after_says {now = now} t o p
-change_sent now t _ (client.Operates _ os) q = after_operates {now = now} t os
-change_sent now t _ (client.Answers _ os ops a) q = absurd q
-change_sent now t _ (client.Greets _ g) q = after_greets {now = now} t g
-change_sent now t _ (client.TellsLost _ lost) q = absurd q
-change_sent now t _ (client.Begins _ s a b c) q = absurd q
-change_sent now t _ (client.Follows _ s u e g) q = after_follows {now = now} t s u e g
-change_sent now t _ (client.Learns _ e a b) q = absurd q
-change_sent now t _ (client.Forgets _ ino p i) q = after_forgets {now = now} t ino p i
-change_sent now t _ (client.Caches _ clean) q = after_caches {now = now} t clean
-change_sent now t _ (client.Writes _ s f p bytes n se sv own m h) q = after_writes {now = now} t s f p bytes n se sv own m h
-change_sent now t _ (client.Reads _ ino p m i clean) q = after_reads {now = now} t ino p m i clean
-change_sent now t _ (client.Submits _ s ino p d m se e i w) q = after_submits {now = now} t s ino p d m se e i w
+change_sent : (syncs : List Operation) (asks : Bool) (now : Stamp) (t u : Turn) (c : client.Change now t u) → IsPassing syncs asks now t u c → ReadsSent now t u
+change_sent syncs asks now t _ (client.Says _ o p) q = plain now t (say t o) (o ∷ []) refl refl (plain_none o p) refl refl
+change_sent syncs asks now t _ (client.Operates _ os) q = plain now t _ [] (empty_right t.out) refl none_said refl refl
+change_sent syncs asks now t _ (client.Answers _ os ops a) q = absurd q
+change_sent syncs asks now t _ (client.Greets _ g) q = plain now t _ [] (empty_right t.out) refl none_said refl refl
+change_sent syncs asks now t _ (client.TellsLost _ lost) q = absurd q
+change_sent syncs asks now t _ (client.Begins _ s a b c) q = absurd q
+change_sent syncs asks now t _ (client.Follows _ s u e g) q = plain now t _ [] (empty_right t.out) refl none_said refl refl
+change_sent syncs asks now t _ (client.Learns _ e a b) q = absurd q
+change_sent syncs asks now t _ (client.Forgets _ ino p i) q = after_forgets {now = now} t ino p i
+change_sent syncs asks now t _ (client.Caches _ clean) q = plain now t _ [] (empty_right t.out) refl none_said refl refl
+change_sent syncs asks now t _ (client.Writes _ s f p bytes n se sv own m h) q = after_writes {now = now} t s f p bytes n se sv own m h
+change_sent syncs asks now t _ (client.Reads _ ino p m i clean) q = after_reads {now = now} t ino p m i clean
+change_sent syncs asks now t _ (client.Submits _ s ino p d m se e i w) q = after_submits {now = now} t s ino p d m se e i w
 
-pub changes_sent : (now : Stamp) (t u : Turn) → Only IsPassing now t u → ReadsSent now t u
-changes_sent now t _ (Ends _) = still {now = now} t
-changes_sent now t v (Goes _ u _ c q r) = both_of now t u v (change_sent now t u c q) (changes_sent now u v r)
+pub changes_sent : (syncs : List Operation) (asks : Bool) (now : Stamp) (t u : Turn) → Only (IsPassing syncs asks) now t u → ReadsSent now t u
+changes_sent syncs asks now t _ (Ends _) = still {now = now} t
+changes_sent syncs asks now t v (Goes _ u _ c q r) = both_of now t u v (change_sent syncs asks now t u c q) (changes_sent syncs asks now u v r)

@@ -26,7 +26,7 @@ use Rattle.st_laws_pages.proofs.Flush.Flushing.{pair_of}
 use Rattle.st_laws_steps.proofs.Client.Nexts.{empty_right}
 use Rattle.st_laws_steps.proofs.Client.Stepping.{LossesLeft, LostOrNot, losses_left, pairs_has}
 use Rattle.st_laws_pages.proofs.Flush.Quiet.{AllQuiet, losses_quiet}
-use Rattle.st_laws_extents.specs.Samples.Sampled.{AllSent, Begun, Calm, KnownTo, NoneSent, ReadsSent, SentRight, StaysKnown, SubmitsNone}
+use Rattle.st_laws_extents.specs.Samples.SubmittedReads.{AllSent, Begun, Calm, KnownTo, NoneSent, ReadsSent, SentRight, StaysKnown, SubmitsNone}
 use Rattle.st_laws_steps.proofs.Client.Asking.{p_passes}
 use Rattle.st_laws_steps.proofs.Client.Losing.{Finished, calm_only, finish_is, is_done}
 use Rattle.st_laws_steps.proofs.Client.Replying.{calm_hear}
@@ -42,7 +42,7 @@ ends_calm now number ok t _ (Hardens pc v e o k w) = record { more = []; out = e
 ends_calm now number ok t _ (Fails pc v e o k) = record { more = []; out = empty_right t.out; none = none_said; next = refl; fewer = λ c i. (has_filter _ t.here.store.commands c i).0 }
 
 finished_calm : (now : Stamp) (number : ℕ) (ok : Bool) (t u : Turn) → Finished now number ok t u → Calm now t u
-finished_calm now number ok t u f = both_of now t f.mid u (ends_calm now number ok t f.mid f.ends) (changes_calm now f.mid u f.calm)
+finished_calm now number ok t u f = both_of now t f.mid u (ends_calm now number ok t f.mid f.ends) (changes_calm false now f.mid u f.calm)
 
 -- One pass at one server.
 module _ (now : Stamp) where
@@ -193,7 +193,7 @@ module _ (c : ClientId) (s : ClientState) (now : Stamp) (input : ClientInput) (f
   input_none (inputs.App op ask) = full (cl.is_full t.state)
     where
       known : (b : Bool) → N (if b then at_each (only_at (server_of ask) (cl.take_ask op ask)) t else cl.answered_at_once t op answers.NoFile)
-      known true = each_none now s.next_command (only_at (server_of ask) (cl.take_ask op ask)) (λ x f. changes_calm now x _ (calm_only now (server_of ask) op ask x)) t fit_t begins
+      known true = each_none now s.next_command (only_at (server_of ask) (cl.take_ask op ask)) (λ x f. changes_calm false now x _ (calm_only now (server_of ask) op ask x)) t fit_t begins
       known false = answered op answers.NoFile
 
       full : (b : Bool) → N (if b then cl.answered_at_once t op answers.OpsFull else cl.app_known t op ask)
@@ -202,7 +202,7 @@ module _ (c : ClientId) (s : ClientState) (now : Stamp) (input : ClientInput) (f
   input_none (inputs.Control x) = go (x.header.to == t.state.id.0)
     where
       go : (b : Bool) → N (if b then at_each (cr.receive_at now x.header x.body) t else t)
-      go true = each_none now s.next_command (cr.receive_at now x.header x.body) (λ y f. changes_calm now y _ (calm_hear now x.header x.body y f.fresh)) t fit_t begins
+      go true = each_none now s.next_command (cr.receive_at now x.header x.body) (λ y f. changes_calm true now y _ (calm_hear now x.header x.body y f.fresh)) t fit_t begins
       go false = begins
   input_none (inputs.Done number result) =
       each_none now s.next_command (cl.finish number result) (λ y f. finished_calm now number (is_done result) y (cl.finish number result y) (finish_is now number result y)) t fit_t begins
@@ -217,4 +217,4 @@ module _ (c : ClientId) (s : ClientState) (now : Stamp) (input : ClientInput) (f
 
   pub all_sent : AllSent (cl.client_step s now input)
   unfolding cl.client_step cl.work
-  all_sent = each_sent now (cp.passes now (cl.is_tick input)) (λ x. changes_sent now x _ (p_passes now (cl.is_tick input) x)) (cl.take_input t now input) (from_none (cl.take_input t now input) (input_none input))
+  all_sent = each_sent now (cp.passes now (cl.is_tick input)) (λ x. changes_sent x.operations true now x _ (p_passes now (cl.is_tick input) x)) (cl.take_input t now input) (from_none (cl.take_input t now input) (input_none input))

@@ -176,7 +176,7 @@ module _ (past : List Step) (k : Config) (count : ℕ) (t : Traced) (s : PagesSt
 
     pub free : taken (counted w) e ≡ None → OthersOwed (counted w) e
     free q =
-        others_owed k count (counted w) sc behind.1.all (clear_step w e sc took s.stood.clear) left.cuts s.stood.waits e (waits_owed k count w s.stood.all e (step_happens w e sc took).0) is
+        others_owed k count (counted w) sc behind.1.all (clear_step w e sc took (λ c site q. (s.stood.all.fates.lives.lives.sites c site q).fit) s.stood.clear) left.cuts s.stood.waits e (waits_owed k count w s.stood.all e (step_happens w e sc took).0) is
         (subst (TakenOwed (counted w) e) q owed)
 
     pub all_there : (xs : List Association) → AllThere w xs → AllThere (counted w) xs

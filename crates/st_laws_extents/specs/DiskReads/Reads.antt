@@ -26,7 +26,7 @@ use Rattle.st_laws_pages.specs.Disks.Pages.{mapping_of}
 use Rattle.st_laws_pages.specs.Disks.World.{mapped_in}
 use Rattle.st_laws_reads.specs.Copies.World.{Taking, turn_of}
 use Rattle.st_laws_reads.specs.AllClients.Law.{Running}
-use Rattle.st_laws_extents.specs.DiskReads.Found.{ReadsClean}
+use Rattle.st_laws_extents.specs.DiskReads.OutstandingReads.{ReadsClean}
 
 -- A command reads a page where its server has it; and where it had its effect, it found the content of the page.
 pub record ReadRight (w : World) (es : List LogEntry) (a : Association) (pc : PageCommand) (d : DiskCommand) : Type 0 where

@@ -4,7 +4,7 @@ use Rattle.st_base.specs.declared.ids.ClientId.{ClientId}
 use Rattle.st_rules.specs.ClientState.{Association}
 use Rattle.st_rules.specs.World.{World, ClientSite, site_of}
 use Rattle.st_lemmas.specs.Lists.{Has}
-use Rattle.st_laws_extents.specs.LockedRequests.Going.{Before, Free, Of}
+use Rattle.st_laws_extents.specs.LockedRequests.RequestsGoOn.{Before, Free, Of}
 
 -- whatever was told
 abbrev pub any_free : Free

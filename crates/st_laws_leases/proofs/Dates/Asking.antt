@@ -46,59 +46,23 @@ use Rattle.st_rules.specs.Safety.{is_conflict}
 use Rattle.st_lemmas.specs.Lists.{Has}
 use Rattle.st_lemmas.proofs.Lookups.{some_is}
 use Rattle.st_lemmas.proofs.Tables.{has_append, has_map}
+use Rattle.st_laws_steps.specs.Client.Client as client
+use Rattle.st_laws_steps.specs.Client.Client.{Change, Plain}
+use Rattle.st_laws_steps.specs.Client.Session.{SessionChange, Keeps, DropsLock, IsAsked, IsReasserted, EndsRequest, NewEpoch, AsksNew, AsksAgain}
+use Rattle.st_laws_steps.proofs.Client.Asking.{p_passes}
+use Rattle.st_laws_steps.proofs.Client.Calm.{IsCalm, SaysCalm}
+use Rattle.st_laws_steps.proofs.Client.Only.{Only, Goes}
+use Rattle.st_laws_steps.proofs.Client.Only as only
+use Rattle.st_laws_steps.proofs.Client.Passing.{FollowsBy, IsPassing, SaysRight, Sends, SendsHello, SendsRequest}
 use Rattle.st_laws_leases.specs.Dates.Dates.{Dates, CalmRequest, SessionDated}
 
--- What an operation asks is no refusal.
-abbrev CalmWanted : Option cp.Wanted → Type 0
-CalmWanted None = Unit {0}
-CalmWanted (Some w) = is_conflict w.body ≡ false
+no_bool : {A : Type 0} → false ≡ true → A
+no_bool e = cc
 
-calm_if : (b : Bool) (x y : Option cp.Wanted) → CalmWanted x → CalmWanted y → CalmWanted (if b then x else y)
-calm_if true x y p q = p
-calm_if false x y p q = q
-
-lock_calm : (t : Turn) (s : ClientSession) (now : Stamp) (ino : ℕ) (mode : Mode) → CalmWanted (cp.want_lock t s now ino mode)
-unfolding cp.want_lock
-lock_calm t s now ino mode = calm_if (cp.is_wait_old t.config now mode (cs.wait_of s.waits ino)) (cp.wanted (bodies.Acquire ino mode)) None refl tt
-
-held_calm : (t : Turn) (a : Ask) (ino : ℕ) (g : GrantNo) → CalmWanted (cp.want_held t a ino g)
-unfolding cp.want_held cp.want_map cp.want_block cp.want_cut
-held_calm t (asks.Read f p) ino g = calm_if (cp.is_at_hand t ino p) None (cp.wanted (bodies.Map ino g p)) tt refl
-held_calm t (asks.Write f p bytes) ino g = calm_if (pages.is_mapped t.here.store.extents ino p) None (cp.wanted (bodies.Allocate ino g p 1)) tt refl
-held_calm t (asks.Patch f p at bytes) ino g = calm_if (pages.is_mapped t.here.store.extents ino p) None (cp.wanted (bodies.Allocate ino g p 1)) tt refl
-held_calm t (asks.Cut f p) ino g = calm_if (pages.is_idle t.here.store ino) (cp.wanted_cut (bodies.Cut ino g p) ino p) None refl tt
-held_calm t (asks.Name server ask) ino g = calm_if (pages.is_idle t.here.store ino) (cp.wanted_cut (bodies.Name (cp.name_op ask g)) ino (page_no 0)) None refl tt
-held_calm t (asks.Sync f) ino g = tt
-
-by_calm : (t : Turn) (s : ClientSession) (now : Stamp) (a : Ask) (ino : ℕ) (l : Option HeldLock) → CalmWanted (cp.want_by t s now a ino l)
-unfolding cp.want_by cp.want_under
-by_calm t s now a ino None = lock_calm t s now ino (cp.need a)
-by_calm t s now a ino (Some l) = calm_if (covers l.mode (cp.need a)) (cp.want_held t a ino l.g) (cp.want_lock t s now ino (cp.need a)) (held_calm t a ino l.g) (lock_calm t s now ino (cp.need a))
-
-name_calm : (a : Ask) → CalmWanted (cp.want_name a)
-unfolding cp.want_name
-name_calm (asks.Name server ask) = refl
-name_calm a = tt
-
-at_calm : (t : Turn) (s : ClientSession) (now : Stamp) (a : Ask) (f : Option ℕ) → CalmWanted (cp.want_at t s now a f)
-unfolding cp.want_at cp.want_on
-at_calm t s now a None = name_calm a
-at_calm t s now a (Some ino) = by_calm t s now a ino (locks.lock_of s.locks ino)
-
-want_calm : (t : Turn) (s : ClientSession) (now : Stamp) (a : Ask) → CalmWanted (cp.want t s now a)
-unfolding cp.want
-want_calm t s now (asks.Sync f) = tt
-want_calm t s now a = at_calm t s now a (cs.file_of a)
-
-first_calm : (t : Turn) (s : ClientSession) (now : Stamp) (os : List Operation) (a : cp.Asking) → cp.first_asking t s now os ≡ Some a → is_conflict a.wanted.body ≡ false
-unfolding cp.first_asking cp.asks_or cp.asked_by
-first_calm t s now [] a e = cc
-first_calm t s now (o ∷ os) a e = go (cp.asked_by t s now o) (cp.first_asking t s now os) refl (calm_if (cp.may_ask t s o) (cp.want t s now o.ask) None (want_calm t s now o.ask) tt) e (λ b f. first_calm t s now os b f)
-  where
-    go : (x : Option cp.Wanted) (l : Option cp.Asking) → cp.first_asking t s now os ≡ l → CalmWanted x → cp.asks_or o os l x ≡ Some a → ((b : cp.Asking) → cp.first_asking t s now os ≡ Some b → is_conflict b.wanted.body ≡ false) → is_conflict a.wanted.body ≡ false
-    go None None f q e r = cc
-    go None (Some b) f q e r = ap (λ (z : cp.Asking). is_conflict z.wanted.body) (sym (some_is e)) ∙ r b f
-    go (Some w) l f q e r = ap (λ (z : cp.Asking). is_conflict z.wanted.body) (sym (some_is e)) ∙ q
+-- what a client asks is no refusal
+asked_calm : (b : Body) → IsAsked b → is_conflict b ≡ false
+asked_calm (bodies.Nack w x y) i = absurd i
+asked_calm b i = refl
 
 module _ (ms : List Message) (c : ClientId) (now : Stamp) (Lv : ServerId → ℕ → Type 0) where
   -- a message is from this client, and where it is a request it has the clock's reading
@@ -194,164 +158,75 @@ module _ (ms : List Message) (c : ClientId) (now : Stamp) (Lv : ServerId → ℕ
     g_if true t u p q = p
     g_if false t u p q = q
 
-    -- Operations.
-    o_quiesce : (t : Turn) (o : Operation) → G t → G (cp.quiesce t o)
-    unfolding cp.quiesce
-    o_quiesce t o p = g_if (is_sent o) _ _ (g_ops t _ p) (g_answer t o.op _ p)
+    -- Each change of a pass, and such changes.
+    sends : (t : Turn) (m : Message) → Sends now t m → G t → G (say t (outputs.Send m))
+    unfolding send
+    sends t _ SendsHello p = g_send t 0 0 now.0 bodies.Hello (λ e. refl) refl p
+    sends t _ (SendsRequest x q e a) p = g_send t x.epoch.0 q.number now.0 q.body (λ e. refl) (subst CalmRequest a (subst (SessionDated ms c s life) e p.dated).1) p
 
-    o_change : (t : Turn) (o : Operation) (f : FileId) (q : PageNo) (bytes : List ℕ) (n : Note) → G t → G (cp.change_page t o f q bytes n)
-    unfolding cp.change_page cp.change_by cp.change
-    o_change t o f q bytes n p = go (pages.write t.here.store.pages f.ino q bytes)
-      where
-        go : (r : Result Pages WriteRefusal) → G (cp.change_by t o f q n r)
-        go (Ok ps) = g_answer _ o.op _ (g_store _ _ (g_note t n p))
-        go (Err r) = g_answer t o.op _ p
+    says : (syncs : List Operation) (t : Turn) (o : Output) → SaysRight syncs now t o → G t → G (say t o)
+    says syncs t (outputs.Send m) q p = sends t m q p
+    says syncs t (outputs.Submit number at what) q p = absurd q
+    says syncs t (outputs.Answer op a) q p = g_answer t op a p
+    says syncs t (outputs.Note n) q p = absurd q
 
-    o_fetch : (t : Turn) (o : Operation) (f : FileId) (q : PageNo) → G t → G (cp.fetch t o f q)
-    unfolding cp.fetch cp.fetch_at cp.fetch_mapped cp.submit_read cp.submit_command
-    o_fetch t o f q p = g_ops _ _ (go (pages.mapping_of t.here.store.extents f.ino q))
-      where
-        go : (m : Option MappedBlock) → G (cp.fetch_at t f q m)
-        go None = p
-        go (Some m) = g_if (pages.is_being_read t.here.store.commands f.ino q) _ _ p (g_say (cp.with_command f.ino q io.Read t) _ (λ m e. cc) (record { id_ = p.id_; server_ = p.server_; life_ = p.life_; lives = p.lives; dated = p.dated; outs = p.outs }))
+    follows : (st : Store) (x u : ClientSession) (f : SessionChange st x u) → FollowsBy true st x u f → D x → D u
+    unfolding cs.asking
+    follows st x u (Keeps _ _ a) q d = (subst (λ z. Dates ms c s life z) (sym a.date) d.0, subst (λ (r : cs.Requests). CalmRequest r.asked) (sym a.requests) d.1)
+    follows st x _ (DropsLock _ ino l) q d = absurd q
+    follows st x _ (IsReasserted _) q d = absurd q
+    follows st x _ (EndsRequest _ stamp) q d = absurd q
+    follows st x _ (NewEpoch _ epoch) q d = absurd q
+    follows st x _ (AsksNew _ r at body cutting a f i) q d = (subst (λ z. Dates ms c s life z) (sym a.date) d.0, asked_calm body i)
+    follows st x _ (AsksAgain _ at r e) q d = (d.0, subst CalmRequest e d.1)
 
-    o_patch : (t : Turn) (x : ClientSession) (o : Operation) (f : FileId) (q : PageNo) (at : ℕ) (bytes : List ℕ) → G t → G (cp.patch t x o f q at bytes)
-    unfolding cp.patch cp.patch_at cp.patch_bytes
-    o_patch t x o f q at bytes p = g_if (cp.may_write t x f q) _ _ (go (pages.cached t.here.store.pages f.ino q)) (g_ops t _ p)
-      where
-        go : (b : Option (List ℕ)) → G (cp.patch_at t o f q at bytes b)
-        go None = o_fetch t o f q p
-        go (Some old) = o_change t o f q (overlay at bytes old) (notes.Patched f q at bytes) p
+    change_passing : (syncs : List Operation) (t u : Turn) (f : Change now t u) → IsPassing syncs true now t u f → G t → G u
+    unfolding cp.submit_read cp.submit_write cp.submit_command
+    change_passing syncs t _ (client.Says _ o i) q p = says syncs t o q p
+    change_passing syncs t _ (client.Operates _ os) q p = g_ops t os p
+    change_passing syncs t _ (client.Answers _ os ops a) q p = absurd q
+    change_passing syncs t _ (client.Greets _ g) q p = record { id_ = p.id_; server_ = p.server_; life_ = p.life_; lives = p.lives; dated = p.dated; outs = p.outs }
+    change_passing syncs t _ (client.TellsLost _ lost) q p = absurd q
+    change_passing syncs t _ (client.Begins _ x a b d) q p = absurd q
+    change_passing syncs t _ (client.Follows _ x u e g) q p = g_session t u (follows t.here.store x u g.how q (subst (SessionDated ms c s life) e p.dated)) p
+    change_passing syncs t _ (client.Learns _ e a b) q p = absurd q
+    change_passing syncs t _ (client.Forgets _ ino r i) q p = g_store t _ p
+    change_passing syncs t _ (client.Caches _ clean) q p = g_store t _ p
+    change_passing syncs t _ (client.Writes _ x f r bytes n se sv own m h) q p = g_store (cs.note t n) _ (g_note t n p)
+    change_passing syncs t _ (client.Reads _ ino r m i clean) q p =
+        g_say (cp.with_command ino r io.Read t) _ (λ m e. cc) (record { id_ = p.id_; server_ = p.server_; life_ = p.life_; lives = p.lives; dated = p.dated; outs = p.outs })
+    change_passing syncs t _ (client.Submits _ x ino r d m se e i w) q p =
+        g_say (cp.with_command d.ino d.page (io.Write d.version) t) _ (λ m e. cc) (record { id_ = p.id_; server_ = p.server_; life_ = p.life_; lives = p.lives; dated = p.dated; outs = p.outs })
 
-    o_read : (t : Turn) (x : ClientSession) (o : Operation) (f : FileId) (q : PageNo) → G t → G (cp.read t x o f q)
-    unfolding cp.read cp.read_at cp.read_cached cp.read_uncached cp.read_known
-    o_read t x o f q p = g_if (cp.holds x modes.S f) _ _ (go (pages.cached t.here.store.pages f.ino q)) (g_ops t _ p)
-      where
-        mapped : (e : KnownExtent) (m : Option MappedBlock) → G (cp.read_known t o f q e m)
-        mapped e None = g_answer t o.op (answers.Read (filled 0)) p
-        mapped e (Some m) = o_fetch t o f q p
-
-        known : (e : Option KnownExtent) → G (cp.read_uncached t o f q e)
-        known None = g_ops t _ p
-        known (Some e) = mapped e e.mapping
-
-        go : (b : Option (List ℕ)) → G (cp.read_at t o f q b)
-        go None = known (pages.known_of t.here.store.extents f.ino q)
-        go (Some bytes) = g_answer _ o.op (answers.Read bytes) (g_store t _ p)
-
-    o_serve : (t : Turn) (x : ClientSession) (o : Operation) (a : Ask) → G t → G (cp.serve_open t x o a)
-    unfolding cp.serve_open cp.write
-    o_serve t x o (asks.Write f q bytes) p = g_if (cp.may_write t x f q) _ _ (o_change t o f q bytes (notes.Accepted f q bytes) p) (g_ops t _ p)
-    o_serve t x o (asks.Patch f q at bytes) p = o_patch t x o f q at bytes p
-    o_serve t x o (asks.Read f q) p = o_read t x o f q p
-    o_serve t x o a p = g_ops t _ p
-
-    o_operate : (all : List Operation) (t : Turn) (o : Operation) → G t → G (cp.operate all t now o)
-    unfolding cp.operate cp.operate_on cp.operate_by cp.operate_under cp.serve cp.sync
-    o_operate all t o p = g_if (is_of t.here.server o) _ _ (on o.ask) (g_ops t _ p)
-      where
-        by : (x : Option ClientSession) → G (cp.operate_by all t now o x)
-        by None = g_ops t _ p
-        by (Some x) = g_if (is_serving t.config x now) _ _ (g_if (is_open_file all t.here.server x (cs.file_of o.ask)) _ _ (o_serve t x o o.ask p) (g_ops t _ p)) (o_quiesce t o p)
-
-        on : (a : Ask) → G (cp.operate_on all t now o a)
-        on (asks.Sync f) = g_if (pages.is_hard t.here.store f.ino) _ _ (g_answer t o.op answers.Hard p) (g_ops t _ p)
-        on a = by t.here.session
-
-    o_operate_each : (all os : List Operation) (t : Turn) → G t → G (cp.operate_each all now os t)
-    unfolding cp.operate_each
-    o_operate_each all [] t p = p
-    o_operate_each all (o ∷ os) t p = o_operate_each all os _ (o_operate all t o p)
-
-    -- Reductions.
-    o_reduce : (t : Turn) (ino : ℕ) → G t → G (cp.reduce t ino t.here.session)
-    unfolding cp.reduce cp.reduce_idle cp.reduce_by cp.reduce_given cp.reduce_to
-    o_reduce t ino p = go t.here.session p.dated
-      where
-        given : (x : ClientSession) (g : Option (GrantNo × Mode)) → D x → G (cp.reduce_given t x ino g)
-        given x None d = p
-        given x (Some g) d = g_store _ _ (g_session t (cp.released x ino g.0 g.1) d p)
-
-        go : (x : Option ClientSession) → SessionDated ms c s life x → G (cp.reduce t ino x)
-        go None d = p
-        go (Some x) d = g_if (cp.may_reduce t x ino) _ _ (given (with_cache (locks.reduce x.locks ino).locks x) (locks.reduce x.locks ino).given d) p
-
-    o_reduce_each : (inos : List ℕ) (t : Turn) → G t → G (cp.reduce_each inos t)
-    unfolding cp.reduce_each
-    o_reduce_each [] t p = p
-    o_reduce_each (ino ∷ inos) t p = o_reduce_each inos _ (o_reduce t ino p)
-
-    -- Writes.
-    o_write_page : (x : ClientSession) (tick : Bool) (t : Turn) (d : Option DirtyPage) → G t → G (cp.write_page t x now tick d)
-    unfolding cp.write_page cp.write_due cp.write_out cp.write_out_at cp.submit_write cp.submit_command
-    o_write_page x tick t None p = p
-    o_write_page x tick t (Some d) p = g_if (cp.is_writable t x now tick d) _ _ (go (pages.mapping_of t.here.store.extents d.ino d.page)) p
-      where
-        go : (m : Option MappedBlock) → G (cp.write_out_at t d m)
-        go None = p
-        go (Some m) = g_say (cp.with_command d.ino d.page (io.Write d.version) t) _ (λ m e. cc) (record { id_ = p.id_; server_ = p.server_; life_ = p.life_; lives = p.lives; dated = p.dated; outs = p.outs })
-
-    o_write_each : (x : ClientSession) (tick : Bool) (xs : List (ℕ × PageNo)) (t : Turn) → G t → G (cp.write_each x now tick xs t)
-    unfolding cp.write_each
-    o_write_each x tick [] t p = p
-    o_write_each x tick (y ∷ ys) t p = o_write_each x tick ys _ (o_write_page x tick t (pages.dirty_of t.here.store.pages y.0 y.1) p)
-
-    o_writes : (tick : Bool) (t : Turn) → G t → G (cp.writes now tick t)
-    unfolding cp.writes cp.writes_by
-    o_writes tick t p = go t.here.session
-      where
-        go : (x : Option ClientSession) → G (cp.writes_by t now tick x)
-        go None = p
-        go (Some x) = o_write_each x tick _ t p
-
-    -- Greeting.
-    o_greeting : (tick : Bool) (t : Turn) → G t → G (cp.greeting now tick t)
-    unfolding cp.greeting cp.greeting_by cp.greet cp.hello
-    o_greeting tick t p = go t.here.session
-      where
-        go : (x : Option ClientSession) → G (cp.greeting_by t now tick x)
-        go None = g_if (cp.must_greet t now tick) _ _ (g_send (cp.with_greeting now t) 0 0 now.0 bodies.Hello (λ e. refl) refl (record { id_ = p.id_; server_ = p.server_; life_ = p.life_; lives = p.lives; dated = p.dated; outs = p.outs })) p
-        go (Some x) = p
-
-    -- Requests.
-    o_ask : (t : Turn) (x : ClientSession) (b : Body) (cut : Option ℕ) → is_conflict b ≡ false → D x → G t → G (cp.ask t x now b cut)
-    unfolding cp.ask cs.asking
-    o_ask t x b cut calm d p = g_send (with_session (cp.asking_session x now b cut) t) _ _ now.0 b (λ e. refl) calm (g_session t (cp.asking_session x now b cut) (asked d) p)
-      where
-        asked : D x → D (cp.asking_session x now b cut)
-        asked (a, r) = (a, calm)
-
-    o_alive : (t : Turn) (x : ClientSession) → D x → G t → G (cp.keep_alive t x now)
-    unfolding cp.keep_alive
-    o_alive t x d p = g_if (lease.is_renewing (lease.phase_of t.config x.lease now)) _ _ (o_ask t x bodies.KeepAlive None refl d p) p
-
-    o_ask_new : (t : Turn) (x : ClientSession) → D x → G t → G (cp.ask_new t x now)
-    unfolding cp.ask_new cp.reassert cp.ask_by cp.ask_release cp.ask_next cp.ask_for_or cp.ask_for
-    o_ask_new t x d p = g_if x.due _ _ (o_ask t x _ None refl d p) (by x.releases)
-      where
-        or : (a : Option cp.Asking) → cp.first_asking t x now t.operations ≡ a → G (cp.ask_for_or t x now a)
-        or None e = o_alive t x d p
-        or (Some a) e = o_ask _ x a.wanted.body _ (first_calm t x now t.operations a e) d (g_store _ _ (g_ops t a.operations p))
-
-        by : (rs : List Release) → G (cp.ask_by t x now rs)
-        by [] = g_if (is_serving t.config x now) _ _ (or (cp.first_asking t x now t.operations) refl) (o_alive t x d p)
-        by (r ∷ rs) = o_ask t (record x { releases = rs }) _ None refl d p
-
-    o_requests : (tick : Bool) (t : Turn) → G t → G (cp.requests now tick t)
-    unfolding cp.requests cp.requests_by cp.requests_under cp.requests_at cp.repeat cp.ask_again
-    o_requests tick t p = go t.here.session p.dated
-      where
-        again : (x : ClientSession) (q : Request) → D x → is_conflict q.body ≡ false → D (cp.again_session x now q)
-        again x q (a, r) calm = (a, calm)
-
-        at : (x : ClientSession) (q : Option Request) → CalmRequest q → D x → G (cp.requests_at t x now tick q)
-        at x None r d = o_ask_new t x d p
-        at x (Some q) r d = g_if (cp.is_old t.config now tick q) _ _ (g_send (with_session (cp.again_session x now q) t) _ _ now.0 q.body (λ e. refl) r (g_session t (cp.again_session x now q) (again x q d r) p)) p
-
-        go : (x : Option ClientSession) → SessionDated ms c s life x → G (cp.requests_by t now tick x)
-        go None d = p
-        go (Some x) d = g_if x.lease.condemned _ _ p (at x x.requests.asked d.1 d)
+    changes_passing : (syncs : List Operation) (t u : Turn) → Only (IsPassing syncs true) now t u → G t → G u
+    changes_passing syncs t _ (only.Ends _) p = p
+    changes_passing syncs t v (Goes _ u _ f q r) p = changes_passing syncs u v r (change_passing syncs t u f q p)
 
     pub o_passes : (tick : Bool) (t : Turn) → G t → G (cp.passes now tick t)
-    unfolding cp.passes cp.operations cp.reductions
-    o_passes tick t p = o_requests tick _ (o_greeting tick _ (o_writes tick _ (o_reduce_each _ _ (o_operate_each t.operations t.operations _ (g_ops t [] p)))))
+    o_passes tick t p = changes_passing t.operations t (cp.passes now tick t) (p_passes now tick t) p
+
+    -- Each change where no message is heard, and such changes.
+    says_calm : (t : Turn) (o : Output) → SaysCalm false o → Plain o → G t → G (say t o)
+    says_calm t (outputs.Send m) q i p = no_bool q
+    says_calm t (outputs.Submit number at what) q i p = absurd i
+    says_calm t (outputs.Answer op a) q i p = g_answer t op a p
+    says_calm t (outputs.Note n) q i p = no_bool q
+
+    change_idle : (t u : Turn) (f : Change now t u) → IsCalm false now t u f → G t → G u
+    change_idle t _ (client.Says _ o i) q p = says_calm t o q i p
+    change_idle t _ (client.Operates _ os) q p = g_ops t os p
+    change_idle t _ (client.Answers _ os ops a) q p = record { id_ = p.id_; server_ = p.server_; life_ = p.life_; lives = p.lives; dated = p.dated; outs = outs_answers t.out a ops p.outs }
+    change_idle t _ (client.Greets _ g) q p = record { id_ = p.id_; server_ = p.server_; life_ = p.life_; lives = p.lives; dated = p.dated; outs = p.outs }
+    change_idle t _ (client.TellsLost _ lost) q p = g_lost t lost p
+    change_idle t _ (client.Begins _ x a b d) q p = no_bool q
+    change_idle t _ (client.Follows _ x u e g) q p = no_bool q
+    change_idle t _ (client.Learns _ e a b) q p = no_bool q
+    change_idle t _ (client.Forgets _ ino r i) q p = absurd q
+    change_idle t _ (client.Caches _ clean) q p = g_store t _ p
+    change_idle t _ (client.Writes _ x f r bytes n se sv own m h) q p = absurd q
+    change_idle t _ (client.Reads _ ino r m i clean) q p = absurd q
+    change_idle t _ (client.Submits _ x ino r d m se e i w) q p = absurd q
+
+    pub idle : (t u : Turn) → Only (IsCalm false) now t u → G t → G u
+    idle t _ (only.Ends _) p = p
+    idle t v (Goes _ u _ f q r) p = idle u v r (change_idle t u f q p)

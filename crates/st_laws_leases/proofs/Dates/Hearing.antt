@@ -32,13 +32,8 @@ use Rattle.st_rules.specs.declared.client.Asked.{Asked}
 use Rattle.st_rules.specs.declared.client.Asked.TheVariants.{Reduce, NotHeld, Stale}
 use Rattle.st_rules.specs.declared.client.ClientInput.{ClientInput}
 use Rattle.st_rules.specs.declared.client.ClientInput.TheVariants.{Tick, App, Control, Done}
-use Rattle.st_rules.specs.declared.client.Ended.{Ended}
-use Rattle.st_rules.specs.declared.client.Ended.TheVariants as ends
 use Rattle.st_rules.specs.declared.client.HeldLock.{HeldLock}
-use Rattle.st_rules.specs.declared.client.IoKind.{IoKind}
-use Rattle.st_rules.specs.declared.client.IoKind.TheVariants as io
 use Rattle.st_rules.specs.declared.client.Operation.{Operation}
-use Rattle.st_rules.specs.declared.client.PageCommand.{PageCommand}
 use Rattle.st_rules.specs.declared.client.Request.{Request}
 use Rattle.st_rules.specs.Keys.{server_node}
 use Rattle.st_rules.specs.Client as cl
@@ -54,7 +49,9 @@ use Rattle.st_rules.specs.Dating as dating
 use Rattle.st_lemmas.specs.Lists.{Has}
 use Rattle.st_lemmas.proofs.Tables.{cond_either, and_true, has_append}
 use Rattle.st_laws_leases.specs.Dates.Dates.{Dates, CalmRequest, SessionDated, AssociationDated, ClientDated}
-use Rattle.st_laws_leases.proofs.Dates.Asking.{Outs, Good, g_answer, g_note, g_store, g_lost, g_ops, g_each, g_session, g_send, g_if, outs_more, o_passes}
+use Rattle.st_laws_steps.specs.Client.Losses.{Ends, Unknown, Passes, Hardens, Fails}
+use Rattle.st_laws_steps.proofs.Client.Losing.{Finished, c_end_each, calm_only, finish_is, is_done}
+use Rattle.st_laws_leases.proofs.Dates.Asking.{Outs, Good, g_note, g_store, g_lost, g_ops, g_each, g_session, g_send, g_if, idle, outs_more, o_passes}
 
 module _ (ms : List Message) (c : ClientId) (now : Stamp) (Lv : ServerId → ℕ → Type 0) (s : ServerId) (life : Life) where
   abbrev G : Turn → Type 0
@@ -67,64 +64,21 @@ module _ (ms : List Message) (c : ClientId) (now : Stamp) (Lv : ServerId → ℕ
   g_with t x d p = g_session ms c now Lv s life t x d p
 
   -- Losses and ends.
-  o_tell : (t : Turn) (op ino : ℕ) → G t → G (cl.tell_lost t op ino)
-  unfolding cl.tell_lost
-  o_tell t op ino p = g_answer ms c now Lv s life _ op _ (g_lost ms c now Lv s life t _ p)
-
-  o_end : (t : Turn) (x : ClientSession) (o : Operation) → G t → G (cl.end_operation t x o)
-  unfolding cl.end_operation cl.end_unsent cl.end_sync
-  o_end t x o p = g_if ms c now Lv s life (is_sent o) _ _ (g_answer ms c now Lv s life t o.op _ p) (unsent o.ask)
-    where
-      unsent : (a : Ask) → G (cl.end_unsent t o a)
-      unsent (asks.Sync f) = g_if ms c now Lv s life (pages.has_lost t.here.lost f.ino) _ _ (o_tell t o.op f.ino p) (g_answer ms c now Lv s life t o.op _ p)
-      unsent a = g_answer ms c now Lv s life t o.op _ p
-
-  o_end_each : (x : ClientSession) (os : List Operation) (t : Turn) → G t → G (cl.end_each x os t)
-  unfolding cl.end_each
-  o_end_each x [] t p = p
-  o_end_each x (o ∷ os) t p = o_end_each x os _ (o_end t x o p)
-
-  o_take : (op : ℕ) (ask : Ask) (t : Turn) → G t → G (cl.take_ask op ask t)
-  unfolding cl.take_ask cl.take_by cl.take_sync cl.enqueue
-  o_take op ask t p = go ask
-    where
-      go : (a : Ask) → G (cl.take_by t op ask a)
-      go (asks.Sync f) = g_if ms c now Lv s life (pages.has_lost t.here.lost f.ino) _ _ (o_tell t op f.ino p) (g_ops ms c now Lv s life t _ p)
-      go a = g_ops ms c now Lv s life t _ p
-
   pub o_only : (v : ServerId) (op : ℕ) (ask : Ask) (t : Turn) → G t → G (only_at v (cl.take_ask op ask) t)
-  unfolding only_at
-  o_only v op ask t p = g_if ms c now Lv s life (is_at v t.here) _ _ (o_take op ask t p) p
+  o_only v op ask t p = idle ms c now Lv s life t (only_at v (cl.take_ask op ask) t) (calm_only now v op ask t) p
 
-  o_failed : (t : Turn) (x : PageCommand) (k : IoKind) → G t → G (cl.failed_as t x k)
-  unfolding cl.failed_as cl.mark_failed
-  o_failed t x io.Read p = g_each ms c now Lv s life _ _ t p
-  o_failed t x (io.Write v) p = g_each ms c now Lv s life _ _ _ (g_if ms c now Lv s life (cl.is_present t x v) _ _ (g_store ms c now Lv s life t _ p) p)
+  o_ends : (number : ℕ) (ok : Bool) (t u : Turn) → Ends number ok t u → G t → G u
+  unfolding cl.hardened
+  o_ends number ok t _ Unknown p = p
+  o_ends number ok t _ (Passes x e o) p = g_store ms c now Lv s life t _ p
+  o_ends number ok t _ (Hardens x v e o k w) p = g_store ms c now Lv s life t _ p
+  o_ends number ok t _ (Fails x v e o k) p = g_store ms c now Lv s life t _ p
 
-  o_finish_as : (t : Turn) (x : PageCommand) (block : Option (Tag × List ℕ)) (e : Ended) → G t → G (cl.finish_as t x block e)
-  unfolding cl.finish_as cl.filled_by cl.hardened
-  o_finish_as t x block ends.Unknown p = p
-  o_finish_as t x block ends.Filled p = go block
-    where
-      go : (b : Option (Tag × List ℕ)) → G (cl.filled_by t x b)
-      go None = p
-      go (Some b) = g_store ms c now Lv s life t _ p
-  o_finish_as t x block ends.Hard p = g_store ms c now Lv s life t _ p
-  o_finish_as t x block ends.Redirty p = p
-  o_finish_as t x block ends.Failed p = o_failed t x x.kind p
-
-  o_finish_command : (t : Turn) (x : PageCommand) (ok : Bool) (block : Option (Tag × List ℕ)) → G t → G (cl.finish_command t x ok block)
-  unfolding cl.finish_command cl.ended_by
-  o_finish_command t x ok block p = o_finish_as _ x block _ (g_store ms c now Lv s life t _ p)
+  o_finished : (number : ℕ) (ok : Bool) (t u : Turn) → Finished now number ok t u → G t → G u
+  o_finished number ok t u f p = idle ms c now Lv s life f.mid u f.calm (o_ends number ok t f.mid f.ends p)
 
   pub o_finish : (number : ℕ) (result : Option (Option (Tag × List ℕ))) (t : Turn) → G t → G (cl.finish number result t)
-  unfolding cl.finish cl.finish_at cl.finish_by cl.done_by
-  o_finish number result t p = go (pages.command_of t.here.store.commands number) result
-    where
-      go : (o : Option PageCommand) (r : Option (Option (Tag × List ℕ))) → G (cl.finish_at t o r)
-      go None r = p
-      go (Some x) None = o_finish_command t x false None p
-      go (Some x) (Some b) = g_if ms c now Lv s life (cl.is_result_of x.kind b) _ _ (o_finish_command t x true b p) p
+  o_finish number r t p = o_finished number (is_done r) t (cl.finish number r t) (finish_is now number r t) p
 
   -- Messages: the one that came.
   module _ (m : Message) (among : Has m ms) (from : m.header.from ≡ server_node s) (to : m.header.to ≡ c.0) (its : m.header.life ≡ life.0) where
@@ -339,7 +293,7 @@ module _ (ms : List Message) (c : ClientId) (now : Stamp) (Lv : ServerId → ℕ
           u = cl.end_operations v x
 
           q : Good ms c now Lv s t.here.life u
-          q = o_end_each ms c now Lv s t.here.life x _ _ (g_ops ms c now Lv s t.here.life _ _ (g_lost ms c now Lv s t.here.life _ _ (g_note ms c now Lv s t.here.life t _ p)))
+          q = idle ms c now Lv s t.here.life _ _ (c_end_each now x _ _) (g_ops ms c now Lv s t.here.life _ _ (g_lost ms c now Lv s t.here.life _ _ (g_note ms c now Lv s t.here.life t _ p)))
 
       go : (x : Option ClientSession) → GoodIn s (cl.lose_by t now x)
       go None = (t.here.life, p)

@@ -1,6 +1,6 @@
 -- The rules of a client, walked once: the lease of each session was noted with its end.
 use Rattle.std.proofs.Common.{◌≡◌, ℕ, Bool, true, false, not, ◌==◌, List, [], ◌∷◌, ◌++◌, Option, Some, None, Ok, Err, refl, sym, ap, ◌∙◌, subst, inl, inr, if◌then◌else◌, append_assoc}
-use Rattle.std.specs.Prelude.{◌⊎◌, map}
+use Rattle.std.specs.Prelude.{◌⊎◌, filter, map}
 use Rattle.std.proofs.lemmas.Bool.{eqb-true, eq-eqb}
 use Rattle.st_base.specs.declared.config.Config.{Config}
 use Rattle.st_base.specs.declared.disk.Command.TheVariants as commands
@@ -61,6 +61,16 @@ use Rattle.st_rules.specs.Leases as leases
 use Rattle.st_lemmas.specs.Lists.{Has}
 use Rattle.st_lemmas.proofs.Lookups.{some_is}
 use Rattle.st_lemmas.proofs.Tables.{has_map, and_true, has_append}
+use Rattle.st_laws_steps.specs.Client.Client as client
+use Rattle.st_laws_steps.specs.Client.Client.{Change, ChangesPage}
+use Rattle.st_laws_steps.specs.Client.Losses.{Ends, Unknown, Passes, Hardens, Fails}
+use Rattle.st_laws_steps.specs.Client.Session.{SessionChange, Keeps, DropsLock, IsReasserted, EndsRequest, NewEpoch, AsksNew, AsksAgain}
+use Rattle.st_laws_steps.proofs.Client.Asking.{p_passes}
+use Rattle.st_laws_steps.proofs.Client.Calm.{IsCalm, SaysCalm}
+use Rattle.st_laws_steps.proofs.Client.Losing.{Finished, c_end_each, calm_only, finish_is, is_done}
+use Rattle.st_laws_steps.proofs.Client.Only.{Only, Goes}
+use Rattle.st_laws_steps.proofs.Client.Only as only
+use Rattle.st_laws_steps.proofs.Client.Passing.{FollowsBy, IsPassing, SaysRight}
 use Rattle.st_laws_leases.specs.History.Replies.{renews_lease}
 use Rattle.st_laws_leases.specs.History.Notes.{noted_one, noted}
 
@@ -135,6 +145,9 @@ end_in o = None
 self_server : (s : ServerId) → same_server s s ≡ true
 self_server s = eq-eqb s.0 s.0 refl
 
+no_bool : {A : Type 0} → false ≡ true → A
+no_bool e = cc
+
 module _ (k : Config) (init base : ServerId → Option Stamp) (sv : ServerId) (T : Life → Epoch → Stamp → Type 0) (B : ServerId → Stamp → Type 0) where
   abbrev pub N : Turn → Type 0
   N t = Noted k init base sv T B t
@@ -186,17 +199,21 @@ module _ (k : Config) (init base : ServerId → Option Stamp) (sv : ServerId) (T
   n_operations : (t : Turn) (os : List Operation) → N t → N (with_operations os t)
   n_operations t os n = record { config = n.config; server = n.server; own = n.own; others = n.others; told = n.told; untold = n.untold }
 
-  n_answers : (t : Turn) (picked : Operation → Bool) (a : AppAnswer) → N t → N (cs.answer_each picked a t)
-  unfolding cs.answer_each
-  n_answers t picked a n =
+  -- operations are answered
+  n_told : (t : Turn) (os ops : List Operation) (a : AppAnswer) → N t → N (record t { operations = os; out = t.out ++ map (answer_to a) ops })
+  n_told t os ops a n =
       record {
         config = n.config;
         server = n.server;
-        own = λ x e. noted_answers t.here.server a _ t.out (init t.here.server) ∙ n.own x e;
-        others = λ s f. noted_answers s a _ t.out (init s) ∙ n.others s f;
-        told = λ end h. n.told end (unanswered t.here.server end a _ t.out h);
-        untold = λ s f end h. n.untold s f end (unanswered s end a _ t.out h);
+        own = λ x e. noted_answers t.here.server a ops t.out (init t.here.server) ∙ n.own x e;
+        others = λ s f. noted_answers s a ops t.out (init s) ∙ n.others s f;
+        told = λ end h. n.told end (unanswered t.here.server end a ops t.out h);
+        untold = λ s f end h. n.untold s f end (unanswered s end a ops t.out h);
       }
+
+  n_answers : (t : Turn) (picked : Operation → Bool) (a : AppAnswer) → N t → N (cs.answer_each picked a t)
+  unfolding cs.answer_each
+  n_answers t picked a n = n_told t _ _ a n
 
   -- no lease end of this server was noted yet
   abbrev pub Unnoted : Turn → Type 0
@@ -467,29 +484,43 @@ module _ (k : Config) (init base : ServerId → Option Stamp) (sv : ServerId) (T
       go true z = by z t.here.session refl
       go false z = n
 
-  -- Losses.
-  n_lost : (t : Turn) (lost : _) → N t → N (cs.with_lost_rows lost t)
-  n_lost t lost n = record { config = n.config; server = n.server; own = n.own; others = n.others; told = n.told; untold = n.untold }
+  -- Where no message is heard: no lease end is noted, and the session stays.
+  quiet_calm : (o : Output) → SaysCalm false o → Quiet o
+  quiet_calm (outputs.Note n) q = no_bool q
+  quiet_calm (outputs.Send m) q = no_bool q
+  quiet_calm (outputs.Submit number at what) q = tt
+  quiet_calm (outputs.Answer op a) q = tt
 
-  n_end_one : (t : Turn) (s : ClientSession) (o : Operation) → N t → N (cl.end_operation t s o)
-  unfolding cl.end_operation cl.end_unsent cl.end_sync cl.tell_lost
-  n_end_one t s o n = if_either N (cs.is_sent o) _ _ (n_say t _ tt n) (by o.ask)
-    where
-      by : (a : Ask) → N (cl.end_unsent t o a)
-      by (asks.Sync f) = if_either N (pages.has_lost t.here.lost f.ino) _ _ (n_say _ _ tt (n_lost t _ n)) (n_say t _ tt n)
-      by a = n_say t _ tt n
+  change_idle : (now : Stamp) (t u : Turn) (c : Change now t u) → IsCalm false now t u c → N t → N u
+  change_idle now t _ (client.Says _ o p) q n = n_say t o (quiet_calm o q) n
+  change_idle now t _ (client.Operates _ os) q n = n_operations t os n
+  change_idle now t _ (client.Answers _ os ops a) q n = n_told t os ops a n
+  change_idle now t _ (client.Greets _ g) q n = record { config = n.config; server = n.server; own = n.own; others = n.others; told = n.told; untold = n.untold }
+  change_idle now t _ (client.TellsLost _ lost) q n = record { config = n.config; server = n.server; own = n.own; others = n.others; told = n.told; untold = n.untold }
+  change_idle now t _ (client.Begins _ s a b c) q n = no_bool q
+  change_idle now t _ (client.Follows _ s u e g) q n = no_bool q
+  change_idle now t _ (client.Learns _ e a b) q n = no_bool q
+  change_idle now t _ (client.Forgets _ ino p i) q n = absurd q
+  change_idle now t _ (client.Caches _ clean) q n = n_store t _ n
+  change_idle now t _ (client.Writes _ s f p bytes x se sv own m h) q n = absurd q
+  change_idle now t _ (client.Reads _ ino p m i clean) q n = absurd q
+  change_idle now t _ (client.Submits _ s ino p d m se e i w) q n = absurd q
 
-  n_end_all : (s : ClientSession) (os : List Operation) (t : Turn) → N t → N (cl.end_each s os t)
-  unfolding cl.end_each
-  n_end_all s [] t n = n
-  n_end_all s (o ∷ os) t n = n_end_all s os _ (n_end_one t s o n)
+  idle : (now : Stamp) (t u : Turn) → Only (IsCalm false) now t u → N t → N u
+  idle now t _ (only.Ends _) n = n
+  idle now t v (Goes _ u _ c q r) n = idle now u v r (change_idle now t u c q n)
 
   pub n_lose : ((l : Life) (p : Epoch) (end : Stamp) → T l p end → ⊥) → (now : Stamp) (t : Turn) → N t → N (cl.lose now t)
   unfolding cl.lose cl.lose_by cl.lose_over cl.lose_session cl.end_operations
   n_lose z now t n = go t.here.session
     where
       over : (s : ClientSession) → N (cl.lose_session t s)
-      over s = let e = n_end_all s _ _ (n_operations _ _ (n_lost _ _ (n_say t (outputs.Note (notes.Lost t.here.server t.here.life)) tt n))) in record { config = e.config; server = e.server; own = λ x q. absurd (none x q); others = e.others; told = λ end h. absurd (z _ _ end (e.told end h)); untold = e.untold }
+      over s =
+          let begun : Turn = cs.with_operations (filter (λ o. not (cs.is_of t.here.server o)) t.operations) (cl.with_lost_pages t.here.store (cs.note t (notes.Lost t.here.server t.here.life))) in
+          let os = filter (cs.is_of t.here.server) t.operations in
+          let y = n_say t (outputs.Note (notes.Lost t.here.server t.here.life)) tt n in
+          let e = idle now begun (cl.end_each s os begun) (c_end_each now s os begun) (record { config = y.config; server = y.server; own = y.own; others = y.others; told = y.told; untold = y.untold }) in
+          record { config = e.config; server = e.server; own = λ x q. absurd (none x q); others = e.others; told = λ end h. absurd (z _ _ end (e.told end h)); untold = e.untold }
         where
           none : (x : ClientSession) → ◌≡◌ {A = Option ClientSession} None (Some x) → ⊥
           none x q = cc
@@ -498,199 +529,65 @@ module _ (k : Config) (init base : ServerId → Option Stamp) (sv : ServerId) (T
       go None = n
       go (Some s) = if_either N (cl.is_over t s now) _ t (over s) n
 
-  -- Asks and ends of commands.
-  n_take : (op : ℕ) (ask : Ask) (t : Turn) → N t → N (cl.take_ask op ask t)
-  unfolding cl.take_ask cl.take_by cl.take_sync cl.enqueue cl.tell_lost
-  n_take op ask t n = by ask
-    where
-      by : (a : Ask) → N (cl.take_by t op ask a)
-      by (asks.Sync f) = if_either N (pages.has_lost t.here.lost f.ino) _ _ (n_say _ _ tt (n_lost t _ n)) (n_operations t _ n)
-      by a = n_operations t _ n
-
   pub n_only : (s : ServerId) (op : ℕ) (ask : Ask) (t : Turn) → N t → N (cs.only_at s (cl.take_ask op ask) t)
-  unfolding cs.only_at
-  n_only s op ask t n = if_either N (cs.is_at s t.here) _ t (n_take op ask t n) n
+  n_only s op ask t = idle (record { 0 = 0 }) t (cs.only_at s (cl.take_ask op ask) t) (calm_only (record { 0 = 0 }) s op ask t)
 
-  n_failed : (t : Turn) (x : PageCommand) (kind : IoKind) → N t → N (cl.failed_as t x kind)
-  unfolding cl.failed_as cl.mark_failed
-  n_failed t x io.Read n = n_answers t _ _ n
-  n_failed t x (io.Write v) n = n_answers _ _ _ (if_either N (cl.is_present t x v) _ t (n_store t _ n) n)
+  n_ends : (number : ℕ) (ok : Bool) (t u : Turn) → Ends number ok t u → N t → N u
+  unfolding cl.hardened
+  n_ends number ok t _ Unknown n = n
+  n_ends number ok t _ (Passes c e o) n = n_store t _ n
+  n_ends number ok t _ (Hardens c v e o x w) n = n_store t _ n
+  n_ends number ok t _ (Fails c v e o x) n = n_store t _ n
 
-  n_finish_as : (t : Turn) (x : PageCommand) (block : Option (Tag × List ℕ)) (e : Ended) → N t → N (cl.finish_as t x block e)
-  unfolding cl.finish_as cl.filled_by cl.hardened
-  n_finish_as t x block ends.Unknown n = n
-  n_finish_as t x None ends.Filled n = n
-  n_finish_as t x (Some b) ends.Filled n = n_store t _ n
-  n_finish_as t x block ends.Hard n = n_store t _ n
-  n_finish_as t x block ends.Redirty n = n
-  n_finish_as t x block ends.Failed n = n_failed t x x.kind n
-
-  n_finish_command : (t : Turn) (x : PageCommand) (ok : Bool) (block : Option (Tag × List ℕ)) → N t → N (cl.finish_command t x ok block)
-  unfolding cl.finish_command cl.ended_by
-  n_finish_command t x ok block n = n_finish_as _ x block _ (n_store t _ n)
-
-  n_finish_by : (t : Turn) (x : PageCommand) (r : Option (Option (Tag × List ℕ))) → N t → N (cl.finish_by t x r)
-  unfolding cl.finish_by cl.done_by
-  n_finish_by t x None n = n_finish_command t x false None n
-  n_finish_by t x (Some b) n = if_either N (cl.is_result_of x.kind b) _ t (n_finish_command t x true b n) n
+  n_finished : (now : Stamp) (number : ℕ) (ok : Bool) (t u : Turn) → Finished now number ok t u → N t → N u
+  n_finished now number ok t u f n = idle now f.mid u f.calm (n_ends number ok t f.mid f.ends n)
 
   pub n_finish : (number : ℕ) (r : Option (Option (Tag × List ℕ))) (t : Turn) → N t → N (cl.finish number r t)
-  unfolding cl.finish cl.finish_at
-  n_finish number r t n = go (pages.command_of t.here.store.commands number)
-    where
-      go : (o : Option PageCommand) → N (cl.finish_at t o r)
-      go None = n
-      go (Some x) = n_finish_by t x r n
+  n_finish number r t = n_finished (record { 0 = 0 }) number (is_done r) t (cl.finish number r t) (finish_is (record { 0 = 0 }) number r t)
 
-  -- The passes.
-  n_keep : (o : Operation) (t : Turn) → N t → N (cs.keep o t)
-  n_keep o t n = n_operations t _ n
+  -- The passes: no lease end is noted, and the date of the session's lease stays.
+  quiet_right : (syncs : List Operation) (now : Stamp) (t : Turn) (o : Output) → SaysRight syncs now t o → Quiet o
+  quiet_right syncs now t (outputs.Note n) q = absurd q
+  quiet_right syncs now t (outputs.Send m) q = tt
+  quiet_right syncs now t (outputs.Submit number at what) q = tt
+  quiet_right syncs now t (outputs.Answer op a) q = tt
 
-  n_answer : (o : Operation) (a : AppAnswer) (t : Turn) → N t → N (cp.answer o a t)
-  n_answer o a t n = n_say t _ tt n
+  quiet_change : (f : FileId) (p : PageNo) (n : Note) → ChangesPage f p n → Quiet (outputs.Note n)
+  quiet_change f p (notes.Accepted g r bytes) h = tt
+  quiet_change f p (notes.Patched g r at bytes) h = tt
+  quiet_change f p (notes.Leased s end) h = absurd h
+  quiet_change f p n h = tt
 
-  n_change : (o : Operation) (f : FileId) (p : PageNo) (bytes : List ℕ) (x : Note) (t : Turn) → Quiet (outputs.Note x) → N t → N (cp.change_page t o f p bytes x)
-  unfolding cp.change_page cp.change_by cp.change pages.write
-  n_change o f p bytes x t m n = go (pages.is_full_for t.here.store.pages f.ino p)
-    where
-      go : (b : Bool) → N (cp.change_by t o f p x (if b then Err Rattle.st_rules.specs.declared.client.WriteRefusal.TheVariants.DirtyFull else Ok (pages.written t.here.store.pages f.ino p bytes)))
-      go true = n_answer o answers.DirtyFull t n
-      go false = n_answer o answers.Written _ (n_store _ _ (n_say t (outputs.Note x) m n))
+  follows : (t : Turn) (s u : ClientSession) (c : SessionChange t.here.store s u) → FollowsBy true t.here.store s u c → HasNoted s t → N (with_session u t)
+  follows t s u (Keeps _ _ a) q v = n_with t s u a.date a.epoch v
+  follows t s _ (DropsLock _ ino l) q v = absurd q
+  follows t s _ (IsReasserted _) q v = absurd q
+  follows t s _ (EndsRequest _ stamp) q v = absurd q
+  follows t s _ (NewEpoch _ epoch) q v = absurd q
+  follows t s _ (AsksNew _ r now body cutting a c i) q v = n_with t s (cp.asking_session r now body cutting) a.date a.epoch v
+  follows t s _ (AsksAgain _ now x e) q v = n_with t s (cp.again_session s now x) refl refl v
 
-  n_fetch : (o : Operation) (f : FileId) (p : PageNo) (t : Turn) → N t → N (cp.fetch t o f p)
-  unfolding cp.fetch cp.fetch_at cp.fetch_mapped cp.submit_read cp.submit_command
-  n_fetch o f p t n = n_keep o _ (go (pages.mapping_of t.here.store.extents f.ino p))
-    where
-      go : (m : Option MappedBlock) → N (cp.fetch_at t f p m)
-      go None = n
-      go (Some m) = if_either N (pages.is_being_read t.here.store.commands f.ino p) t _ n (n_submit m)
-        where
-          n_submit : (m : MappedBlock) → N (cp.submit_read t f.ino p m)
-          n_submit m = let e = n_say t (outputs.Submit t.next_command m.at (commands.Read m.at)) tt n in record { config = e.config; server = e.server; own = e.own; others = e.others; told = e.told; untold = e.untold }
+  change_passing : (syncs : List Operation) (now : Stamp) (t u : Turn) (c : Change now t u) → IsPassing syncs true now t u c → N t → N u
+  unfolding cp.submit_read cp.submit_write cp.submit_command
+  change_passing syncs now t _ (client.Says _ o p) q n = n_say t o (quiet_right syncs now t o q) n
+  change_passing syncs now t _ (client.Operates _ os) q n = n_operations t os n
+  change_passing syncs now t _ (client.Answers _ os ops a) q n = absurd q
+  change_passing syncs now t _ (client.Greets _ g) q n = record { config = n.config; server = n.server; own = n.own; others = n.others; told = n.told; untold = n.untold }
+  change_passing syncs now t _ (client.TellsLost _ lost) q n = absurd q
+  change_passing syncs now t _ (client.Begins _ s a b c) q n = absurd q
+  change_passing syncs now t _ (client.Follows _ s u e g) q n = follows t s u g.how q (v_of t s e n)
+  change_passing syncs now t _ (client.Learns _ e a b) q n = absurd q
+  change_passing syncs now t _ (client.Forgets _ ino p i) q n = n_store t _ n
+  change_passing syncs now t _ (client.Caches _ clean) q n = n_store t _ n
+  change_passing syncs now t _ (client.Writes _ s f p bytes x se sv own m h) q n = n_store (cs.note t x) _ (n_say t (outputs.Note x) (quiet_change f p x h) n)
+  change_passing syncs now t _ (client.Reads _ ino p m i clean) q n =
+      let e = n_say t (outputs.Submit t.next_command m.at _) tt n in record { config = e.config; server = e.server; own = e.own; others = e.others; told = e.told; untold = e.untold }
+  change_passing syncs now t _ (client.Submits _ s ino p d m se e i w) q n =
+      let e = n_say t (outputs.Submit t.next_command m.at _) tt n in record { config = e.config; server = e.server; own = e.own; others = e.others; told = e.told; untold = e.untold }
 
-  n_serve_open : (t : Turn) (s : ClientSession) (o : Operation) (a : Ask) → N t → N (cp.serve_open t s o a)
-  unfolding cp.serve_open cp.write cp.patch cp.patch_at cp.patch_bytes cp.read cp.read_at cp.read_uncached cp.read_known cp.read_cached
-  n_serve_open t s o (asks.Write f p bytes) n = if_either N (cp.may_write t s f p) _ _ (n_change o f p bytes _ t tt n) (n_keep o t n)
-  n_serve_open t s o (asks.Patch f p at bytes) n = if_either N (cp.may_write t s f p) _ _ (go (pages.cached t.here.store.pages f.ino p)) (n_keep o t n)
-    where
-      go : (x : Option (List ℕ)) → N (cp.patch_at t o f p at bytes x)
-      go None = n_fetch o f p t n
-      go (Some old) = n_change o f p _ _ t tt n
-  n_serve_open t s o (asks.Read f p) n = if_either N (cp.holds s modes.S f) _ _ (cached (pages.cached t.here.store.pages f.ino p)) (n_keep o t n)
-    where
-      known : (x : Option KnownExtent) → N (cp.read_uncached t o f p x)
-      known None = n_keep o t n
-      known (Some e) = mapped e.mapping
-        where
-          mapped : (m : Option MappedBlock) → N (cp.read_known t o f p e m)
-          mapped None = n_answer o _ t n
-          mapped (Some m) = n_fetch o f p t n
-
-      cached : (x : Option (List ℕ)) → N (cp.read_at t o f p x)
-      cached None = known (pages.known_of t.here.store.extents f.ino p)
-      cached (Some bytes) = n_answer o _ _ (n_store t _ n)
-  n_serve_open t s o a n = n_keep o t n
-
-  n_operate : (all : List Operation) (t : Turn) (now : Stamp) (o : Operation) → N t → N (cp.operate all t now o)
-  unfolding cp.operate cp.operate_on cp.operate_by cp.operate_under cp.quiesce cp.sync cp.serve
-  n_operate all t now o n = if_either N (cs.is_of t.here.server o) _ _ (on o.ask) (n_keep o t n)
-    where
-      by : (x : Option ClientSession) → N (cp.operate_by all t now o x)
-      by None = n_keep o t n
-      by (Some s) =
-          if_either N (cs.is_serving t.config s now) _ _ (if_either N (cs.is_open_file all t.here.server s (cs.file_of o.ask)) _ _ (n_serve_open t s o o.ask n) (n_keep o t n))
-          (if_either N (cs.is_sent o) _ _ (n_keep o t n) (n_answer o _ t n))
-
-      on : (a : Ask) → N (cp.operate_on all t now o a)
-      on (asks.Sync f) = if_either N (pages.is_hard t.here.store f.ino) _ _ (n_answer o _ t n) (n_keep o t n)
-      on a = by t.here.session
-
-  n_each : (all : List Operation) (now : Stamp) (os : List Operation) (t : Turn) → N t → N (cp.operate_each all now os t)
-  unfolding cp.operate_each
-  n_each all now [] t n = n
-  n_each all now (o ∷ os) t n = n_each all now os _ (n_operate all t now o n)
-
-  n_reduce_idle : (t : Turn) (s : ClientSession) (ino : ℕ) → t.here.session ≡ Some s → N t → N (cp.reduce_idle t s ino)
-  unfolding cp.reduce_idle cp.reduce_by cp.reduce_given cp.reduce_to
-  n_reduce_idle t s ino e n = if_either N (cp.may_reduce t s ino) _ t (go (locks.reduce s.locks ino)) n
-    where
-      given : (l : locks.LockCache) (o : Option (GrantNo × Mode)) → N (cp.reduce_given t (cs.with_cache l s) ino o)
-      given l None = n
-      given l (Some (g, m)) = n_store _ _ (n_with t s (cp.released (cs.with_cache l s) ino g m) refl refl (v_of t s e n))
-
-      go : (r : locks.Reduced) → N (cp.reduce_by t s ino r)
-      go r = given r.locks r.given
-
-  n_reduces : (inos : List ℕ) (t : Turn) → N t → N (cp.reduce_each inos t)
-  unfolding cp.reduce_each cp.reduce
-  n_reduces [] t n = n
-  n_reduces (ino ∷ inos) t n = n_reduces inos _ (go t.here.session refl)
-    where
-      go : (o : Option ClientSession) → t.here.session ≡ o → N (cp.reduce t ino o)
-      go None e = n
-      go (Some s) e = n_reduce_idle t s ino e n
-
-  n_write_page : (t : Turn) (s : ClientSession) (now : Stamp) (tick : Bool) (o : Option DirtyPage) → N t → N (cp.write_page t s now tick o)
-  unfolding cp.write_page cp.write_due cp.write_out cp.write_out_at cp.submit_write cp.submit_command
-  n_write_page t s now tick None n = n
-  n_write_page t s now tick (Some d) n = if_either N (cp.is_writable t s now tick d) _ t (go (pages.mapping_of t.here.store.extents d.ino d.page)) n
-    where
-      go : (m : Option MappedBlock) → N (cp.write_out_at t d m)
-      go None = n
-      go (Some m) = let e = n_say t (outputs.Submit t.next_command m.at _) tt n in record { config = e.config; server = e.server; own = e.own; others = e.others; told = e.told; untold = e.untold }
-
-  n_writes : (s : ClientSession) (now : Stamp) (tick : Bool) (xs : List (ℕ × PageNo)) (t : Turn) → N t → N (cp.write_each s now tick xs t)
-  unfolding cp.write_each
-  n_writes s now tick [] t n = n
-  n_writes s now tick (x ∷ xs) t n = n_writes s now tick xs _ (n_write_page t s now tick _ n)
-
-  n_ask : (t : Turn) (s x : ClientSession) (now : Stamp) (b : Body) (cutting : Option ℕ) → x.lease ≡ s.lease → x.epoch ≡ s.epoch → HasNoted s t → N (cp.ask t x now b cutting)
-  unfolding cp.ask
-  n_ask t s x now b cutting e f v = n_send _ _ _ _ _ (n_with t s _ (ap (λ (l : lease.ClientLease). l.date) e) f v)
-
-  n_keep_alive : (t : Turn) (s : ClientSession) (now : Stamp) → t.here.session ≡ Some s → N t → N (cp.keep_alive t s now)
-  unfolding cp.keep_alive
-  n_keep_alive t s now e n = if_either N _ _ t (n_ask t s s now _ _ refl refl (v_of t s e n)) n
-
-  n_ask_next : (t : Turn) (s : ClientSession) (now : Stamp) → t.here.session ≡ Some s → N t → N (cp.ask_next t s now)
-  unfolding cp.ask_next cp.ask_for_or cp.ask_for
-  n_ask_next t s now e n = if_either N (cs.is_serving t.config s now) _ _ (go (cp.first_asking t s now t.operations)) (n_keep_alive t s now e n)
-    where
-      go : (o : Option cp.Asking) → N (cp.ask_for_or t s now o)
-      go None = n_keep_alive t s now e n
-      go (Some a) = let v = v_of t s e n in n_ask _ s s now _ _ refl refl (record { config = v.config; server = v.server; own = v.own; others = v.others; told = v.told; untold = v.untold })
-
-  n_ask_by : (t : Turn) (s : ClientSession) (now : Stamp) (rs : List Release) → t.here.session ≡ Some s → N t → N (cp.ask_by t s now rs)
-  unfolding cp.ask_by cp.ask_release
-  n_ask_by t s now [] e n = n_ask_next t s now e n
-  n_ask_by t s now (r ∷ rs) e n = n_ask t s _ now _ _ refl refl (v_of t s e n)
-
-  n_requests_at : (t : Turn) (s : ClientSession) (now : Stamp) (tick : Bool) (o : Option Request) → t.here.session ≡ Some s → N t → N (cp.requests_at t s now tick o)
-  unfolding cp.requests_at cp.ask_new cp.reassert cp.repeat cp.ask_again
-  n_requests_at t s now tick None e n = if_either N s.due _ _ (n_ask t s s now _ _ refl refl (v_of t s e n)) (n_ask_by t s now s.releases e n)
-  n_requests_at t s now tick (Some r) e n = if_either N _ _ t (n_send _ _ _ _ _ (n_with t s (cp.again_session s now r) refl refl (v_of t s e n))) n
+  passing : (syncs : List Operation) (now : Stamp) (t u : Turn) → Only (IsPassing syncs true) now t u → N t → N u
+  passing syncs now t _ (only.Ends _) n = n
+  passing syncs now t v (Goes _ u _ c q r) n = passing syncs now u v r (change_passing syncs now t u c q n)
 
   pub n_passes : (now : Stamp) (tick : Bool) (t : Turn) → N t → N (cp.passes now tick t)
-  unfolding cp.passes cp.operations cp.reductions cp.writes cp.writes_by cp.greeting cp.greeting_by cp.greet cp.hello cp.requests cp.requests_by cp.requests_under
-  n_passes now tick t n = requests _ (greeting _ (writes _ (n_reduces _ _ (n_each t.operations now t.operations _ (n_operations t [] n)))))
-    where
-      writes : (t : Turn) → N t → N (cp.writes now tick t)
-      writes t n = go t.here.session
-        where
-          go : (o : Option ClientSession) → N (cp.writes_by t now tick o)
-          go None = n
-          go (Some s) = n_writes s now tick _ t n
-
-      greeting : (t : Turn) → N t → N (cp.greeting now tick t)
-      greeting t n = go t.here.session
-        where
-          go : (o : Option ClientSession) → N (cp.greeting_by t now tick o)
-          go None = if_either N (cp.must_greet t now tick) _ t (n_send _ _ _ _ _ (record { config = n.config; server = n.server; own = n.own; others = n.others; told = n.told; untold = n.untold })) n
-          go (Some s) = n
-
-      requests : (t : Turn) → N t → N (cp.requests now tick t)
-      requests t n = go t.here.session refl
-        where
-          go : (o : Option ClientSession) → t.here.session ≡ o → N (cp.requests_by t now tick o)
-          go None e = n
-          go (Some s) e = if_either N s.lease.condemned t _ n (n_requests_at t s now tick s.requests.asked e n)
+  n_passes now tick t = passing t.operations now t (cp.passes now tick t) (p_passes now tick t)

@@ -1,5 +1,5 @@
 -- A whole step of a client: which syncs it answers hard, and which operations it leaves.
-use Rattle.std.proofs.Common.{◌≡◌, ℕ, Bool, true, false, ◌==◌, ◌⊎◌, List, [], ◌∷◌, ◌++◌, Option, Some, sym, subst, inl, inr, if◌then◌else◌}
+use Rattle.std.proofs.Common.{◌≡◌, ℕ, Bool, true, false, ◌==◌, ◌⊎◌, List, [], ◌∷◌, ◌++◌, Option, Some, sym, subst, refl, inl, inr, if◌then◌else◌}
 use Rattle.std.specs.Prelude.{length, map}
 use Rattle.st_base.specs.declared.ids.ClientId.{ClientId}
 use Rattle.st_base.specs.declared.ids.FileId.{FileId}
@@ -33,36 +33,38 @@ use Rattle.st_laws_pages.proofs.Causes.Hardly.{Hards, Ungone, each_said_at, quie
 use Rattle.st_laws_pages.proofs.Causes.Placed.{AllPlaced, From, InputTells, Placed, Since, each_from, each_place, finish_places, hear_places, input_places, lose_places, only_left, passes_place, since_none, since_one, since_then}
 use Rattle.st_laws_pages.proofs.Causes.Saying.{placed_grown}
 use Rattle.st_laws_pages.proofs.Causes.Stepping.{fit_t, fit_u, input_all, work_grows}
-use Rattle.st_laws_pages.proofs.Causes.Unhard.{H, Unhard, h_ask, h_finish, h_hear, h_lose}
+use Rattle.st_laws_steps.specs.Client.Client.{Unhard}
+use Rattle.st_laws_pages.proofs.Causes.Unhard.{H, h_ask, h_finish, h_hear, h_lose}
 
 -- A rule at each server in turn answers no sync hard.
-these_unhard : (rule : Turn → Turn) → ((t : Turn) → H t (rule t)) → (al : List Association) (t : ClientTurn) → Since Unhard t.out (at_these rule al t).out
+these_unhard : (rule : Turn → Turn) → ((t : Turn) → Fit t.here → H t (rule t)) → (al : List Association) (t : ClientTurn) → ((a : Association) → Has a al → Fit a) → Since Unhard t.out (at_these rule al t).out
 unfolding at_these
-these_unhard rule one [] t = since_none Unhard t.out
-these_unhard rule one (a ∷ al) t = since_then Unhard t.out (rule (enter t a)).out (at_these rule al (leave t (rule (enter t a)))).out (one (enter t a)) (these_unhard rule one al (leave t (rule (enter t a))))
+these_unhard rule one [] t f = since_none Unhard t.out
+these_unhard rule one (a ∷ al) t f =
+    since_then Unhard t.out (rule (enter t a)).out (at_these rule al (leave t (rule (enter t a)))).out (one (enter t a) (f a (inl refl))) (these_unhard rule one al (leave t (rule (enter t a))) (λ b i. f b (inr i)))
 
-each_unhard : (rule : Turn → Turn) → ((t : Turn) → H t (rule t)) → (t : ClientTurn) → Since Unhard t.out (at_each rule t).out
+each_unhard : (rule : Turn → Turn) → ((t : Turn) → Fit t.here → H t (rule t)) → (t : ClientTurn) → ((a : Association) → Has a t.state.associations → Fit a) → Since Unhard t.out (at_each rule t).out
 unfolding at_each
-each_unhard rule one t = these_unhard rule one t.state.associations (with_associations [] t)
+each_unhard rule one t f = these_unhard rule one t.state.associations (with_associations [] t) f
 
-input_unhard : (now : Stamp) (input : ClientInput) (t : ClientTurn) → Since Unhard t.out (cl.take_input t now input).out
+input_unhard : (now : Stamp) (input : ClientInput) (t : ClientTurn) → ((a : Association) → Has a t.state.associations → Fit a) → Since Unhard t.out (cl.take_input t now input).out
 unfolding cl.take_input cl.app cl.app_known cl.done cr.receive cr.receive_here
-input_unhard now inputs.Tick t = since_none Unhard t.out
-input_unhard now (inputs.App op ask) t = full (cl.is_full t.state)
+input_unhard now inputs.Tick t f = since_none Unhard t.out
+input_unhard now (inputs.App op ask) t f = full (cl.is_full t.state)
   where
     known : (b : Bool) → Since Unhard t.out (if b then at_each (only_at (server_of ask) (cl.take_ask op ask)) t else cl.answered_at_once t op answers.NoFile).out
-    known true = each_unhard (only_at (server_of ask) (cl.take_ask op ask)) (h_ask (server_of ask) op ask) t
+    known true = each_unhard (only_at (server_of ask) (cl.take_ask op ask)) (λ u g. h_ask (server_of ask) op ask u) t f
     known false = since_one Unhard t.out (outputs.Answer op answers.NoFile) tt
 
     full : (b : Bool) → Since Unhard t.out (if b then cl.answered_at_once t op answers.OpsFull else cl.app_known t op ask).out
     full true = since_one Unhard t.out (outputs.Answer op answers.OpsFull) tt
     full false = known (cl.is_configured t.state (server_of ask))
-input_unhard now (inputs.Control m) t = go (m.header.to == t.state.id.0)
+input_unhard now (inputs.Control m) t f = go (m.header.to == t.state.id.0)
   where
     go : (b : Bool) → Since Unhard t.out (if b then at_each (cr.receive_at now m.header m.body) t else t).out
-    go true = each_unhard (cr.receive_at now m.header m.body) (h_hear now m.header m.body) t
+    go true = each_unhard (cr.receive_at now m.header m.body) (λ u g. h_hear now m.header m.body u g.fresh) t f
     go false = since_none Unhard t.out
-input_unhard now (inputs.Done number r) t = each_unhard (cl.finish number r) (h_finish number r) t
+input_unhard now (inputs.Done number r) t f = each_unhard (cl.finish number r) (λ u g. h_finish number r u) t f
 
 -- The operations behind an ask: those that there were, and it.
 abbrev OrNew : List (ℕ × Ask) → ℕ × Ask → List Operation → Type 0
@@ -191,7 +193,7 @@ module _ (past : List Step) (w : World) (c : ClientId) (old site : ClientSite) (
 
     said_u : Hards asked c (λ r. life_with after.node.state r) s sc u.out
     unfolding cl.losses
-    said_u = quiet_hards asked c (λ r. life_with after.node.state r) s [] u.out sc tt (since_then Unhard [] t.out u.out (each_unhard (cl.lose now) (h_lose now) (client_turn s [])) (input_unhard now input t))
+    said_u = quiet_hards asked c (λ r. life_with after.node.state r) s [] u.out sc tt (since_then Unhard [] t.out u.out (each_unhard (cl.lose now) (λ z g. h_lose now z) (client_turn s []) fit) (input_unhard now input t fits_t))
 
     pub step_said : Hards asked c (λ r. life_with after.node.state r) s sc v.out
     unfolding cl.work

@@ -9,6 +9,7 @@ use Rattle.st_base.specs.declared.ids.Life.{Life}
 use Rattle.st_base.specs.declared.ids.PageNo.{PageNo}
 use Rattle.st_base.specs.declared.ids.ServerId.{ServerId}
 use Rattle.st_base.specs.declared.ids.Stamp.{Stamp}
+use Rattle.st_messages.specs.declared.answer.AppAnswer.{AppAnswer}
 use Rattle.st_messages.specs.declared.answer.AppAnswer.TheVariants as answers
 use Rattle.st_messages.specs.declared.ask.Ask.{Ask}
 use Rattle.st_messages.specs.declared.ask.Ask.TheVariants as asks
@@ -24,7 +25,7 @@ use Rattle.st_rules.specs.declared.log.LogOwner.{LogOwner}
 use Rattle.st_rules.specs.declared.pages.DirtyPage.{DirtyPage}
 use Rattle.st_rules.specs.ClientPages as pages
 use Rattle.st_rules.specs.ClientPasses as cp
-use Rattle.st_rules.specs.ClientState.{Association, ClientState, ClientTurn, Turn, at_each, at_these, enter, leave, with_associations, with_operations}
+use Rattle.st_rules.specs.ClientState.{Association, ClientState, ClientTurn, Turn, at_each, at_these, enter, leave, with_associations}
 use Rattle.st_rules.specs.Events as ev
 use Rattle.st_rules.specs.Events.{WorldTurn, client_notes, client_says, client_says_all, is_hard_fate}
 use Rattle.st_rules.specs.FlatLog as log
@@ -34,24 +35,26 @@ use Rattle.st_rules.specs.Safety.{Step}
 use Rattle.st_rules.specs.World.{ClientSite, life_with, site_of}
 use Rattle.st_lemmas.specs.Lists.{Has}
 use Rattle.st_lemmas.proofs.Tables.{and_true, found_at}
-use Rattle.st_laws_steps.specs.Client.Client.{Changes, Operates, Still}
+use Rattle.st_laws_steps.specs.Client.Client as client
+use Rattle.st_laws_steps.specs.Client.Client.{Change, Changes, Unhard}
 use Rattle.st_laws_pages.specs.Fates.Fates.{GoneAll, PendingAll}
 use Rattle.st_laws_pages.specs.Flush.Flush.{DirtyHere}
 use Rattle.st_laws_steps.specs.Client.Losses.{Fit}
 use Rattle.st_laws_pages.proofs.Flush.Adding.{After}
-use Rattle.st_laws_steps.proofs.Client.Asking.{c_passes}
-use Rattle.st_laws_steps.proofs.Client.Changes.{both, k_answer, one}
+use Rattle.st_laws_steps.proofs.Client.Asking.{c_passes, p_passes}
+use Rattle.st_laws_steps.proofs.Client.Changes.{one}
+use Rattle.st_laws_steps.proofs.Client.Only.{Only, Goes, all}
+use Rattle.st_laws_steps.proofs.Client.Only as only
+use Rattle.st_laws_steps.proofs.Client.Passing.{AnswersRight, IsHardSync, IsPassing, SaysRight}
 use Rattle.st_laws_pages.proofs.Fates.GoneLaw.{gone_more}
 use Rattle.st_laws_pages.proofs.Flush.Keeping.{OfOthers}
-use Rattle.st_laws_steps.proofs.Client.Nexts.{Next, changes_next}
+use Rattle.st_laws_steps.proofs.Client.Nexts.{Next, change_next, changes_next}
 use Rattle.st_laws_pages.proofs.Asks.Client.{key}
 use Rattle.st_laws_pages.proofs.Asks.Places.{Knows}
 use Rattle.st_laws_pages.specs.Causes.Stands.{CommandsStand}
 use Rattle.st_laws_pages.proofs.Causes.Keeping.{All, In, RightLife, all_left, changes_around, has_mid, has_others, others_apart, others_next, right_next, these_grow}
-use Rattle.st_laws_pages.proofs.Causes.Operating.{CalmOrHard, IsCalm, IsHard, h_operate}
-use Rattle.st_laws_pages.proofs.Causes.Placed.{EachOut, Placed, Since, passes_place}
+use Rattle.st_laws_pages.proofs.Causes.Placed.{EachOut, Placed, Since, passes_place, since_one}
 use Rattle.st_laws_pages.proofs.Causes.Saying.{placed_grown}
-use Rattle.st_laws_pages.proofs.Causes.Unhard.{Unhard, h_rest}
 
 -- what was asked was a sync, and all of its file is hard in this log
 pub record HardSaid (asked : ℕ → Option Ask) (c : ClientId) (lives : ServerId → Life) (es : List LogEntry) (op : ℕ) : Type 0 where
@@ -114,6 +117,11 @@ unfolding client_says_all
 gone_says P c before [] sc h = h
 gone_says P c before (o ∷ os) sc h = gone_says P c before os (client_says sc c before o) (gone_one P c before o sc h)
 
+has_key : (os : List Operation) (o : Operation) → Has o os → Has (key o) (map key os)
+has_key (x ∷ os) o (inl e) = inl (ap key e)
+has_key (x ∷ os) o (inr i) = inr (has_key os o i)
+has_key [] o i = absurd i
+
 -- Where a file is hard at its client, all of its entries are.
 has_dirty_page : (ps : pages.Pages) (ino : ℕ) (p : PageNo) (d : DirtyPage) → pages.dirty_of ps ino p ≡ Some d → pages.has_dirty ps ino ≡ true
 has_dirty_page ps ino p d e =
@@ -156,16 +164,6 @@ file_hard : (c : ClientId) (lives : ServerId → Life) (a : Association) (f : Fi
 file_hard c lives a f [] sv lf h p g = refl
 file_hard c lives a f (e ∷ es) sv lf h p g = Rattle.st_lemmas.proofs.Tables.and_both _ _ (entry_hard c lives a f e sv lf h p.one g.one) (file_hard c lives a f es sv lf h p.rest g.rest)
 
--- what is done for an operation is changes
-done_changes : (now : Stamp) (t : Turn) (o : Operation) (u : Turn) → CalmOrHard now t o u → Changes now t u
-done_changes now t o u (IsCalm c) = c.changes
-done_changes now t o u (IsHard f e own q r) = subst (Changes now t) (sym r) (k_answer t o.op answers.Hard)
-
-each_changes : (now : Stamp) (all os : List Operation) (t : Turn) → Changes now t (cp.operate_each all now os t)
-unfolding cp.operate_each
-each_changes now all [] t = Still t
-each_changes now all (o ∷ os) t = both (done_changes now t o (cp.operate all t now o) (h_operate now all t o)) (each_changes now all os (cp.operate all t now o))
-
 module _ (past : List Step) (size : ℕ) (c : ClientId) (before : ClientState) (sc : WorldTurn) (site : ClientSite) (there : site_of sc.world c ≡ Some site) (count : length sc.world.servers ≡ size) (holds : CommandsStand sc.world.log sc.world.commands sc.world.disks.commands) (now : Stamp) (asked : ℕ → Option Ask)
     (gone : GoneAll (Ungone c (life_with site.node.state)) sc.world.log) where
   abbrev pub lives : ServerId → Life
@@ -190,49 +188,59 @@ module _ (past : List Step) (size : ℕ) (c : ClientId) (before : ClientState) (
   grown : (t u : Turn) → Changes now t u → Placed size u.out → Placed size t.out
   grown t u ch p = let y = changes_next now t u ch in placed_grown size t.out u.out (record { more = y.more; out = y.out }) p
 
-  -- for one operation
-  operate_said : (all : List Operation) (t : Turn) (o : Operation) → Alive t.here → (others : List Association) → I t others → asked o.op ≡ Some o.ask → Said t.out → (u : Turn) → CalmOrHard now t o u → Said u.out
-  operate_said all t o live others r q h u (IsCalm d) = quiet_hards asked c lives before t.out u.out sc h d.unhard
-  operate_said all t o live others r q h u (IsHard f e own hard eq) =
-      subst (λ (z : Turn). Said z.out) (sym eq)
-      (hards_both asked c lives before t.out (outputs.Answer o.op answers.Hard ∷ []) sc h
+  -- an answer that is hard is right
+  said_hard : (syncs : List Operation) (t : Turn) (op : ℕ) → IsHardSync syncs t op → Alive t.here → (others : List Association) → I t others → AskedAll syncs → Said t.out → Said (t.out ++ outputs.Answer op answers.Hard ∷ [])
+  said_hard syncs t op q live others r f h =
+      hards_both asked c lives before t.out (outputs.Answer op answers.Hard ∷ []) sc h
       (record {
-        one = record { file = f; is = q ∙ ap (λ z. Some z) e; all = file_hard c lives t.here f (After c before sc t.out).world.log own live hard r.around.here.entries (gone_says (Ungone c lives) c before t.out sc gone) };
+        one = record {
+          file = q.file;
+          is = ap asked (sym q.op_is) ∙ f (key q.operation) (has_key syncs q.operation q.has) ∙ ap (λ z. Some z) q.was_asked;
+          all = file_hard c lives t.here q.file (After c before sc t.out).world.log q.own live q.hard r.around.here.entries (gone_says (Ungone c lives) c before t.out sc gone);
+        };
         rest = tt;
-      }))
+      })
 
-  -- for one after another
-  each_said : (all os : List Operation) (t : Turn) (others : List Association) → OfOthers t.here.server others → Alive t.here → Placed size (cp.operate_each all now os t).out → I t others → AskedAll os → Said t.out → Said (cp.operate_each all now os t).out
-  unfolding cp.operate_each
-  each_said all [] t others n live p r q h = h
-  each_said all (o ∷ os) t others n live p r q h =
-      each_said all os u others (others_next past size c before sc site there count holds now t.here.server u.here.server others x.server n) (right_next past size c before sc site there count holds now t.here u.here x.server x.life live) p
-      (moves t u d others n live (grown u (cp.operate_each all now os u) (each_changes now all os u) p) r) (λ k i. q k (inr i)) (operate_said all t o live others r (q (key o) (inl refl)) h u (h_operate now all t o))
-    where
-      u : Turn
-      u = cp.operate all t now o
+  quiet : (t : Turn) (o : Output) → Unhard o → Said t.out → Said (t.out ++ o ∷ [])
+  quiet t o q h = quiet_hards asked c lives before t.out (t.out ++ o ∷ []) sc h (since_one Unhard t.out o q)
 
-      d : Changes now t u
-      d = done_changes now t o u (h_operate now all t o)
+  answered : (syncs : List Operation) (t : Turn) (op : ℕ) (a : AppAnswer) → AnswersRight syncs t op a → Alive t.here → (others : List Association) → I t others → AskedAll syncs → Said t.out → Said (t.out ++ outputs.Answer op a ∷ [])
+  answered syncs t op answers.Hard q live others r f h = said_hard syncs t op q live others r f h
+  answered syncs t op a q live others r f h = quiet t (outputs.Answer op a) tt h
 
-      x : Next now t u
-      x = changes_next now t u d
+  said_one : (syncs : List Operation) (t : Turn) (o : Output) → SaysRight syncs now t o → Alive t.here → (others : List Association) → I t others → AskedAll syncs → Said t.out → Said (t.out ++ o ∷ [])
+  said_one syncs t (outputs.Answer op a) q live others r f h = answered syncs t op a q live others r f h
+  said_one syncs t (outputs.Send m) q live others r f h = quiet t (outputs.Send m) tt h
+  said_one syncs t (outputs.Submit n at what) q live others r f h = quiet t (outputs.Submit n at what) tt h
+  said_one syncs t (outputs.Note n) q live others r f h = quiet t (outputs.Note n) tt h
+
+  -- one change of a pass, and changes
+  change_said : (syncs : List Operation) (t u : Turn) (ch : Change now t u) → IsPassing syncs true now t u ch → Alive t.here → (others : List Association) → I t others → AskedAll syncs → Said t.out → Said u.out
+  unfolding cp.submit_read cp.submit_write cp.submit_command
+  change_said syncs t _ (client.Says _ o p) q live others r f h = said_one syncs t o q live others r f h
+  change_said syncs t _ (client.Operates _ os) q live others r f h = h
+  change_said syncs t _ (client.Answers _ os ops a) q live others r f h = absurd q
+  change_said syncs t _ (client.Greets _ g) q live others r f h = h
+  change_said syncs t _ (client.TellsLost _ lost) q live others r f h = absurd q
+  change_said syncs t _ (client.Begins _ s a b x) q live others r f h = absurd q
+  change_said syncs t _ (client.Follows _ s v e g) q live others r f h = h
+  change_said syncs t _ (client.Learns _ e a b) q live others r f h = absurd q
+  change_said syncs t _ (client.Forgets _ ino p i) q live others r f h = h
+  change_said syncs t _ (client.Caches _ clean) q live others r f h = h
+  change_said syncs t _ (client.Writes _ s g p bytes n se sv own m x) q live others r f h = quiet t (outputs.Note n) tt h
+  change_said syncs t _ (client.Reads _ ino p m i clean) q live others r f h = quiet t _ tt h
+  change_said syncs t _ (client.Submits _ s ino p d m se e i w) q live others r f h = quiet t _ tt h
+
+  changes_said : (syncs : List Operation) (t v : Turn) → Only (IsPassing syncs true) now t v → (others : List Association) → OfOthers t.here.server others → Alive t.here → Placed size v.out → I t others → AskedAll syncs → Said t.out → Said v.out
+  changes_said syncs t _ (only.Ends _) others n live p r f h = h
+  changes_said syncs t v (Goes _ u _ ch q rest) others n live p r f h =
+      let x = change_next now t u ch in
+      changes_said syncs u v rest others (others_next past size c before sc site there count holds now t.here.server u.here.server others x.server n) (right_next past size c before sc site there count holds now t.here u.here x.server x.life live) p
+      (moves t u (one ch) others n live (grown u v (all (IsPassing syncs true) now u v rest) p) r) f (change_said syncs t u ch q live others r f h)
 
   -- all passes at a server
   pub passes_said : (tick : Bool) (t : Turn) (others : List Association) → OfOthers t.here.server others → Alive t.here → Placed size (cp.passes now tick t).out → I t others → AskedAll t.operations → Said t.out → Said (cp.passes now tick t).out
-  unfolding cp.passes cp.operations
-  passes_said tick t others n live p r q h =
-      quiet_hards asked c lives before u.out (cp.requests now tick (cp.greeting now tick (cp.writes now tick (cp.reductions u)))).out sc
-      (each_said t.operations t.operations s others n live (front p) (moves t s (one (Operates t [])) others n live (grown s u (each_changes now t.operations t.operations s) (front p)) r) q h) (h_rest now tick u)
-    where
-      s : Turn
-      s = with_operations [] t
-
-      u : Turn
-      u = cp.operate_each t.operations now t.operations s
-
-      front : Placed size (cp.requests now tick (cp.greeting now tick (cp.writes now tick (cp.reductions u)))).out → Placed size u.out
-      front z = let y = h_rest now tick u in placed_grown size u.out (cp.requests now tick (cp.greeting now tick (cp.writes now tick (cp.reductions u)))).out (record { more = y.more; out = y.out }) z
+  passes_said tick t others n live p r q h = changes_said t.operations t (cp.passes now tick t) (p_passes now tick t) others n live p r q h
 
   -- all passes at each server
   abbrev pub A : ClientTurn → List Association → Type 0

@@ -1,4 +1,5 @@
--- A fact of associations stands in every run, where each rule of a client keeps it and an association without a session has it.
+-- A fact of associations stands in every run, where each rule of a client keeps it of associations that fit, and an empty
+-- association has it.
 use Rattle.std.proofs.Common.{◌≡◌, ◌≢◌, ◌⊎◌, ℕ, Bool, true, false, List, [], ◌∷◌, ◌++◌, ◌==◌, Option, Some, None, Result, Ok, Err, refl, sym, ap, ◌∙◌, subst, inl, inr, if◌then◌else◌}
 use Rattle.std.specs.Prelude.{map}
 use Rattle.st_base.specs.declared.config.Config.{Config}
@@ -12,6 +13,8 @@ use Rattle.st_rules.specs.declared.client.ClientInput.TheVariants as inputs
 use Rattle.st_rules.specs.declared.observation.WorldRefusal.{WorldRefusal}
 use Rattle.st_rules.specs.Admissible as adm
 use Rattle.st_rules.specs.Client as cl
+use Rattle.st_rules.specs.declared.pages.DirtyPage.{DirtyPage}
+use Rattle.st_rules.specs.ClientPages as pages
 use Rattle.st_rules.specs.ClientPasses as cp
 use Rattle.st_rules.specs.ClientReplies as cr
 use Rattle.st_rules.specs.ClientState.{Association, ClientState, ClientTurn, Turn, at_each, at_these, client_turn, enter, leave, only_at, server_of, with_associations}
@@ -28,6 +31,12 @@ use Rattle.st_lemmas.proofs.Lookups.{some_is}
 use Rattle.st_lemmas.proofs.Numbers.{numbered_below, numbered_other, numbered_own}
 use Rattle.st_lemmas.proofs.Steps.{step_happens}
 use Rattle.st_lemmas.proofs.Tables.{has_append, has_map, same_or_not}
+use Rattle.st_laws_steps.specs.Client.Losses.{Fit, SessionFresh}
+use Rattle.st_laws_steps.proofs.Client.Asking.{c_passes}
+use Rattle.st_laws_steps.proofs.Client.Losing.{c_only, lose_is}
+use Rattle.st_laws_steps.proofs.Client.Nexts.{changes_next}
+use Rattle.st_laws_steps.proofs.Client.Replying.{c_hear}
+use Rattle.st_laws_steps.proofs.Client.Stepping.{finish_next, lost_fit}
 use Rattle.st_laws_pages.proofs.Flush.Adding.{after_clients}
 use Rattle.st_laws_pages.proofs.Lives.Each.{Cases, SteppedNode, each_event}
 use Rattle.st_laws_pages.proofs.Lives.Lasting.{flush_parts}
@@ -38,15 +47,35 @@ use Rattle.st_messages.specs.declared.message.Header.{Header}
 use Rattle.st_base.specs.declared.disk.Tag.{Tag}
 use Rattle.st_base.specs.declared.ids.ServerId.{ServerId}
 
-module _ (F : Association → Type 0) (empty : (a : Association) → a.session ≡ None → F a)
+-- an association without pages and without a session fits
+none_fit : (a : Association) → a.store ≡ pages.empty_store → a.session ≡ None → Fit a
+none_fit a e n = record { mapped = λ ino p d i. absurd (none d (subst (λ (st : pages.Store). pages.dirty_of st.pages ino p ≡ Some d) e i)); fresh = subst (SessionFresh a.store) (sym n) tt }
+  where
+    none : (d : DirtyPage) → ◌≡◌ {A = Option DirtyPage} None (Some d) → ⊥
+    none d q = cc
+
+crashed_fit : (a : Association) → Fit (cl.crashed_association a)
+crashed_fit a = none_fit (cl.crashed_association a) refl refl
+
+started_fit : (a : Association) → Fit (cl.started_association a)
+started_fit a = none_fit (cl.started_association a) refl refl
+
+fresh_fit : (n : ℕ) → Fit (cl.fresh_association n)
+fresh_fit n = none_fit (cl.fresh_association n) refl refl
+
+module _ (F : Association → Type 0) (empty : (a : Association) → a.session ≡ None → a.store ≡ pages.empty_store → F a)
     (k_take : (s : ServerId) (op : ℕ) (ask : Ask) (t : Turn) → F t.here → F (only_at s (cl.take_ask op ask) t).here)
-    (k_hear : (now : Stamp) (h : Header) (b : Body) (t : Turn) → F t.here → F (cr.receive_at now h b t).here)
+    (k_hear : (now : Stamp) (h : Header) (b : Body) (t : Turn) → Fit t.here → F t.here → F (cr.receive_at now h b t).here)
     (k_finish : (number : ℕ) (r : Option (Option (Tag × List ℕ))) (t : Turn) → F t.here → F (cl.finish number r t).here)
     (k_lose : (now : Stamp) (t : Turn) → F t.here → F (cl.lose now t).here)
     (k_passes : (now : Stamp) (tick : Bool) (t : Turn) → F t.here → F (cp.passes now tick t).here) where
+  -- an association that fits, with the fact
+  abbrev pub H : Association → Type 0
+  H a = Fit a × F a
+
   -- of each association of a client
   abbrev pub EachHas : List Association → Type 0
-  EachHas xs = (a : Association) → Has a xs → F a
+  EachHas xs = (a : Association) → Has a xs → H a
 
   -- of each client of a world
   abbrev pub AllHave : World → Type 0
@@ -54,19 +83,34 @@ module _ (F : Association → Type 0) (empty : (a : Association) → a.session �
 
   -- behind a step
   abbrev pub HaveAfter : Promise
-  HaveAfter past x = AllHave x.after.world
+  HaveAfter past x = (c : ClientId) (site : ClientSite) → site_of x.after.world c ≡ Some site → (a : Association) → Has a site.node.state.associations → F a
 
   abbrev K : Turn → Turn → Type 0
-  K t u = F t.here → F u.here
+  K t u = H t.here → H u.here
+
+  h_take : (s : ServerId) (op : ℕ) (ask : Ask) (t : Turn) → K t (only_at s (cl.take_ask op ask) t)
+  h_take s op ask t (f, h) = let now : Stamp = record { 0 = 0 } in ((changes_next now t (only_at s (cl.take_ask op ask) t) (c_only now s op ask t)).fit f, k_take s op ask t h)
+
+  h_hear : (now : Stamp) (m : Header) (b : Body) (t : Turn) → K t (cr.receive_at now m b t)
+  h_hear now m b t (f, h) = ((changes_next now t (cr.receive_at now m b t) (c_hear now m b t f.fresh)).fit f, k_hear now m b t f h)
+
+  h_finish : (number : ℕ) (r : Option (Option (Tag × List ℕ))) (t : Turn) → K t (cl.finish number r t)
+  h_finish number r t (f, h) = ((finish_next (record { 0 = 0 }) number r t).fit f, k_finish number r t h)
+
+  h_lose : (now : Stamp) (t : Turn) → K t (cl.lose now t)
+  h_lose now t (f, h) = (lost_fit now t (cl.lose now t) (lose_is now t) f, k_lose now t h)
+
+  h_passes : (now : Stamp) (tick : Bool) (t : Turn) → K t (cp.passes now tick t)
+  h_passes now tick t (f, h) = ((changes_next now t (cp.passes now tick t) (c_passes now tick t)).fit f, k_passes now tick t h)
 
   these_keep : (rule : Turn → Turn) → ((t : Turn) → K t (rule t)) → (al : List Association) (t : ClientTurn) → EachHas t.state.associations → EachHas al → EachHas (at_these rule al t).state.associations
   unfolding at_these
   these_keep rule k [] t h g = h
   these_keep rule k (a ∷ al) t h g = these_keep rule k al (leave t (rule (enter t a))) (λ b i. one b (has_append t.state.associations ((rule (enter t a)).here ∷ []) b i)) (λ b i. g b (inr i))
     where
-      one : (b : Association) → Has b t.state.associations ⊎ Has b ((rule (enter t a)).here ∷ []) → F b
+      one : (b : Association) → Has b t.state.associations ⊎ Has b ((rule (enter t a)).here ∷ []) → H b
       one b (inl i) = h b i
-      one b (inr (inl e)) = subst F (sym e) (k (enter t a) (g a (inl refl)))
+      one b (inr (inl e)) = subst H (sym e) (k (enter t a) (g a (inl refl)))
       one b (inr (inr i)) = absurd i
 
   each_keeps : (rule : Turn → Turn) → ((t : Turn) → K t (rule t)) → (t : ClientTurn) → EachHas t.state.associations → EachHas (at_each rule t).state.associations
@@ -79,7 +123,7 @@ module _ (F : Association → Type 0) (empty : (a : Association) → a.session �
   input_keeps t now (inputs.App op ask) h = full (cl.is_full t.state)
     where
       known : (b : Bool) → EachHas (if b then at_each (only_at (server_of ask) (cl.take_ask op ask)) t else cl.answered_at_once t op answers.NoFile).state.associations
-      known true = each_keeps (only_at (server_of ask) (cl.take_ask op ask)) (k_take (server_of ask) op ask) t h
+      known true = each_keeps (only_at (server_of ask) (cl.take_ask op ask)) (h_take (server_of ask) op ask) t h
       known false = h
 
       full : (b : Bool) → EachHas (if b then cl.answered_at_once t op answers.OpsFull else cl.app_known t op ask).state.associations
@@ -88,18 +132,18 @@ module _ (F : Association → Type 0) (empty : (a : Association) → a.session �
   input_keeps t now (inputs.Control m) h = go (m.header.to == t.state.id.0)
     where
       go : (b : Bool) → EachHas (if b then at_each (cr.receive_at now m.header m.body) t else t).state.associations
-      go true = each_keeps (cr.receive_at now m.header m.body) (k_hear now m.header m.body) t h
+      go true = each_keeps (cr.receive_at now m.header m.body) (h_hear now m.header m.body) t h
       go false = h
-  input_keeps t now (inputs.Done number result) h = each_keeps (cl.finish number result) (k_finish number result) t h
+  input_keeps t now (inputs.Done number result) h = each_keeps (cl.finish number result) (h_finish number result) t h
 
-  pub step_keeps : (s : ClientState) (now : Stamp) (input : ClientInput) → EachHas s.associations → EachHas (cl.client_step s now input).state.associations
+  step_keeps : (s : ClientState) (now : Stamp) (input : ClientInput) → EachHas s.associations → EachHas (cl.client_step s now input).state.associations
   unfolding cl.client_step cl.work cl.losses
   step_keeps s now input h =
       let t = cl.losses (client_turn s []) now in
-      each_keeps (cp.passes now (cl.is_tick input)) (k_passes now (cl.is_tick input)) (cl.take_input t now input) (input_keeps t now input (each_keeps (cl.lose now) (k_lose now) (client_turn s []) h))
+      each_keeps (cp.passes now (cl.is_tick input)) (h_passes now (cl.is_tick input)) (cl.take_input t now input) (input_keeps t now input (each_keeps (cl.lose now) (h_lose now) (client_turn s []) h))
 
-  all_empty : {A : Type 0} (f : A → Association) → ((x : A) → (f x).session ≡ None) → (xs : List A) → EachHas (map f xs)
-  all_empty f n xs a i = let z = has_map f xs a i in subst F (sym z.2) (empty (f z.0) (n z.0))
+  all_empty : {A : Type 0} (f : A → Association) → ((x : A) → Fit (f x) × ((f x).session ≡ None) × ((f x).store ≡ pages.empty_store)) → (xs : List A) → EachHas (map f xs)
+  all_empty f n xs a i = let z = has_map f xs a i in let y = n z.0 in subst H (sym z.2) (y.0, empty (f z.0) y.1 y.2)
 
   -- One client is another.
   replaced : (w v : World) (c : ClientId) (old new : ClientSite) → site_of w c ≡ Some old → v.clients ≡ with_numbered c.0 new w.clients → EachHas new.node.state.associations → AllHave w → AllHave v
@@ -128,11 +172,11 @@ module _ (F : Association → Type 0) (empty : (a : Association) → a.session �
 
   crashed : (w : World) (c : ClientId) (site : ClientSite) → site_of w c ≡ Some site → AllHave w → AllHave (ev.crashes_client w c (Some site)).world
   unfolding ev.crashes_client ev.marks cl.crash
-  crashed w c site there h = replaced w (ev.crashes_client w c (Some site)).world c site (ev.stopped_site site) there refl (all_empty cl.crashed_association (λ a. refl) site.node.state.associations) h
+  crashed w c site there h = replaced w (ev.crashes_client w c (Some site)).world c site (ev.stopped_site site) there refl (all_empty cl.crashed_association (λ a. (crashed_fit a, refl, refl)) site.node.state.associations) h
 
   started : (w : World) (c : ClientId) (site : ClientSite) → site_of w c ≡ Some site → AllHave w → AllHave (ev.starts_client w c (Some site))
   unfolding ev.starts_client cl.start
-  started w c site there h = replaced w (ev.starts_client w c (Some site)) c site (ev.started_site site) there refl (all_empty cl.started_association (λ a. refl) site.node.state.associations) h
+  started w c site there h = replaced w (ev.starts_client w c (Some site)) c site (ev.started_site site) there refl (all_empty cl.started_association (λ a. (started_fit a, refl, refl)) site.node.state.associations) h
 
   advanced : (w : World) (steps : List ℕ) → AllHave w → AllHave (ev.advances w steps).world
   unfolding ev.advances ev.marks
@@ -151,12 +195,17 @@ module _ (F : Association → Type 0) (empty : (a : Association) → a.session �
       }
 
   -- Every event.
-  pub event_keeps : (w : World) (e : Event) (sc : WorldTurn) → world_step w e ≡ Ok sc → AllHave w → AllHave sc.world
+  event_have : (w : World) (e : Event) (sc : WorldTurn) → world_step w e ≡ Ok sc → AllHave w → AllHave sc.world
   unfolding adm.refusal adm.refused_delivery adm.clocks_refused adm.flush_missed adm.refused_effect adm.refused_report adm.missed_by world.node_of_place
-  event_keeps w e sc is h = let z = step_happens w e sc is in subst (λ (s : WorldTurn). AllHave s.world) (sym z.1) (all w e z.0 h)
+  event_have w e sc is h = let z = step_happens w e sc is in subst (λ (s : WorldTurn). AllHave s.world) (sym z.1) (all w e z.0 h)
     where
       all : (w : World) (e : Event) → adm.refusal w e ≡ None → AllHave w → AllHave (ev.happens (counted w) e).world
       all w e r h = each_event AllHave cases (counted w) e r h
+
+  pub event_keeps : (w : World) (e : Event) (sc : WorldTurn) → world_step w e ≡ Ok sc → ((c : ClientId) (site : ClientSite) → site_of w c ≡ Some site → (a : Association) → Has a site.node.state.associations → Fit a) →
+      ((c : ClientId) (site : ClientSite) → site_of w c ≡ Some site → (a : Association) → Has a site.node.state.associations → F a) →
+      (c : ClientId) (site : ClientSite) → site_of sc.world c ≡ Some site → (a : Association) → Has a site.node.state.associations → F a
+  event_keeps w e sc is f h c site q a i = (event_have w e sc is (λ c site q a i. (f c site q a i, h c site q a i)) c site q a i).1
 
   -- Every run.
   run : (es : List Event) (past : List Step) (t : Traced) → AllHave t.world → Throughout HaveAfter past (steps es t)
@@ -166,12 +215,15 @@ module _ (F : Association → Type 0) (empty : (a : Association) → a.session �
     where
       go : (r : Result WorldTurn WorldRefusal) → world_step t.world e ≡ r → ((past : List Step) (t : Traced) → AllHave t.world → Throughout HaveAfter past (steps es t)) → Throughout HaveAfter past (safety.steps_on (steps es) t e r)
       go (Err r) q f = tt
-      go (Ok sc) q f = let z = event_keeps t.world e sc q h in (z, f (past ++ step t e sc ∷ []) (traced_after e t sc) z)
+      go (Ok sc) q f = let z = event_have t.world e sc q h in (λ c site q a i. (z c site q a i).1, f (past ++ step t e sc ∷ []) (traced_after e t sc) z)
 
-  pub fresh_have : (k : Config) (clients servers d b form : ℕ) → AllHave (fresh_world k clients servers d b form)
+  fresh_have : (k : Config) (clients servers d b form : ℕ) → AllHave (fresh_world k clients servers d b form)
   unfolding fresh_world cl.fresh_client
   fresh_have k clients servers d b form c site e =
-      subst (λ (s : ClientSite). EachHas s.node.state.associations) (sym (site_is k clients servers c.0 site e).0) (all_empty cl.fresh_association (λ a. refl) (numbers 1 servers))
+      subst (λ (s : ClientSite). EachHas s.node.state.associations) (sym (site_is k clients servers c.0 site e).0) (all_empty cl.fresh_association (λ a. (fresh_fit a, refl, refl)) (numbers 1 servers))
+
+  pub fresh_all : (k : Config) (clients servers d b form : ℕ) (c : ClientId) (site : ClientSite) → site_of (fresh_world k clients servers d b form) c ≡ Some site → (a : Association) → Has a site.node.state.associations → F a
+  fresh_all k clients servers d b form c site e a i = (fresh_have k clients servers d b form c site e a i).1
 
   pub law : (k : Config) (clients servers disks blocks form : ℕ) (es : List Event) → Throughout HaveAfter [] (steps es (traced (fresh_world k clients servers disks blocks form)))
   law k clients servers d b form es = run es [] (traced (fresh_world k clients servers d b form)) (fresh_have k clients servers d b form)

@@ -49,7 +49,8 @@ use Rattle.st_laws_reads.specs.Copies.Copies.{Nothing}
 use Rattle.st_laws_reads.specs.Copies.Law.{AllOwed}
 use Rattle.st_laws_reads.specs.Copies.Owed.{OwedAt}
 use Rattle.st_laws_reads.specs.Copies.World.{OwedOf, Taking, asking, hearing, hearing_of, now_at, taken, taking, told_at, told_of, turn_of}
-use Rattle.st_laws_reads.specs.AllClients.Clear.{AllCleared, Clear, Cleared, cuts_from}
+use Rattle.st_laws_steps.specs.Client.Session.{cuts_from}
+use Rattle.st_laws_reads.specs.AllClients.Clear.{AllCleared, Clear, Cleared}
 use Rattle.st_laws_reads.specs.AllClients.Law.{Running}
 use Rattle.st_laws_reads.specs.AllClients.Left.{AllLeft, LeftAt}
 use Rattle.st_laws_reads.specs.AllClients.Runs.{InputOwed}

@@ -87,7 +87,7 @@ module _ (k : Config) (count : ℕ) (past : List Step) (t : Traced) (e : Event) 
       free : OthersOwed (counted t.world) e
       free =
           let p = step_happens t.world e sc is in
-          others_owed k count (counted t.world) sc after (clear_step t.world e sc is s.clear) cuts s.waits e (waits_owed k count t.world s.all e p.0) p.1 o
+          others_owed k count (counted t.world) sc after (clear_step t.world e sc is (λ c site q. (s.all.fates.lives.lives.sites c site q).fit) s.clear) cuts s.waits e (waits_owed k count t.world s.all e p.0) p.1 o
   goes (Some x) q o =
       record {
         kept = record { reads = reads_taken k count past t e sc x s.all after is q there owed more; carry = carried_taken k count past t e sc x s.all after is q there owed more };
@@ -106,7 +106,7 @@ pub next : (k : Config) (count : ℕ) (past : List Step) (t : Traced) (e : Event
 next k count past t e sc in_range q s places owed =
     let after = stays k count t.world e sc s.all (full count t.world e s.all.nodes in_range) q in
     let z = goes k count past t e sc q s after owed.cuts (taken (counted t.world) e) refl owed.taken in
-    (z.kept, record { all = after; places = places; stand = (one_step past t e sc q s.places s.stand).stand; copies = z.copies; clear = clear_step t.world e sc q s.clear; waits = (cut_law t.world e sc q (waits_owed k count t.world s.all e (step_happens t.world e sc q).0) s.waits).holds })
+    (z.kept, record { all = after; places = places; stand = (one_step past t e sc q s.places s.stand).stand; copies = z.copies; clear = clear_step t.world e sc q (λ c site i. (s.all.fates.lives.lives.sites c site i).fit) s.clear; waits = (cut_law t.world e sc q (waits_owed k count t.world s.all e (step_happens t.world e sc q).0) s.waits).holds })
 
 -- At the start nothing is at hand.
 differs : (n a c : ℕ) → n < a → Differs (record { 0 = n }) (map cl.fresh_association (numbers a c))

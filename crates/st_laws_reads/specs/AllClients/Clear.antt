@@ -4,8 +4,6 @@ use Rattle.st_base.specs.declared.config.Config.{Config}
 use Rattle.st_base.specs.declared.ids.ClientId.{ClientId}
 use Rattle.st_base.specs.declared.ids.PageNo.{PageNo}
 use Rattle.st_messages.specs.declared.event.Event.{Event}
-use Rattle.st_messages.specs.declared.message.Body.{Body}
-use Rattle.st_messages.specs.declared.message.Body.TheVariants as bodies
 use Rattle.st_rules.specs.declared.client.CleanPage.{CleanPage}
 use Rattle.st_rules.specs.declared.client.KnownExtent.{KnownExtent}
 use Rattle.st_rules.specs.declared.client.PageCommand.{PageCommand}
@@ -14,16 +12,10 @@ use Rattle.st_rules.specs.declared.pages.DirtyPage.{DirtyPage}
 use Rattle.st_rules.specs.ClientPages.{Store}
 use Rattle.st_rules.specs.ClientState.{Association, ClientSession}
 use Rattle.st_rules.specs.History.{traced}
-use Rattle.st_rules.specs.Keys.{page_no}
 use Rattle.st_rules.specs.Safety.{Promise, Throughout, steps}
 use Rattle.st_rules.specs.World.{World, ClientSite, fresh_world, site_of}
 use Rattle.st_lemmas.specs.Lists.{Has}
-
--- the page from which on a request cuts its file; a remove cuts all of it
-abbrev pub cuts_from : Body → Option PageNo
-cuts_from (bodies.Cut ino g from) = Some from
-cuts_from (bodies.Name op) = Some (page_no 0)
-cuts_from body = None
+use Rattle.st_laws_steps.specs.Client.Session.{cuts_from}
 
 -- a session in which a cut or a remove of this file is asked, from this page on
 pub record Cuts (o : Option ClientSession) (ino : ℕ) (p : PageNo) : Type 0 where

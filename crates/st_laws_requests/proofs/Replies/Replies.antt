@@ -43,6 +43,7 @@ use Rattle.st_lemmas.proofs.Steps.{step_happens}
 use Rattle.st_laws_leases.proofs.Dates.Hearing.{Ever, Held, ever_on, step_held}
 use Rattle.st_laws_leases.proofs.Dates.Law as dates
 use Rattle.st_laws_requests.specs.Replies.Reached.{AtMessage, AtReceiver, AtServer, InputNew, IsBehind, NewOwed, ReassertionsNew, Refusal, RepliesAfter, RepliesAreReached, RepliesSay, Says}
+use Rattle.st_laws_requests.proofs.Replies.EachEvent.{Brings, Comes, event_leaves}
 use Rattle.st_laws_requests.proofs.Replies.Served.{Refused, Served, served}
 
 set_cases : {A : Type 0} (xs : List A) (n m : ℕ) (y z x : A) → numbered xs n ≡ Some y → numbered (with_numbered n z xs) m ≡ Some x → ((m ≡ n) × (x ≡ z)) ⊎ ((m ≢ n) × (numbered xs m ≡ Some x))
@@ -63,16 +64,6 @@ says_more ms ns f s n m k = record { up_to = k.up_to; behind = λ run e b l. go 
         IsBehind (sessions.session_of n.state.sessions (client m.header.to)) m.header.life m.header.number ⊎ Refusal ns s m
     go (inl h) = inl h
     go (inr r) = inr (record { by = r.by; among = f r.by r.among; from = r.from; there = r.there; of_life = r.of_life; of_epoch = r.of_epoch; under = r.under; rows = r.rows; asks = r.asks; beyond = r.beyond })
-
--- a lost message is the same message
-map_set : {A B : Type 0} (f : A → B) (xs : List A) (n : ℕ) (y z : A) → f z ≡ f y → slice_get xs n ≡ Some y → map f (set xs n z) ≡ map f xs
-map_set f [] n y z e q = cc
-map_set f (x ∷ xs) zero y z e q = ap (λ v. v ∷ map f xs) (e ∙ ap f (sym (some_is q)))
-map_set f (x ∷ xs) (suc n) y z e q = ap (λ v. f x ∷ v) (map_set f xs n y z e q)
-
-lost_same : (w : World) (k : ℕ) (m : SentMessage) → world.message_of w k ≡ Some m → messages (ev.with_lost k m w) ≡ messages w
-lost_same w zero m e = cc
-lost_same w (suc n) m e = map_set message_in w.net.messages n m (record m { lost = true }) refl e
 
 -- What stands behind every event.
 pub record RepliesHold (past : List Step) (t : Traced) : Type 0 where
@@ -96,13 +87,9 @@ module _ (past : List Step) (t : Traced) (d : RepliesHold past t) where
       it (inr z) = d.replies x n z.1 m (subst (Has m) ms h) r
 
   -- A step of a client.
-  Comes : ClientInput → Type 0
-  Comes (inputs.Control m) = Has m (messages t.world)
-  Comes i = Unit {0}
-
-  client_step : (v : World) → v.clients ≡ t.world.clients → v.servers ≡ t.world.servers → v.net ≡ t.world.net → (c : ClientId) (i : ClientInput) (site old : ClientSite) → site.node ≡ old.node → site_of t.world c ≡ Some old → Comes i →
+  client_step : (v : World) → v.clients ≡ t.world.clients → v.servers ≡ t.world.servers → v.net ≡ t.world.net → (c : ClientId) (i : ClientInput) (site old : ClientSite) → site.node ≡ old.node → site_of t.world c ≡ Some old → Comes t.world i →
       RepliesSay (ev.client_takes v c i site).world
-  unfolding ev.client_takes ev.client_took cl.node_step Comes
+  unfolding ev.client_takes ev.client_took cl.node_step
   client_step v ps ss net c i site old same at k = go site.node.running
     where
       now : Stamp
@@ -111,7 +98,7 @@ module _ (past : List Step) (t : Traced) (d : RepliesHold past t) where
       few : c.0 ≤ 16
       few = let z = (numbered_below t.world.clients c.0 old at).1 in let y = d.dated.few in omega (arith, z, y)
 
-      comes : (i : ClientInput) → Comes i → Rattle.st_laws_leases.proofs.Dates.Hearing.Comes (messages t.world) c now Ever ever_on i
+      comes : (i : ClientInput) → Comes t.world i → Rattle.st_laws_leases.proofs.Dates.Hearing.Comes (messages t.world) c now Ever ever_on i
       comes inputs.Tick k = tt
       comes (inputs.App op ask) k = tt
       comes (inputs.Control m) k = k
@@ -175,13 +162,9 @@ module _ (past : List Step) (t : Traced) (d : RepliesHold past t) where
       go false = still v ss before
 
   -- A step of a server.
-  Brings : ServerInput → Type 0
-  Brings serving.Tick = Unit {0}
-  Brings (serving.Control m) = Has m (messages t.world)
-
-  server_step : (s : ServerId) (i : ServerInput) (node : ServerNode) → node_of t.world s ≡ Some node → Brings i →
+  server_step : (s : ServerId) (i : ServerInput) (node : ServerNode) → node_of t.world s ≡ Some node → Brings t.world i →
       InputNew (server.thefts (server.turn node.state []) (clock_of (ev.counted t.world) (nodes.Server s))) (clock_of (ev.counted t.world) (nodes.Server s)) i → RepliesSay (ev.server_takes (ev.counted t.world) s i node).world
-  unfolding ev.server_takes ev.server_took server.node_step Brings
+  unfolding ev.server_takes ev.server_took server.node_step
   server_step s i node at brings owed = go node.running
     where
       w : World
@@ -240,7 +223,7 @@ module _ (past : List Step) (t : Traced) (d : RepliesHold past t) where
               IsBehind (sessions.session_of u.state.sessions (client m.header.to)) m.header.life m.header.number ⊎ Refused s node.state.stable.epoch i node.state.sessions m.header.to m.header.life m.header.number m.body →
               IsBehind (sessions.session_of u.state.sessions (client m.header.to)) m.header.life m.header.number ⊎ Refusal (messages sc.world) s m
           on e (inl h) = inl h
-          on e (inr r) = inr (record { by = r.by; among = said.old r.by (subst Brings r.is brings); from = r.from; there = r.there; of_life = r.of_life; of_epoch = r.of_epoch ∙ sym e; under = r.under; rows = r.rows; asks = r.asks; beyond = r.beyond })
+          on e (inr r) = inr (record { by = r.by; among = said.old r.by (subst (Brings t.world) r.is brings); from = r.from; there = r.there; of_life = r.of_life; of_epoch = r.of_epoch ∙ sym e; under = r.under; rows = r.rows; asks = r.asks; beyond = r.beyond })
 
       taken : RepliesSay sc.world
       taken y n q m h r = it (set_cases t.world.servers s.0 y.0 node next n at (ap (λ z. numbered z y.0) (sym said.servers) ∙ q)) (from m h)
@@ -261,137 +244,38 @@ module _ (past : List Step) (t : Traced) (d : RepliesHold past t) where
       go true = taken
       go false = still w refl refl
 
-  -- Every event.
+  -- Crashes and starts.
   w : World
   w = ev.counted t.world
 
-  at_client : (c : ClientId) (i : ClientInput) → Comes i → RepliesSay (ev.at_client w c i (site_of w c)).world
-  unfolding ev.at_client w
-  at_client c i k = go (site_of w c) refl
-    where
-      go : (o : Option ClientSite) → site_of w c ≡ o → RepliesSay (ev.at_client w c i o).world
-      go None r = still w refl refl
-      go (Some site) r = client_step w refl refl refl c i site site refl r k
-
-  at_server : (s : ServerId) (i : ServerInput) → Brings i → ((node : ServerNode) → node_of w s ≡ Some node → InputNew (server.thefts (server.turn node.state []) (clock_of w (nodes.Server s))) (clock_of w (nodes.Server s)) i) → RepliesSay (ev.at_server w s i (node_of w s)).world
-  unfolding ev.at_server w
-  at_server s i k owed = go (node_of w s) refl
-    where
-      go : (o : Option ServerNode) → node_of w s ≡ o → RepliesSay (ev.at_server w s i o).world
-      go None r = still w refl refl
-      go (Some node) r = server_step s i node r k (owed node r)
-
-  asks_happen : (c : ClientId) (ask : Ask) → RepliesSay (ev.asks_at w c ask (site_of w c)).world
-  unfolding ev.asks_at w Comes
-  asks_happen c ask = go (site_of w c) refl
-    where
-      go : (o : Option ClientSite) → site_of w c ≡ o → RepliesSay (ev.asks_at w c ask o).world
-      go None r = still w refl refl
-      go (Some site) r = client_step w refl refl refl c (inputs.App (site.asks + 1) ask) (ev.asked_once_more site) site refl r tt
-
-  delivers : (k : ℕ) → AtMessage w (world.message_of w k) → RepliesSay (ev.delivers w (world.message_of w k)).world
-  unfolding ev.delivers ev.delivers_to w Comes Brings
-  delivers k = go (world.message_of w k) refl
-    where
-      to : (m : Message) (n : NodeId) → Has m (messages t.world) → AtReceiver w m n → RepliesSay (ev.delivers_to w m n).world
-      to m (nodes.Client c) h f = at_client c (inputs.Control m) h
-      to m (nodes.Server s) h f = at_server s (serving.Control m) h (λ node q. subst (AtServer w m s) q f)
-
-      go : (o : Option SentMessage) → world.message_of w k ≡ o → AtMessage w o → RepliesSay (ev.delivers w o).world
-      go None q f = still w refl refl
-      go (Some m) q f = to m.message (world.receiver_of m) (has_map_in message_in t.world.net.messages m (numbered_has t.world.net.messages k m q)) f
-
-  loses : (k : ℕ) → RepliesSay (ev.loses_message w k (world.message_of w k))
-  unfolding ev.loses_message w
-  loses k = go (world.message_of w k) refl
-    where
-      go : (o : Option SentMessage) → world.message_of w k ≡ o → RepliesSay (ev.loses_message w k o)
-      go None q = still w refl refl
-      go (Some m) q = still (ev.with_lost k m w) refl (lost_same w k m q)
-
-  reports : (k : ℕ) (ok : Bool) → RepliesSay (ev.reports_of w k ok).world
-  unfolding ev.reports_of ev.tells ev.tells_client ev.tells_site w Comes
-  reports k ok = go (world.issued_of w k)
-    where
-      v : World
-      v = ev.with_disks (ev.disks_after w.disks (Rattle.st_rules.specs.Disks.done w.disks k ok)) w
-
-      none : RepliesSay v
-      none = still v refl refl
-
-      comes : (x : IssuedCommand) → Comes (ev.end_told v k ok x)
-      comes x = tt
-
-      same : (x : IssuedCommand) (site : ClientSite) → site_of w x.client ≡ Some site → (b : Bool) → RepliesSay (if b then ev.client_takes v x.client (ev.end_told v k ok x) site else ev.quiet v).world
-      same x site q true = client_step v refl refl refl x.client (ev.end_told v k ok x) site site refl q (comes x)
-      same x site q false = none
-
-      at : (x : IssuedCommand) (o : Option ClientSite) → site_of w x.client ≡ o → RepliesSay (ev.tells_client v k ok x o).world
-      at x None q = none
-      at x (Some site) q = same x site q (ev.is_same_instance x site)
-
-      go : (o : Option IssuedCommand) → RepliesSay (ev.tells v k ok o).world
-      go None = none
-      go (Some x) = at x (site_of w x.client) refl
-
-  crashes_client : (c : ClientId) → RepliesSay (ev.crashes_client w c (site_of w c)).world
+  stopped : (c : ClientId) (site : ClientSite) → RepliesSay (ev.crashes_client w c (Some site)).world
   unfolding ev.crashes_client ev.marks w
-  crashes_client c = go (site_of w c)
-    where
-      go : (o : Option ClientSite) → RepliesSay (ev.crashes_client w c o).world
-      go None = still w refl refl
-      go (Some site) = still (ev.crashes_client w c (Some site)).world refl refl
+  stopped c site = still (ev.crashes_client w c (Some site)).world refl refl
 
-  starts_client : (c : ClientId) → RepliesSay (ev.starts_client w c (site_of w c))
+  begun : (c : ClientId) (site : ClientSite) → RepliesSay (ev.starts_client w c (Some site))
   unfolding ev.starts_client w
-  starts_client c = go (site_of w c)
-    where
-      go : (o : Option ClientSite) → RepliesSay (ev.starts_client w c o)
-      go None = still w refl refl
-      go (Some site) = still (ev.starts_client w c (Some site)) refl refl
+  begun c site = still (ev.starts_client w c (Some site)) refl refl
 
-  crashes_server : (s : ServerId) → RepliesSay (ev.crashes_server w s (node_of w s))
+  off : {A : Type 0} → false ≡ true → A
+  off e = cc
+
+  crashed : (s : ServerId) (node : ServerNode) → node_of t.world s ≡ Some node → RepliesSay (ev.crashes_server w s (Some node))
   unfolding ev.crashes_server server.crash w
-  crashes_server s = go (node_of w s) refl
-    where
-      off : {A : Type 0} → false ≡ true → A
-      off e = cc
+  crashed s node q = server_placed s node (server.crash_node node) (ev.crashes_server w s (Some node)) q refl refl (λ m z. record { up_to = z.up_to; behind = λ run. off run })
 
-      go : (o : Option ServerNode) → node_of w s ≡ o → RepliesSay (ev.crashes_server w s o)
-      go None q = still w refl refl
-      go (Some node) q = server_placed s node (server.crash_node node) (ev.crashes_server w s (Some node)) q refl refl (λ m z. record { up_to = z.up_to; behind = λ run. off run })
-
-  starts_server : (s : ServerId) → RepliesSay (ev.starts_server w s (node_of w s))
+  started : (s : ServerId) (node : ServerNode) → node_of t.world s ≡ Some node → RepliesSay (ev.starts_server w s (Some node))
   unfolding ev.starts_server server.start server.begin_epoch w
-  starts_server s = go (node_of w s) refl
-    where
-      go : (o : Option ServerNode) → node_of w s ≡ o → RepliesSay (ev.starts_server w s o)
-      go None q = still w refl refl
-      go (Some node) q =
-          server_placed s node (server.start_node node (clock_of w (nodes.Server s))) (ev.starts_server w s (Some node)) q refl refl
-          (λ m z. record { up_to = let y = z.up_to in omega (arith, y); behind = λ run e. let y = z.up_to in absurd (omega (arith, y, e)) })
+  started s node q =
+      server_placed s node (server.start_node node (clock_of w (nodes.Server s))) (ev.starts_server w s (Some node)) q refl refl
+      (λ m z. record { up_to = let y = z.up_to in omega (arith, y); behind = λ run e. let y = z.up_to in absurd (omega (arith, y, e)) })
 
-  happens : (e : Event) → NewOwed w e → RepliesSay (ev.happens w e).world
-  unfolding ev.happens ev.ticks ev.crashes ev.starts ev.advances ev.effects ev.marks w Comes Brings
-  happens (events.Tick (nodes.Client c)) f = at_client c inputs.Tick tt
-  happens (events.Tick (nodes.Server s)) f = at_server s serving.Tick tt (λ node q. tt)
-  happens (events.App c ask) f = asks_happen c ask
-  happens (events.Deliver k) f = delivers k f
-  happens (events.Lose k) f = loses k
-  happens (events.Cut from to) f = still (ev.happens w (events.Cut from to)).world refl refl
-  happens (events.Heal from to) f = still (ev.happens w (events.Heal from to)).world refl refl
-  happens (events.Advance steps) f = still (ev.happens w (events.Advance steps)).world refl refl
-  happens (events.Effect k) f = still (ev.happens w (events.Effect k)).world refl refl
-  happens (events.Report k ok) f = reports k ok
-  happens (events.Crash (nodes.Client c)) f = crashes_client c
-  happens (events.Crash (nodes.Server s)) f = crashes_server s
-  happens (events.Start (nodes.Client c)) f = starts_client c
-  happens (events.Start (nodes.Server s)) f = starts_server s
+  -- Every event.
+  event_says : (e : Event) (sc : WorldTurn) → NewOwed (ev.counted t.world) e → world_step t.world e ≡ Ok sc → RepliesSay sc.world
+  unfolding w
+  event_says = event_leaves t.world RepliesSay (λ v cs ss ms. still v ss ms) client_step server_step (λ c site q. stopped c site) (λ c site q. begun c site) crashed started
 
 pub one : (past : List Step) (t : Traced) (e : Event) (sc : WorldTurn) → RepliesHold past t → ReassertionsNew past (step t e sc) → world_step t.world e ≡ Ok sc → RepliesHold (past ++ step t e sc ∷ []) (traced_after e t sc)
-unfolding w
-one past t e sc d f h =
-    record { dated = (dates.one past t e sc d.dated h).1; replies = let z = step_happens t.world e sc h in subst (λ (x : WorldTurn). RepliesSay x.world) (sym z.1) (happens past t d e f) }
+one past t e sc d f h = record { dated = (dates.one past t e sc d.dated h).1; replies = event_says past t d e sc f h }
 
 run : (es : List Event) (past : List Step) (t : Traced) → RepliesHold past t → Throughout ReassertionsNew past (steps es t) → Throughout RepliesAfter past (steps es t)
 unfolding steps safety.steps_on Throughout

@@ -23,16 +23,19 @@ use Rattle.st_rules.specs.ClientPages.{Store}
 use Rattle.st_rules.specs.ClientPasses as cp
 use Rattle.st_rules.specs.ClientState.{ClientSession, Turn, with_session, with_store, with_operations, is_serving, wait_of, file_of, send}
 use Rattle.st_laws_steps.specs.Client.Client as client
-use Rattle.st_laws_steps.specs.Client.Client.{map_in}
+use Rattle.st_laws_steps.specs.Client.Client.{map_asked, map_in}
+use Rattle.st_laws_steps.specs.Client.Session.{AsksNothing, AsksAgain, AsksNew, CutsForgotten, IsAsked, LocksStay, cuts_from}
+use Rattle.st_laws_steps.proofs.Client.Changes.{alike_stay}
 use Rattle.st_laws_steps.proofs.Client.Passing.{changes, Says, Operates, Follows, Forgets, Changes, Still}
-use Rattle.st_lemmas.proofs.Lookups.{or_false}
-use Rattle.st_laws_steps.proofs.Client.Passing.{one, both, if_changes}
+use Rattle.st_lemmas.proofs.Lookups.{or_false, some_is}
+use Rattle.st_laws_steps.proofs.Client.Passing.{SendsRequest, one, both, if_changes, wider}
 use Rattle.st_laws_steps.proofs.Client.Working.{p_operations, p_reductions, p_writes, p_greeting}
 
 -- what an operation asks: where a page lies, only where nothing is known of it; and a file is cut where it is idle
 record Wants (st : Store) (w : cp.Wanted) : Type 0 where
   pub asks : (x : ℕ × PageNo) → map_in w.body ≡ Some x → pages.known_of st.extents x.0 x.1 ≡ None
-  pub cuts : (c : ℕ × PageNo) → w.cut ≡ Some c → (pages.is_idle st c.0 ≡ true) × (map_in w.body ≡ None)
+  pub may : IsAsked w.body
+  pub cuts : (c : ℕ × PageNo) → w.cut ≡ Some c → (pages.is_idle st c.0 ≡ true) × (map_in w.body ≡ None) × (cuts_from w.body ≡ Some c.1)
 
 abbrev WantsAt : Store → Option cp.Wanted → Type 0
 WantsAt st None = Unit {0}
@@ -42,8 +45,8 @@ abbrev AskingAt : Store → Option cp.Asking → Type 0
 AskingAt st None = Unit {0}
 AskingAt st (Some a) = Wants st a.wanted
 
-no_map : (st : Store) (body : Body) (own : Bool) → map_in body ≡ None → Wants st (record { body = body; own = own; cut = None })
-no_map st body own e = record { asks = λ x q. absurd (no x (sym e ∙ q)); cuts = λ c q. absurd (none c q) }
+no_map : (st : Store) (body : Body) (own : Bool) → IsAsked body → map_in body ≡ None → Wants st (record { body = body; own = own; cut = None })
+no_map st body own i e = record { may = i; asks = λ x q. absurd (no x (sym e ∙ q)); cuts = λ c q. absurd (none c q) }
   where
     no : (x : ℕ × PageNo) → ◌≡◌ {A = Option (ℕ × PageNo)} None (Some x) → ⊥
     no x q = cc
@@ -61,11 +64,11 @@ none_known (Some e) q = cc
 
 w_lock : (t : Turn) (s : ClientSession) (now : Stamp) (ino : ℕ) (mode : Mode) → WantsAt t.here.store (cp.want_lock t s now ino mode)
 unfolding cp.want_lock
-w_lock t s now ino mode = if_wants t.here.store (cp.is_wait_old t.config now mode (wait_of s.waits ino)) _ None (λ e. no_map t.here.store (bodies.Acquire ino mode) false refl) (λ e. tt)
+w_lock t s now ino mode = if_wants t.here.store (cp.is_wait_old t.config now mode (wait_of s.waits ino)) _ None (λ e. no_map t.here.store (bodies.Acquire ino mode) false tt refl) (λ e. tt)
 
 w_map : (t : Turn) (ino : ℕ) (g : GrantNo) (p : PageNo) → WantsAt t.here.store (cp.want_map t ino g p)
 unfolding cp.want_map
-w_map t ino g p = if_wants t.here.store (cp.is_at_hand t ino p) None _ (λ e. tt) (λ e. record { asks = λ x q. known e x q; cuts = λ c q. absurd (none c q) })
+w_map t ino g p = if_wants t.here.store (cp.is_at_hand t ino p) None _ (λ e. tt) (λ e. record { may = tt; asks = λ x q. known e x q; cuts = λ c q. absurd (none c q) })
   where
     none : (c : ℕ × PageNo) → ◌≡◌ {A = Option (ℕ × PageNo)} None (Some c) → ⊥
     none c q = cc
@@ -80,11 +83,11 @@ w_map t ino g p = if_wants t.here.store (cp.is_at_hand t ino p) None _ (λ e. tt
 
 w_block : (t : Turn) (ino : ℕ) (g : GrantNo) (p : PageNo) → WantsAt t.here.store (cp.want_block t ino g p)
 unfolding cp.want_block
-w_block t ino g p = if_wants t.here.store (pages.is_mapped t.here.store.extents ino p) None _ (λ e. tt) (λ e. no_map t.here.store (bodies.Allocate ino g p 1) false refl)
+w_block t ino g p = if_wants t.here.store (pages.is_mapped t.here.store.extents ino p) None _ (λ e. tt) (λ e. no_map t.here.store (bodies.Allocate ino g p 1) false tt refl)
 
-w_cut : (t : Turn) (ino : ℕ) (body : Body) (p : PageNo) → map_in body ≡ None → WantsAt t.here.store (cp.want_cut t ino body p)
+w_cut : (t : Turn) (ino : ℕ) (body : Body) (p : PageNo) → IsAsked body → map_in body ≡ None → cuts_from body ≡ Some p → WantsAt t.here.store (cp.want_cut t ino body p)
 unfolding cp.want_cut
-w_cut t ino body p m = if_wants t.here.store (pages.is_idle t.here.store ino) _ None (λ e. record { asks = λ x q. absurd (no x (sym m ∙ q)); cuts = λ c q. (ap (pages.is_idle t.here.store) (sym (ino_is c q)) ∙ e, m) }) (λ e. tt)
+w_cut t ino body p i m k = if_wants t.here.store (pages.is_idle t.here.store ino) _ None (λ e. record { may = i; asks = λ x q. absurd (no x (sym m ∙ q)); cuts = λ c q. (ap (pages.is_idle t.here.store) (sym (ino_is c q)) ∙ e, m, k ∙ ap (λ (z : ℕ × PageNo). Some z.1) (pair_is c q)) }) (λ e. tt)
   where
     no : (x : ℕ × PageNo) → ◌≡◌ {A = Option (ℕ × PageNo)} None (Some x) → ⊥
     no x q = cc
@@ -100,8 +103,8 @@ unfolding cp.want_held
 w_held t (asks.Read f p) ino g = w_map t ino g p
 w_held t (asks.Write f p bytes) ino g = w_block t ino g p
 w_held t (asks.Patch f p at bytes) ino g = w_block t ino g p
-w_held t (asks.Cut f p) ino g = w_cut t ino (bodies.Cut ino g p) p refl
-w_held t (asks.Name server ask) ino g = w_cut t ino (bodies.Name (cp.name_op ask g)) (page_no 0) refl
+w_held t (asks.Cut f p) ino g = w_cut t ino (bodies.Cut ino g p) p tt refl refl
+w_held t (asks.Name server ask) ino g = w_cut t ino (bodies.Name (cp.name_op ask g)) (page_no 0) tt refl refl
 w_held t (asks.Sync f) ino g = tt
 
 w_on : (t : Turn) (s : ClientSession) (now : Stamp) (ask : Ask) (ino : ℕ) → WantsAt t.here.store (cp.want_on t s now ask ino)
@@ -114,7 +117,7 @@ w_on t s now ask ino = go (locks.lock_of s.locks ino)
 
 w_name : (t : Turn) (ask : Ask) → WantsAt t.here.store (cp.want_name ask)
 unfolding cp.want_name
-w_name t (asks.Name server ask) = no_map t.here.store (bodies.Name (cp.name_op ask locks.no_grant)) true refl
+w_name t (asks.Name server ask) = no_map t.here.store (bodies.Name (cp.name_op ask locks.no_grant)) true tt refl
 w_name t ask = tt
 
 w_at : (t : Turn) (s : ClientSession) (now : Stamp) (ask : Ask) (o : Option ℕ) → WantsAt t.here.store (cp.want_at t s now ask o)
@@ -138,25 +141,31 @@ w_first t s now (o ∷ os) = go (cp.asked_by t s now o) (w_asked t s now o) (cp.
   where
     go : (w : Option cp.Wanted) → WantsAt t.here.store w → (a : Option cp.Asking) → AskingAt t.here.store a → AskingAt t.here.store (cp.asks_or o os a w)
     go None w None a = tt
-    go None w (Some x) a = record { asks = a.asks; cuts = a.cuts }
-    go (Some x) w a k = record { asks = w.asks; cuts = w.cuts }
+    go None w (Some x) a = record { may = a.may; asks = a.asks; cuts = a.cuts }
+    go (Some x) w a k = record { may = w.may; asks = w.asks; cuts = w.cuts }
 
 module _ (now : Stamp) where
   abbrev C : Turn → Turn → Type 0
-  C t u = Changes now t u
+  C t u = Changes [] true now t u
+
+  none_some : {A B : Type 0} (x : A) → ◌≡◌ {A = Option A} None (Some x) → B
+  none_some x q = cc
 
   -- a request is sent, by a session that is as the one at hand but for what waits to be sent
-  c_ask : (t : Turn) (s0 s : ClientSession) (body : Body) (cutting : Option ℕ) → t.here.session ≡ Some s0 → s0.lease.date ≡ s.lease.date → ((x : ℕ × PageNo) → map_in body ≡ Some x → pages.known_of t.here.store.extents x.0 x.1 ≡ None) → C t (cp.ask t s now body cutting)
+  c_ask : (t : Turn) (s r : ClientSession) (body : Body) (cutting : Option ℕ) → t.here.session ≡ Some s → AsksNothing t.here.store.extents s r → CutsForgotten t.here.store body cutting → IsAsked body →
+      ((x : ℕ × PageNo) → map_in body ≡ Some x → pages.known_of t.here.store.extents x.0 x.1 ≡ None) → C t (cp.ask t r now body cutting)
   unfolding cp.ask send Rattle.st_rules.specs.ClientState.asking
-  c_ask t s0 s body cutting se d f =
-      both (one (Follows t s0 (cp.asking_session s now body cutting) se (record { date = let z = ap (λ (x : Stamp). x.0) d in omega (arith, z); asks = λ x e. inr (f x e) }))) (one (Says (with_session (cp.asking_session s now body cutting) t) _ tt))
+  c_ask t s r body cutting se a c i f =
+      both (one (Follows t s (cp.asking_session r now body cutting) se (record { how = AsksNew s r now body cutting a c i; date = let z = ap (λ (x : Stamp). x.0) a.date in omega (arith, z); asks = λ x e. inr (f x e) }) refl))
+      (one (Says (with_session (cp.asking_session r now body cutting) t) _ tt (SendsRequest (cp.asking_session r now body cutting) (record { number = r.requests.next; body = body; sent = now }) refl refl)))
+
+  -- a request that neither cuts a file nor asks where a page lies
+  c_plain : (t : Turn) (s r : ClientSession) (body : Body) → t.here.session ≡ Some s → AsksNothing t.here.store.extents s r → IsAsked body → map_in body ≡ None → C t (cp.ask t r now body None)
+  c_plain t s r body se a i m = c_ask t s r body None se a (λ ino p q c. none_some ino q) i (λ x q. none_some x (sym m ∙ q))
 
   c_alive : (t : Turn) (s : ClientSession) → t.here.session ≡ Some s → C t (cp.keep_alive t s now)
   unfolding cp.keep_alive
-  c_alive t s se = if_changes (lease.is_renewing (lease.phase_of t.config s.lease now)) t _ _ (λ e. c_ask t s s bodies.KeepAlive None se refl (λ x q. absurd (no x q))) (λ e. Still t)
-    where
-      no : (x : ℕ × PageNo) → ◌≡◌ {A = Option (ℕ × PageNo)} None (Some x) → ⊥
-      no x q = cc
+  c_alive t s se = if_changes (lease.is_renewing (lease.phase_of t.config s.lease now)) t _ _ (λ e. c_plain t s s bodies.KeepAlive se (alike_stay t.here.store.extents s) tt refl) (λ e. Still t)
 
   -- the request of an operation
   c_ask_for : (t : Turn) (s : ClientSession) (a : cp.Asking) → t.here.session ≡ Some s → Wants t.here.store a.wanted → C t (cp.ask_for t s now a)
@@ -167,28 +176,25 @@ module _ (now : Stamp) where
       u = with_operations a.operations t
 
       go : (c : Option (ℕ × PageNo)) → a.wanted.cut ≡ c → C u (cp.ask (with_store (cp.cut_store c t.here.store) u) s now a.wanted.body (cp.file_cut c))
-      go None e = c_ask u s s a.wanted.body None se refl w.asks
+      go None e = c_ask u s s a.wanted.body None se (alike_stay t.here.store.extents s) (λ ino p q k. none_some ino q) w.may w.asks
       go (Some c) e =
           both (one (Forgets u c.0 c.1 (w.cuts c e).0))
-          (c_ask (with_store (pages.forget_from t.here.store c.0 c.1) u) s s a.wanted.body (Some c.0) se refl (λ x q. absurd (no x (sym (w.cuts c e).1 ∙ q))))
-        where
-          no : (x : ℕ × PageNo) → ◌≡◌ {A = Option (ℕ × PageNo)} None (Some x) → ⊥
-          no x q = cc
+          (c_ask (with_store (pages.forget_from t.here.store c.0 c.1) u) s s a.wanted.body (Some c.0) se (alike_stay _ s)
+          (λ ino p q k. let i : c.0 ≡ ino = some_is q in let l : c.1 ≡ p = some_is (sym (w.cuts c e).2 ∙ k) in
+          record { store = t.here.store; idle = ap (pages.is_idle t.here.store) (sym i) ∙ (w.cuts c e).0; is = ap (λ j. pages.forget_from t.here.store j c.1) i ∙ ap (λ r. pages.forget_from t.here.store ino r) l }) w.may
+          (λ x q. none_some x (sym (w.cuts c e).1 ∙ q)))
 
   c_ask_new : (t : Turn) (s : ClientSession) → t.here.session ≡ Some s → C t (cp.ask_new t s now)
   unfolding cp.ask_new cp.reassert cp.ask_by cp.ask_release cp.ask_next cp.ask_for_or
-  c_ask_new t s se = if_changes s.due t _ _ (λ e. c_ask t s s _ None se refl (λ x q. absurd (no x q))) (λ e. by s.releases)
+  c_ask_new t s se = if_changes s.due t _ _ (λ e. c_plain t s s _ se (alike_stay t.here.store.extents s) tt refl) (λ e. by s.releases)
     where
-      no : (x : ℕ × PageNo) → ◌≡◌ {A = Option (ℕ × PageNo)} None (Some x) → ⊥
-      no x q = cc
-
       or : (a : Option cp.Asking) → AskingAt t.here.store a → C t (cp.ask_for_or t s now a)
       or None w = c_alive t s se
       or (Some a) w = c_ask_for t s a se w
 
       by : (rs : List Release) → C t (cp.ask_by t s now rs)
       by [] = if_changes (is_serving t.config s now) t _ _ (λ e. or (cp.first_asking t s now t.operations) (w_first t s now t.operations)) (λ e. c_alive t s se)
-      by (r ∷ rs) = c_ask t s (record s { releases = rs }) _ None se refl (λ x q. absurd (no x q))
+      by (r ∷ rs) = c_plain t s (record s { releases = rs }) _ se (record { epoch = refl; requests = refl; cutting = refl; due = refl; date = refl; locks = LocksStay s.locks }) tt refl
 
   pub p_requests : (tick : Bool) (t : Turn) → C t (cp.requests now tick t)
   unfolding cp.requests cp.requests_by cp.requests_under cp.requests_at cp.repeat cp.ask_again send
@@ -197,7 +203,7 @@ module _ (now : Stamp) where
       again : (s : ClientSession) (q : Request) → t.here.session ≡ Some s → s.requests.asked ≡ Some q → C t (cp.repeat t s now tick q)
       again s q se e =
           if_changes (cp.is_old t.config now tick q) t _ _
-          (λ b. both (one (Follows t s (cp.again_session s now q) se (record { date = omega arith; asks = λ x i. inl (ap (λ o. Rattle.st_laws_steps.specs.Client.Client.map_asked o) e ∙ i) }))) (one (Says (with_session (cp.again_session s now q) t) _ tt))) (λ b. Still t)
+          (λ b. both (one (Follows t s (cp.again_session s now q) se (record { how = AsksAgain s now q e; date = omega arith; asks = λ x i. inl (ap map_asked e ∙ i) }) refl)) (one (Says (with_session (cp.again_session s now q) t) _ tt (SendsRequest (cp.again_session s now q) (record q { sent = now }) refl refl)))) (λ b. Still t)
 
       at : (s : ClientSession) (q : Option Request) → t.here.session ≡ Some s → s.requests.asked ≡ q → C t (cp.requests_at t s now tick q)
       at s None se e = c_ask_new t s se
@@ -208,9 +214,16 @@ module _ (now : Stamp) where
       go (Some s) e = if_changes s.lease.condemned t t _ (λ b. Still t) (λ b. at s s.requests.asked e refl)
 
   -- all passes
-  pub p_passes : (tick : Bool) (t : Turn) → C t (cp.passes now tick t)
+  -- those behind the operations, where no sync is answered hard
+  pub p_rest : (tick : Bool) (t : Turn) → C t (cp.requests now tick (cp.greeting now tick (cp.writes now tick (cp.reductions t))))
+  p_rest tick t = both (quiet (both (p_reductions now t) (both (p_writes now tick _) (p_greeting now tick _)))) (p_requests tick _)
+    where
+      quiet : {u v : Turn} → Changes [] false now u v → C u v
+      quiet c = wider [] [] false true (λ o h. h) (λ e. refl) c
+
+  pub p_passes : (tick : Bool) (t : Turn) → Changes t.operations true now t (cp.passes now tick t)
   unfolding cp.passes
-  p_passes tick t = both (p_operations now t) (both (p_reductions now _) (both (p_writes now tick _) (both (p_greeting now tick _) (p_requests tick _))))
+  p_passes tick t = both (wider t.operations t.operations false true (λ o h. h) (λ e. refl) (p_operations now t)) (wider [] t.operations true true (λ o h. absurd h) (λ e. e) (p_rest tick (cp.operations now t)))
 
 pub c_passes : (now : Stamp) (tick : Bool) (t : Turn) → client.Changes now t (cp.passes now tick t)
 c_passes now tick t = changes (p_passes now tick t)

@@ -50,21 +50,21 @@ over_is k l now = go (nat_le (l.date.0 + k.lease) now.0)
 
 module _ (now : Stamp) where
   abbrev C : Turn → Turn → Type 0
-  C t u = Changes now t u
+  C t u = Changes false now t u
 
   c_tell : (t : Turn) (op ino : ℕ) → C t (cl.tell_lost t op ino)
   unfolding cl.tell_lost
-  c_tell t op ino = both (one (TellsLost t (pages.untold t.here.lost ino))) (k_answer _ op _)
+  c_tell t op ino = both (one (TellsLost t (pages.untold t.here.lost ino))) (k_answer _ op _ tt)
 
   c_end : (t : Turn) (s : ClientSession) (o : Operation) → C t (cl.end_operation t s o)
   unfolding cl.end_operation cl.end_unsent cl.end_sync
-  c_end t s o = if_changes (is_sent o) t _ _ (λ e. k_answer t o.op _) (λ e. unsent o.ask)
+  c_end t s o = if_changes (is_sent o) t _ _ (λ e. k_answer t o.op _ tt) (λ e. unsent o.ask)
     where
       unsent : (a : Ask) → C t (cl.end_unsent t o a)
-      unsent (asks.Sync f) = if_changes (pages.has_lost t.here.lost f.ino) t _ _ (λ e. c_tell t o.op f.ino) (λ e. k_answer t o.op _)
-      unsent a = k_answer t o.op _
+      unsent (asks.Sync f) = if_changes (pages.has_lost t.here.lost f.ino) t _ _ (λ e. c_tell t o.op f.ino) (λ e. k_answer t o.op _ tt)
+      unsent a = k_answer t o.op _ tt
 
-  c_end_each : (s : ClientSession) (os : List Operation) (t : Turn) → C t (cl.end_each s os t)
+  pub c_end_each : (s : ClientSession) (os : List Operation) (t : Turn) → C t (cl.end_each s os t)
   unfolding cl.end_each
   c_end_each s [] t = Still t
   c_end_each s (o ∷ os) t = both (c_end t s o) (c_end_each s os (cl.end_operation t s o))
@@ -111,7 +111,7 @@ command_number (x ∷ xs) n c e = go (x.number == n) refl e (command_number xs n
 pub record Finished (now : Stamp) (number : ℕ) (ok : Bool) (t u : Turn) : Type 0 where
   pub mid : Turn
   pub ends : Ends number ok t mid
-  pub calm : Changes now mid u
+  pub calm : Changes false now mid u
 
 pub rest_of : {now : Stamp} {number : ℕ} {ok : Bool} {t u : Turn} (f : Finished now number ok t u) → client.Changes now f.mid u
 rest_of f = changes f.calm
@@ -165,10 +165,10 @@ end_is now number ok t c block e =
     failed : (v : ℕ) → c.kind ≡ io.Write v → ok ≡ false → (b : Bool) → cl.is_present u c v ≡ b → Finished now number ok t (cl.failed_as u c (io.Write v))
     failed v k o true f =
         subst (λ b. Finished now number ok t (Rattle.st_rules.specs.ClientState.answer_each (cl.waits_for_write u c) (answers.DiskFault c.number) (if b then cl.with_failed c u else u))) (sym f)
-        (record { mid = cl.with_failed c u; ends = Fails c v e o k; calm = k_each (cl.waits_for_write u c) (answers.DiskFault c.number) (cl.with_failed c u) })
+        (record { mid = cl.with_failed c u; ends = Fails c v e o k; calm = k_each (cl.waits_for_write u c) (answers.DiskFault c.number) (cl.with_failed c u) tt })
     failed v k o false f =
         subst (λ b. Finished now number ok t (Rattle.st_rules.specs.ClientState.answer_each (cl.waits_for_write u c) (answers.DiskFault c.number) (if b then cl.with_failed c u else u))) (sym f)
-        (record { mid = u; ends = Passes c e absent; calm = k_each (cl.waits_for_write u c) (answers.DiskFault c.number) u })
+        (record { mid = u; ends = Passes c e absent; calm = k_each (cl.waits_for_write u c) (answers.DiskFault c.number) u tt })
       where
         absent : IsOutdated t c
         absent w d q i r =
@@ -180,7 +180,7 @@ end_is now number ok t c block e =
     kinds io.Read k true o = filled k block
     kinds (io.Write v) k true o = written v k o (v == version) refl
     kinds io.Read k false o =
-        subst (λ z. Finished now number ok t (cl.failed_as u c z)) (sym k) (record { mid = u; ends = Passes c e (read_apart k); calm = k_each (cl.waits_for_read u c) (answers.DiskFault c.number) u })
+        subst (λ z. Finished now number ok t (cl.failed_as u c z)) (sym k) (record { mid = u; ends = Passes c e (read_apart k); calm = k_each (cl.waits_for_read u c) (answers.DiskFault c.number) u tt })
     kinds (io.Write v) k false o = subst (λ z. Finished now number ok t (cl.failed_as u c z)) (sym k) (failed v k o (cl.is_present u c v) refl)
 
     by_ok : (b : Bool) → ok ≡ b → Finished now number ok t (cl.finish_as u c block (pages.ended_as c ok version))

@@ -21,3 +21,8 @@ module _ (P : (now : Stamp) (t u : Turn) → Change now t u → Type 0) (now : S
   pub all : (t u : Turn) → Only P now t u → Changes now t u
   all _ _ (Ends x) = Still x
   all _ _ (Goes t x u c p a) = Then t x u c (all x u a)
+
+-- changes that a weaker fact lets pass too
+pub lifted : (P Q : (now : Stamp) (t u : Turn) → Change now t u → Type 0) (now : Stamp) → ((t u : Turn) (c : Change now t u) → P now t u c → Q now t u c) → (t u : Turn) → Only P now t u → Only Q now t u
+lifted P Q now f _ _ (Ends x) = Ends x
+lifted P Q now f _ v (Goes t x u c p a) = Goes t x v c (f t x c p) (lifted P Q now f x v a)

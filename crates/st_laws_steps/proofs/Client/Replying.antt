@@ -1,5 +1,5 @@
 -- What a client does with a server's message is a list of changes.
-use Rattle.std.proofs.Common.{◌≡◌, ℕ, ◌+◌, ◌≤◌, Bool, true, false, not, List, [], ◌∷◌, ◌==◌, Option, Some, None, refl, sym, ap, ◌∙◌, subst, arith, if◌then◌else◌}
+use Rattle.std.proofs.Common.{◌≡◌, ℕ, ◌+◌, ◌≤◌, Bool, true, false, not, List, [], ◌∷◌, ◌==◌, Option, Some, None, refl, sym, ap, ◌∙◌, subst, inl, arith, if◌then◌else◌}
 use Rattle.std.specs.Prelude.{is_some, nat_lt}
 use Rattle.std.proofs.lemmas.Bool.{eqb-true, ltb-true}
 use Rattle.st_base.specs.declared.ids.Epoch.{Epoch}
@@ -19,6 +19,7 @@ use Rattle.st_messages.specs.declared.message.Why.{Why}
 use Rattle.st_messages.specs.declared.message.Why.TheVariants as why
 use Rattle.st_rules.specs.declared.client.Request.{Request}
 use Rattle.st_rules.specs.declared.client.HeldLock.{HeldLock}
+use Rattle.st_rules.specs.declared.client.KnownExtent.{KnownExtent}
 use Rattle.st_rules.specs.declared.client.Asked.{Asked}
 use Rattle.st_rules.specs.declared.client.Asked.TheVariants.{Reduce, NotHeld, Stale}
 use Rattle.st_rules.specs.ClientLease as lease
@@ -29,39 +30,56 @@ use Rattle.st_rules.specs.ClientPages.{Store}
 use Rattle.st_rules.specs.ClientReplies as cr
 use Rattle.st_rules.specs.ClientState as cs
 use Rattle.st_rules.specs.ClientState.{ClientSession, Turn, with_session, with_store, with_cache, forget_wait, fits, is_asked, answer_each, send}
-use Rattle.st_laws_steps.proofs.Client.Changes.{goes_same}
+use Rattle.st_laws_steps.proofs.Client.Changes.{alike_stay, goes_keeps}
 use Rattle.st_laws_steps.specs.Client.Client as client
-use Rattle.st_laws_steps.specs.Client.Client.{map_in, map_asked, Unasked, with_greeted}
+use Rattle.st_laws_steps.specs.Client.Client.{map_in, map_asked, Unasked, UnhardAnswer, with_greeted}
+use Rattle.st_laws_steps.specs.Client.Session.{AsksNothing, DropsLock, EndsRequest, IsReasserted, LocksDemanded, LocksGranted, LocksStay, LocksStep, NewEpoch}
 use Rattle.st_laws_steps.proofs.Client.Calm.{changes, Says, Operates, Greets, Begins, Follows, Learns, Changes, Still}
 use Rattle.st_laws_steps.specs.Client.Losses.{AskedFresh, SessionFresh}
 use Rattle.st_lemmas.proofs.Tables.{and_true}
 use Rattle.st_laws_steps.proofs.Client.Calm.{one, both, if_changes, k_each}
 
--- the same lease and the same outstanding request
-record Alike (s u : ClientSession) : Type 0 where
-  pub date : s.lease.date ≡ u.lease.date
-  pub asked : s.requests.asked ≡ u.requests.asked
-
-alike_then : (s u v : ClientSession) → Alike s u → Alike u v → Alike s v
-alike_then s u v a b = record { date = a.date ∙ b.date; asked = a.asked ∙ b.asked }
-
-alike_if : (s : ClientSession) (b : Bool) (u v : ClientSession) → Alike s u → Alike s v → Alike s (if b then u else v)
-alike_if s true u v a c = a
-alike_if s false u v a c = c
-
-alike_grant : (s : ClientSession) (ino : ℕ) (g : GrantNo) (mode : Mode) → Alike s (cr.grant s ino g mode)
+-- a grant asks nothing
+granted_same : (z : ClientSession) (ino : ℕ) (g : GrantNo) (mode : Mode) → LocksStep [] z.locks (cr.grant z ino g mode).locks → AsksNothing [] z (cr.grant z ino g mode)
 unfolding cr.grant cr.grant_new cr.accept_grant cr.decline
-alike_grant s ino g mode =
-    alike_if s (locks.is_above_seen s.locks ino g) (cr.grant_new s ino g mode) s (alike_if s (locks.has_place s.locks ino) (cr.accept_grant s ino g mode) (cr.decline s ino g) (record { date = refl; asked = refl }) (record { date = refl; asked = refl }))
-    (record { date = refl; asked = refl })
+granted_same z ino g mode = go (locks.is_above_seen z.locks ino g) (locks.has_place z.locks ino)
+  where
+    new : Bool → ClientSession
+    new place = if place then cr.accept_grant z ino g mode else cr.decline z ino g
 
-alike_wait : (s : ClientSession) (ino : ℕ) (mode : Mode) (now : Stamp) → Alike s (cr.wait_unless_held s ino mode now)
+    go : (above place : Bool) → LocksStep [] z.locks (if above then new place else z).locks → AsksNothing [] z (if above then new place else z)
+    go true true l = record { epoch = refl; requests = refl; cutting = refl; due = refl; date = refl; locks = l }
+    go true false l = record { epoch = refl; requests = refl; cutting = refl; due = refl; date = refl; locks = l }
+    go false place l = record { epoch = refl; requests = refl; cutting = refl; due = refl; date = refl; locks = l }
+
+pub granted_alike : (xs : List KnownExtent) (s : ClientSession) (ino : ℕ) (g : GrantNo) (mode : Mode) → AsksNothing xs s (cr.grant (forget_wait ino s) ino g mode)
+granted_alike xs s ino g mode =
+    let a = granted_same (forget_wait ino s) ino g mode (LocksGranted (forget_wait ino s) ino g mode) in
+    record { epoch = a.epoch; requests = a.requests; cutting = a.cutting; due = a.due; date = a.date; locks = LocksGranted (forget_wait ino s) ino g mode }
+
+-- by a test
+alike_if : (xs : List KnownExtent) (s : ClientSession) (b : Bool) (u v : ClientSession) → AsksNothing xs s u → AsksNothing xs s v → AsksNothing xs s (if b then u else v)
+alike_if xs s true u v a c = a
+alike_if xs s false u v a c = c
+
+pub alike_wait : (xs : List KnownExtent) (s : ClientSession) (ino : ℕ) (mode : Mode) (now : Stamp) → AsksNothing xs s (cr.wait_unless_held s ino mode now)
 unfolding cr.wait_unless_held cr.wait_told
-alike_wait s ino mode now = alike_if s (covers (locks.mode_of s.locks ino) mode) s _ (record { date = refl; asked = refl }) (record { date = refl; asked = refl })
+alike_wait xs s ino mode now =
+    alike_if xs s (covers (locks.mode_of s.locks ino) mode) s _ (alike_stay xs s) (record { epoch = refl; requests = refl; cutting = refl; due = refl; date = refl; locks = LocksStay s.locks })
 
-alike_release : (s : ClientSession) (ino : ℕ) (g : GrantNo) → Alike s (cr.release_unheld s ino g)
+pub alike_condemned : (xs : List KnownExtent) (s : ClientSession) → AsksNothing xs s (cs.with_lease (lease.condemned s.lease) s)
+unfolding lease.condemned
+alike_condemned xs s = record { epoch = refl; requests = refl; cutting = refl; due = refl; date = refl; locks = LocksStay s.locks }
+
+-- a session that saw a demand, and may give up what it does not hold
+pub alike_demanded : (xs : List KnownExtent) (s : ClientSession) (ino : ℕ) (g : GrantNo) (to : Mode) → AsksNothing xs s (with_cache (locks.demand s.locks ino g to).locks s)
+alike_demanded xs s ino g to = record { epoch = refl; requests = refl; cutting = refl; due = refl; date = refl; locks = LocksDemanded s.locks ino g to }
+
+pub alike_unheld : (xs : List KnownExtent) (s : ClientSession) (ino : ℕ) (g : GrantNo) (to : Mode) → AsksNothing xs s (cr.release_unheld (with_cache (locks.demand s.locks ino g to).locks s) ino g)
 unfolding cr.release_unheld
-alike_release s ino g = alike_if s (cr.has_release s ino g) s _ (record { date = refl; asked = refl }) (record { date = refl; asked = refl })
+alike_unheld xs s ino g to =
+    alike_if xs s (cr.has_release (with_cache (locks.demand s.locks ino g to).locks s) ino g) _ _ (alike_demanded xs s ino g to)
+    (record { epoch = refl; requests = refl; cutting = refl; due = refl; date = refl; locks = LocksDemanded s.locks ino g to })
 
 date_renewed : (stamp : Stamp) (l : ClientLease) → l.date.0 ≤ (lease.renewed stamp l).date.0
 unfolding lease.renewed lease.dated
@@ -77,10 +95,10 @@ Fresh st asked = (x : ℕ × PageNo) → map_in asked ≡ Some x → pages.known
 
 module _ (now : Stamp) where
   abbrev C : Turn → Turn → Type 0
-  C t u = Changes now t u
+  C t u = Changes true now t u
 
-  c_session : (t : Turn) (s u : ClientSession) → t.here.session ≡ Some s → Alike s u → C t (with_session u t)
-  c_session t s u e a = one (Follows t s u e (goes_same t.here.store s u a.date a.asked))
+  c_session : (t : Turn) (s u : ClientSession) → t.here.session ≡ Some s → AsksNothing t.here.store.extents s u → C t (with_session u t)
+  c_session t s u e a = one (Follows t s u e (goes_keeps t.here.store s u a))
 
   c_welcome : (t : Turn) (epoch : Epoch) (stamp : Stamp) → t.here.session ≡ None → C t (cr.welcome t now epoch stamp)
   unfolding cr.welcome cr.begin_session cr.note_lease
@@ -88,7 +106,7 @@ module _ (now : Stamp) where
       if_changes (cr.is_timely t now stamp) t _ _
       (λ b. both (one (Greets t None))
       (both (one (Begins (with_greeted None t) (cr.new_session epoch stamp) e (ltb-true now.0 (stamp.0 + t.config.lease) (and_true (is_some t.here.greeting) (nat_lt now.0 (stamp.0 + t.config.lease)) b).1) refl))
-      (one (Says (cr.begin_here (cr.new_session epoch stamp) t) _ tt)))) (λ b. Still t)
+      (one (Says (cr.begin_here (cr.new_session epoch stamp) t) _ tt refl)))) (λ b. Still t)
 
   c_without : (t : Turn) (h : Header) (body : Body) → t.here.session ≡ None → C t (cr.without_session t now h body)
   unfolding cr.without_session
@@ -101,7 +119,7 @@ module _ (now : Stamp) where
   c_newer : (t : Turn) (s : ClientSession) (epoch : Epoch) → t.here.session ≡ Some s → C t (cr.newer_epoch t s epoch)
   unfolding cr.newer_epoch cr.follow_epoch
   c_newer t s epoch e =
-      if_changes (cr.is_newer s epoch) t _ _ (λ b. both (one (Follows t s (cr.in_epoch epoch s) e (record { date = omega arith; asks = λ x q. absurd (no_page x q) }))) (k_each (is_asked t.here.server) (answers.Uncertain s.epoch.0 epoch.0) (with_session (cr.in_epoch epoch s) t)))
+      if_changes (cr.is_newer s epoch) t _ _ (λ b. both (one (Follows t s (cr.in_epoch epoch s) e (record { how = NewEpoch s epoch; date = omega arith; asks = λ x q. absurd (no_page x q) }))) (k_each (is_asked t.here.server) (answers.Uncertain s.epoch.0 epoch.0) (with_session (cr.in_epoch epoch s) t) tt))
       (λ b. Still t)
 
   c_other : (t : Turn) (s : ClientSession) (epoch : Epoch) (body : Body) → t.here.session ≡ Some s → C t (cr.of_other_epoch t s epoch body)
@@ -115,15 +133,15 @@ module _ (now : Stamp) where
 
   c_condemn : (t : Turn) (s : ClientSession) → t.here.session ≡ Some s → C t (cr.condemn t s)
   unfolding cr.condemn lease.condemned
-  c_condemn t s e = c_session t s _ e (record { date = refl; asked = refl })
+  c_condemn t s e = c_session t s _ e (alike_condemned t.here.store.extents s)
 
   c_granted : (t : Turn) (s : ClientSession) (ino : ℕ) (g : GrantNo) (mode : Mode) → t.here.session ≡ Some s → C t (cr.granted t s ino g mode)
   unfolding cr.granted
-  c_granted t s ino g mode e = c_session t s _ e (alike_then s (forget_wait ino s) _ (record { date = refl; asked = refl }) (alike_grant (forget_wait ino s) ino g mode))
+  c_granted t s ino g mode e = c_session t s _ e (granted_alike t.here.store.extents s ino g mode)
 
   c_queued : (t : Turn) (s : ClientSession) (ino : ℕ) (mode : Mode) → t.here.session ≡ Some s → C t (cr.queued t s now ino mode)
   unfolding cr.queued
-  c_queued t s ino mode e = c_session t s _ e (alike_wait s ino mode now)
+  c_queued t s ino mode e = c_session t s _ e (alike_wait t.here.store.extents s ino mode now)
 
   -- what is told of places is known
   c_rows : (ino : ℕ) (rows : List ExtentRow) (t : Turn) → Unasked t.here.session → C t (with_store (record t.here.store { extents = pages.with_known_rows ino rows t.here.store.extents }) t)
@@ -154,14 +172,19 @@ module _ (now : Stamp) where
     where
       go : (l : Option HeldLock) → C t (cr.drop_held t s ino l)
       go None = Still t
-      go (Some l) = c_session t s _ e (record { date = refl; asked = refl })
+      go (Some l) = one (Follows t s _ e (record { how = DropsLock s ino l; date = omega arith; asks = λ x q. inl q }))
 
   c_named : (t : Turn) (s : ClientSession) (file : Option ℕ) (reply : NameReply) → t.here.session ≡ Some s → C t (cr.named t s file reply)
   unfolding cr.named cr.named_as answer_each
-  c_named t s file reply e = both (k_each (is_asked t.here.server) (cr.name_answer reply) t) (go reply)
+  c_named t s file reply e = both (k_each (is_asked t.here.server) (cr.name_answer reply) t (quiet reply)) (go reply)
     where
       u : Turn
       u = answer_each (is_asked t.here.server) (cr.name_answer reply) t
+
+      quiet : (r : NameReply) → UnhardAnswer (cr.name_answer r)
+      quiet (Ino ino) = tt
+      quiet (Listed rows) = tt
+      quiet (Refused code) = tt
 
       go : (r : NameReply) → C u (cr.named_as u s file r)
       go (Ino ino) = c_removed u s file e
@@ -174,19 +197,19 @@ module _ (now : Stamp) where
     where
       at : (f : Option ℕ) → C t (cr.refuse_file t answers.NoFile f)
       at None = Still t
-      at (Some ino) = k_each (cr.works_on t ino) answers.NoFile t
+      at (Some ino) = k_each (cr.works_on t ino) answers.NoFile t tt
   c_refuse t why.TooManyLocks a b file asked = at file
     where
       at : (f : Option ℕ) → C t (cr.refuse_file t answers.TooManyLocks f)
       at None = Still t
-      at (Some ino) = k_each (cr.works_on t ino) answers.TooManyLocks t
+      at (Some ino) = k_each (cr.works_on t ino) answers.TooManyLocks t tt
   c_refuse t why.NoSpace a b file asked = at file (cs.page_asked asked)
     where
       at : (f : Option ℕ) (p : Option PageNo) → C t (cr.refuse_page t (answers.NoSpace a b) f p)
       at None p = Still t
       at (Some ino) None = Still t
-      at (Some ino) (Some p) = k_each (cr.writes_on t ino p) (answers.NoSpace a b) t
-  c_refuse t why.NotHolder a b file asked = if_changes (cs.asks_cut_or_remove asked) t _ _ (λ e. k_each (is_asked t.here.server) answers.NotHolder t) (λ e. Still t)
+      at (Some ino) (Some p) = k_each (cr.writes_on t ino p) (answers.NoSpace a b) t tt
+  c_refuse t why.NotHolder a b file asked = if_changes (cs.asks_cut_or_remove asked) t _ _ (λ e. k_each (is_asked t.here.server) answers.NotHolder t tt) (λ e. Still t)
   c_refuse t w a b file asked = Still t
 
   c_refused : (t : Turn) (w : Why) (a b : ℕ) (file : Option ℕ) (asked : Body) → C t (cr.refused t w a b file asked)
@@ -199,9 +222,9 @@ module _ (now : Stamp) where
   c_effect t s (bodies.Granted ino g mode) file asked e n f fr = c_granted t s ino g mode e
   c_effect t s (bodies.Queued ino mode) file asked e n f fr = c_queued t s ino mode e
   c_effect t s (bodies.Extents ino rows) file asked e n f fr = c_extents t s ino rows asked (subst Unasked (sym e) n) f fr
-  c_effect t s bodies.Ack file asked e n f fr = k_each (is_asked t.here.server) answers.Cut t
+  c_effect t s bodies.Ack file asked e n f fr = k_each (is_asked t.here.server) answers.Cut t tt
   c_effect t s (bodies.Named reply) file asked e n f fr = c_named t s file reply e
-  c_effect t s bodies.Reasserted file asked e n f fr = c_session t s _ e (record { date = refl; asked = refl })
+  c_effect t s bodies.Reasserted file asked e n f fr = one (Follows t s _ e (record { how = IsReasserted s; date = omega arith; asks = λ x q. inl q }))
   c_effect t s (bodies.Nack w a b) file asked e n f fr = c_refused t w a b file asked
   c_effect t s reply file asked e n f fr = Still t
 
@@ -214,11 +237,11 @@ module _ (now : Stamp) where
 
       ends : (u : Turn) → u.here.session ≡ Some s → Fresh u.here.store asked → C u (cr.effect (with_session ended u) ended now reply (cs.file_asked s.cutting asked) asked)
       ends u e fr =
-          both (one (Follows u s ended e (record { date = date_renewed stamp s.lease; asks = λ x q. absurd (no_page x q) })))
+          both (one (Follows u s ended e (record { how = EndsRequest s stamp; date = date_renewed stamp s.lease; asks = λ x q. absurd (no_page x q) })))
           (c_effect (with_session ended u) ended reply (cs.file_asked s.cutting asked) asked refl refl f fr)
 
       go : (b : Bool) → C t (cr.effect (with_session ended (if b then cr.note_lease (lease.renewed stamp s.lease) t else t)) ended now reply (cs.file_asked s.cutting asked) asked)
-      go true = both (one (Says t _ tt)) (ends (cr.note_lease (lease.renewed stamp s.lease) t) e fr)
+      go true = both (one (Says t _ tt refl)) (ends (cr.note_lease (lease.renewed stamp s.lease) t) e fr)
       go false = ends t e fr
 
   c_reply : (t : Turn) (s : ClientSession) (h : Header) (reply : Body) → t.here.session ≡ Some s → AskedFresh t.here.store s.requests.asked → C t (cr.reply_of t s now h reply)
@@ -242,12 +265,15 @@ module _ (now : Stamp) where
 
   c_demand : (t : Turn) (s : ClientSession) (ino : ℕ) (g : GrantNo) (to : Mode) → t.here.session ≡ Some s → C t (cr.demand t s ino g to)
   unfolding cr.demand cr.demand_by cr.demand_as cr.see_demand send
-  c_demand t s ino g to e = go (locks.demand s.locks ino g to).locks (locks.demand s.locks ino g to).asked
+  c_demand t s ino g to e = go (locks.demand s.locks ino g to).asked
     where
-      go : (l : locks.LockCache) (a : Asked) → C t (cr.demand_as t (with_cache l s) ino g a)
-      go l Reduce = both (c_session t s (with_cache l s) e (record { date = refl; asked = refl })) (one (Says (with_session (with_cache l s) t) _ tt))
-      go l NotHeld = c_session t s _ e (alike_then s (with_cache l s) _ (record { date = refl; asked = refl }) (alike_release (with_cache l s) ino g))
-      go l Stale = Still t
+      r : ClientSession
+      r = with_cache (locks.demand s.locks ino g to).locks s
+
+      go : (a : Asked) → C t (cr.demand_as t r ino g a)
+      go Reduce = both (c_session t s r e (alike_demanded t.here.store.extents s ino g to)) (one (Says (with_session r t) _ tt refl))
+      go NotHeld = c_session t s _ e (alike_unheld t.here.store.extents s ino g to)
+      go Stale = Still t
 
   c_of_epoch : (t : Turn) (s : ClientSession) (h : Header) (body : Body) → t.here.session ≡ Some s → AskedFresh t.here.store s.requests.asked → C t (cr.of_epoch t s now h body)
   unfolding cr.of_epoch cr.grant_or_reply

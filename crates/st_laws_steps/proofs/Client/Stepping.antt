@@ -267,11 +267,16 @@ pub record LostOrNot (k : Config) (now : Stamp) (a b : Association) : Type 0 whe
   pub emptied : is_ended k now a.session ≡ true → b.store ≡ pages.empty_store
   pub going : is_ended k now b.session ≡ false
 
-empty_fit : (a : Association) → Fit (cl.emptied a)
+pub empty_fit : (a : Association) → Fit (cl.emptied a)
 empty_fit a = record { mapped = λ ino p d e. absurd (none d e); fresh = tt }
   where
     none : (d : DirtyPage) → ◌≡◌ {A = Option DirtyPage} None (Some d) → ⊥
     none d e = cc
+
+-- a loss leaves what fits
+pub lost_fit : (now : Stamp) (t u : Turn) → Loses now t u → Fit t.here → Fit u.here
+lost_fit now t _ (Lasts n) f = f
+lost_fit now t _ (IsLost x i n v m) f = empty_fit v.here
 
 lose_left : (c : ClientId) (s : ClientState) (k : Config) (now : Stamp) (t u : Turn) → t.config ≡ k → s.config ≡ k → Loses now t u → Left (LostOrNot k now) (row_lost c s now) (ended_rows c s) t u
 unfolding row_lost ended_rows

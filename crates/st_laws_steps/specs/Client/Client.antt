@@ -4,6 +4,7 @@ use Rattle.st_base.specs.declared.ids.FileId.{FileId}
 use Rattle.st_base.specs.declared.ids.PageNo.{PageNo}
 use Rattle.st_base.specs.declared.ids.Stamp.{Stamp}
 use Rattle.st_messages.specs.declared.answer.AppAnswer.{AppAnswer}
+use Rattle.st_messages.specs.declared.answer.AppAnswer.TheVariants as answers
 use Rattle.st_messages.specs.declared.message.Body.{Body}
 use Rattle.st_messages.specs.declared.message.Body.TheVariants as bodies
 use Rattle.st_messages.specs.declared.output.Note.{Note}
@@ -22,6 +23,7 @@ use Rattle.st_rules.specs.ClientPages as pages
 use Rattle.st_rules.specs.ClientPages.{Store}
 use Rattle.st_rules.specs.ClientPasses as passes
 use Rattle.st_rules.specs.ClientState.{ClientSession, Turn, with_session, with_store, with_operations, with_lost_rows, say, note, answer_to, is_serving}
+use Rattle.st_laws_steps.specs.Client.Session.{SessionChange}
 
 -- a note that neither changes the log nor ends a life
 abbrev pub PlainNote : Note → Type 0
@@ -57,8 +59,19 @@ map_asked (Some q) = map_in q.body
 abbrev pub Asks : Store → Option Request → Option Request → Type 0
 Asks st old new = (x : ℕ × PageNo) → map_asked new ≡ Some x → (map_asked old ≡ Some x) ⊎ (pages.known_of st.extents x.0 x.1 ≡ None)
 
--- A session that goes on: its lease is dated no earlier than before.
+-- another answer than hard
+abbrev pub UnhardAnswer : AppAnswer → Type 0
+UnhardAnswer answers.Hard = ⊥
+UnhardAnswer a = Unit {0}
+
+-- no sync is answered hard
+abbrev pub Unhard : Output → Type 0
+Unhard (outputs.Answer op a) = UnhardAnswer a
+Unhard o = Unit {0}
+
+-- A session that goes on, and how: its lease is dated no earlier than before.
 pub record GoesOn (st : Store) (s u : ClientSession) : Type 0 where
+  pub how : SessionChange st s u
   pub date : s.lease.date.0 ≤ u.lease.date.0
   pub asks : Asks st s.requests.asked u.requests.asked
 

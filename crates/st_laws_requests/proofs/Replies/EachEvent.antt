@@ -1,0 +1,202 @@
+-- An event of the world, walked once for what it leaves: from what a step of a client and of a server, a crash and a start leave, and from every
+-- world with the same clients, servers and messages.
+use Rattle.std.proofs.Common.{◌≡◌, ◌≢◌, ℕ, ◌+◌, ◌≤◌, ◌⊎◌, Bool, true, false, List, [], ◌∷◌, ◌++◌, Option, Some, None, Result, Ok, Err, refl, sym, ap, ◌∙◌, subst, inl, inr, arith, if◌then◌else◌}
+use Rattle.std.specs.Prelude.{map, zero, suc, set, slice_get}
+use Rattle.st_base.specs.declared.ids.ClientId.{ClientId}
+use Rattle.st_base.specs.declared.ids.ServerId.{ServerId}
+use Rattle.st_base.specs.declared.ids.Stamp.{Stamp}
+use Rattle.st_base.specs.declared.ids.NodeId.{NodeId}
+use Rattle.st_base.specs.declared.ids.NodeId.TheVariants as nodes
+use Rattle.st_messages.specs.declared.ask.Ask.{Ask}
+use Rattle.st_messages.specs.declared.message.Message.{Message}
+use Rattle.st_messages.specs.declared.event.Event.{Event}
+use Rattle.st_messages.specs.declared.event.Event.TheVariants as events
+use Rattle.st_messages.specs.declared.output.Output.TheVariants as outputs
+use Rattle.st_rules.specs.declared.client.ClientInput.{ClientInput}
+use Rattle.st_rules.specs.declared.client.ClientInput.TheVariants as inputs
+use Rattle.st_rules.specs.declared.input.ServerInput.{ServerInput}
+use Rattle.st_rules.specs.declared.input.ServerInput.TheVariants as serving
+use Rattle.st_rules.specs.declared.node.StepRefusal.TheVariants.{Crashed}
+use Rattle.st_rules.specs.declared.world.IssuedCommand.{IssuedCommand}
+use Rattle.st_rules.specs.declared.world.SentMessage.{SentMessage}
+use Rattle.st_rules.specs.Keys.{client, server_node}
+use Rattle.st_rules.specs.Client as cl
+use Rattle.st_rules.specs.ClientState.{ClientTurn}
+use Rattle.st_rules.specs.Events as ev
+use Rattle.st_rules.specs.Events.{WorldTurn, world_step, client_says_all, server_says_all}
+use Rattle.st_rules.specs.History.{Traced, traced, traced_after}
+use Rattle.st_rules.specs.declared.observation.WorldRefusal.{WorldRefusal}
+use Rattle.st_rules.specs.Sessions as sessions
+use Rattle.st_rules.specs.Server as server
+use Rattle.st_rules.specs.Server.{ServerNode}
+use Rattle.st_rules.specs.World as world
+use Rattle.st_rules.specs.World.{World, ClientSite, fresh_world, site_of, node_of, numbered, with_numbered, clock_of}
+use Rattle.st_rules.specs.Safety as safety
+use Rattle.st_rules.specs.Safety.{Step, Throughout, step, steps}
+use Rattle.st_lemmas.specs.Lists.{Has}
+use Rattle.st_lemmas.proofs.Lookups.{some_is}
+use Rattle.st_lemmas.proofs.Numbers.{numbered_below, numbered_has, numbered_other, numbered_own}
+use Rattle.st_lemmas.proofs.Tables.{has_map_in, same_or_not}
+use Rattle.st_laws_leases.specs.Dates.Dates.{Dated, message_in, messages}
+use Rattle.st_laws_leases.proofs.Dates.Said.{Alike, Said, client_said, flushed, server_said}
+use Rattle.st_laws_leases.proofs.Dates.Steps.{has_numbered}
+use Rattle.st_lemmas.proofs.Steps.{step_happens}
+use Rattle.st_laws_leases.proofs.Dates.Hearing.{Ever, Held, ever_on, step_held}
+use Rattle.st_laws_leases.proofs.Dates.Law as dates
+use Rattle.st_laws_requests.specs.Replies.Reached.{AtMessage, AtReceiver, AtServer, InputNew, IsBehind, NewOwed, ReassertionsNew, Refusal, RepliesAfter, RepliesAreReached, RepliesSay, Says}
+use Rattle.st_laws_requests.proofs.Replies.Served.{Refused, Served, served}
+
+-- a lost message is the same message
+map_set : {A B : Type 0} (f : A → B) (xs : List A) (n : ℕ) (y z : A) → f z ≡ f y → slice_get xs n ≡ Some y → map f (set xs n z) ≡ map f xs
+map_set f [] n y z e q = cc
+map_set f (x ∷ xs) zero y z e q = ap (λ v. v ∷ map f xs) (e ∙ ap f (sym (some_is q)))
+map_set f (x ∷ xs) (suc n) y z e q = ap (λ v. f x ∷ v) (map_set f xs n y z e q)
+
+lost_same : (w : World) (k : ℕ) (m : SentMessage) → world.message_of w k ≡ Some m → messages (ev.with_lost k m w) ≡ messages w
+lost_same w zero m e = cc
+lost_same w (suc n) m e = map_set message_in w.net.messages n m (record m { lost = true }) refl e
+
+-- a message that comes to a client, or to a server, was sent
+abbrev pub Comes : World → ClientInput → Type 0
+Comes t (inputs.Control m) = Has m (messages t)
+Comes t i = Unit {0}
+
+abbrev pub Brings : World → ServerInput → Type 0
+Brings t serving.Tick = Unit {0}
+Brings t (serving.Control m) = Has m (messages t)
+
+module _ (t : World) (R : World → Type 0)
+    (alike : (v : World) → v.clients ≡ t.clients → v.servers ≡ t.servers → messages v ≡ messages t → R v)
+    (client_step : (v : World) → v.clients ≡ t.clients → v.servers ≡ t.servers → v.net ≡ t.net → (c : ClientId) (i : ClientInput) (site old : ClientSite) → site.node ≡ old.node → site_of t c ≡ Some old → Comes t i →
+    R (ev.client_takes v c i site).world)
+    (server_step : (s : ServerId) (i : ServerInput) (node : ServerNode) → node_of t s ≡ Some node → Brings t i →
+    InputNew (server.thefts (server.turn node.state []) (clock_of (ev.counted t) (nodes.Server s))) (clock_of (ev.counted t) (nodes.Server s)) i → R (ev.server_takes (ev.counted t) s i node).world)
+    (stopped : (c : ClientId) (site : ClientSite) → site_of t c ≡ Some site → R (ev.crashes_client (ev.counted t) c (Some site)).world)
+    (begun : (c : ClientId) (site : ClientSite) → site_of t c ≡ Some site → R (ev.starts_client (ev.counted t) c (Some site)))
+    (crashed : (s : ServerId) (node : ServerNode) → node_of t s ≡ Some node → R (ev.crashes_server (ev.counted t) s (Some node)))
+    (started : (s : ServerId) (node : ServerNode) → node_of t s ≡ Some node → R (ev.starts_server (ev.counted t) s (Some node))) where
+  w : World
+  w = ev.counted t
+
+  at_client : (c : ClientId) (i : ClientInput) → Comes t i → R (ev.at_client w c i (site_of w c)).world
+  unfolding ev.at_client w
+  at_client c i k = go (site_of w c) refl
+    where
+      go : (o : Option ClientSite) → site_of w c ≡ o → R (ev.at_client w c i o).world
+      go None r = alike w refl refl refl
+      go (Some site) r = client_step w refl refl refl c i site site refl r k
+
+  at_server : (s : ServerId) (i : ServerInput) → Brings t i → ((node : ServerNode) → node_of w s ≡ Some node → InputNew (server.thefts (server.turn node.state []) (clock_of w (nodes.Server s))) (clock_of w (nodes.Server s)) i) → R (ev.at_server w s i (node_of w s)).world
+  unfolding ev.at_server w
+  at_server s i k owed = go (node_of w s) refl
+    where
+      go : (o : Option ServerNode) → node_of w s ≡ o → R (ev.at_server w s i o).world
+      go None r = alike w refl refl refl
+      go (Some node) r = server_step s i node r k (owed node r)
+
+  asks_happen : (c : ClientId) (ask : Ask) → R (ev.asks_at w c ask (site_of w c)).world
+  unfolding ev.asks_at w
+  asks_happen c ask = go (site_of w c) refl
+    where
+      go : (o : Option ClientSite) → site_of w c ≡ o → R (ev.asks_at w c ask o).world
+      go None r = alike w refl refl refl
+      go (Some site) r = client_step w refl refl refl c (inputs.App (site.asks + 1) ask) (ev.asked_once_more site) site refl r tt
+
+  delivers : (k : ℕ) → AtMessage w (world.message_of w k) → R (ev.delivers w (world.message_of w k)).world
+  unfolding ev.delivers ev.delivers_to w
+  delivers k = go (world.message_of w k) refl
+    where
+      to : (m : Message) (n : NodeId) → Has m (messages t) → AtReceiver w m n → R (ev.delivers_to w m n).world
+      to m (nodes.Client c) h f = at_client c (inputs.Control m) h
+      to m (nodes.Server s) h f = at_server s (serving.Control m) h (λ node q. subst (AtServer w m s) q f)
+
+      go : (o : Option SentMessage) → world.message_of w k ≡ o → AtMessage w o → R (ev.delivers w o).world
+      go None q f = alike w refl refl refl
+      go (Some m) q f = to m.message (world.receiver_of m) (has_map_in message_in t.net.messages m (numbered_has t.net.messages k m q)) f
+
+  loses : (k : ℕ) → R (ev.loses_message w k (world.message_of w k))
+  unfolding ev.loses_message w
+  loses k = go (world.message_of w k) refl
+    where
+      go : (o : Option SentMessage) → world.message_of w k ≡ o → R (ev.loses_message w k o)
+      go None q = alike w refl refl refl
+      go (Some m) q = alike (ev.with_lost k m w) refl refl (lost_same w k m q)
+
+  reports : (k : ℕ) (ok : Bool) → R (ev.reports_of w k ok).world
+  unfolding ev.reports_of ev.tells ev.tells_client ev.tells_site w
+  reports k ok = go (world.issued_of w k)
+    where
+      v : World
+      v = ev.with_disks (ev.disks_after w.disks (Rattle.st_rules.specs.Disks.done w.disks k ok)) w
+
+      none : R v
+      none = alike v refl refl refl
+
+      comes : (x : IssuedCommand) → Comes t (ev.end_told v k ok x)
+      comes x = tt
+
+      same : (x : IssuedCommand) (site : ClientSite) → site_of w x.client ≡ Some site → (b : Bool) → R (if b then ev.client_takes v x.client (ev.end_told v k ok x) site else ev.quiet v).world
+      same x site q true = client_step v refl refl refl x.client (ev.end_told v k ok x) site site refl q (comes x)
+      same x site q false = none
+
+      at : (x : IssuedCommand) (o : Option ClientSite) → site_of w x.client ≡ o → R (ev.tells_client v k ok x o).world
+      at x None q = none
+      at x (Some site) q = same x site q (ev.is_same_instance x site)
+
+      go : (o : Option IssuedCommand) → R (ev.tells v k ok o).world
+      go None = none
+      go (Some x) = at x (site_of w x.client) refl
+
+  crashes_client : (c : ClientId) → R (ev.crashes_client w c (site_of w c)).world
+  unfolding ev.crashes_client ev.marks w
+  crashes_client c = go (site_of w c) refl
+    where
+      go : (o : Option ClientSite) → site_of w c ≡ o → R (ev.crashes_client w c o).world
+      go None q = alike w refl refl refl
+      go (Some site) q = stopped c site q
+
+  starts_client : (c : ClientId) → R (ev.starts_client w c (site_of w c))
+  unfolding ev.starts_client w
+  starts_client c = go (site_of w c) refl
+    where
+      go : (o : Option ClientSite) → site_of w c ≡ o → R (ev.starts_client w c o)
+      go None q = alike w refl refl refl
+      go (Some site) q = begun c site q
+
+  crashes_server : (s : ServerId) → R (ev.crashes_server w s (node_of w s))
+  unfolding ev.crashes_server w
+  crashes_server s = go (node_of w s) refl
+    where
+      go : (o : Option ServerNode) → node_of w s ≡ o → R (ev.crashes_server w s o)
+      go None q = alike w refl refl refl
+      go (Some node) q = crashed s node q
+
+  starts_server : (s : ServerId) → R (ev.starts_server w s (node_of w s))
+  unfolding ev.starts_server w
+  starts_server s = go (node_of w s) refl
+    where
+      go : (o : Option ServerNode) → node_of w s ≡ o → R (ev.starts_server w s o)
+      go None q = alike w refl refl refl
+      go (Some node) q = started s node q
+
+  happens : (e : Event) → NewOwed w e → R (ev.happens w e).world
+  unfolding ev.happens ev.ticks ev.crashes ev.starts ev.advances ev.effects ev.marks w
+  happens (events.Tick (nodes.Client c)) f = at_client c inputs.Tick tt
+  happens (events.Tick (nodes.Server s)) f = at_server s serving.Tick tt (λ node q. tt)
+  happens (events.App c ask) f = asks_happen c ask
+  happens (events.Deliver k) f = delivers k f
+  happens (events.Lose k) f = loses k
+  happens (events.Cut from to) f = alike (ev.happens w (events.Cut from to)).world refl refl refl
+  happens (events.Heal from to) f = alike (ev.happens w (events.Heal from to)).world refl refl refl
+  happens (events.Advance steps) f = alike (ev.happens w (events.Advance steps)).world refl refl refl
+  happens (events.Effect k) f = alike (ev.happens w (events.Effect k)).world refl refl refl
+  happens (events.Report k ok) f = reports k ok
+  happens (events.Crash (nodes.Client c)) f = crashes_client c
+  happens (events.Crash (nodes.Server s)) f = crashes_server s
+  happens (events.Start (nodes.Client c)) f = starts_client c
+  happens (events.Start (nodes.Server s)) f = starts_server s
+
+  -- an event that happens
+  pub event_leaves : (e : Event) (sc : WorldTurn) → NewOwed (ev.counted t) e → world_step t e ≡ Ok sc → R sc.world
+  unfolding w
+  event_leaves e sc f h = let z = step_happens t e sc h in subst (λ (x : WorldTurn). R x.world) (sym z.1) (happens e f)
