@@ -5,6 +5,7 @@ pub mod Events
 pub mod Hearing
 pub mod Law
 pub mod Passing
+pub mod Raising
 pub mod Reading
 pub mod Robbing
 pub mod Servers

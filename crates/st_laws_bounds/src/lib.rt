@@ -2,6 +2,7 @@
 #![tactic(auto)]
 
 ghost use Rattle.st_laws_bounds.specs.Counters.Counts.{ClientsFew, LocksFew, ReadsFew, ServersFew, TheftsFew};
+ghost use Rattle.st_laws_bounds.specs.Counters.Raised.{FreshClientsBegin, StepsRaiseLittle};
 ghost use Rattle.st_laws_bounds.specs.Counters.Reached.{InEveryReached};
 ghost use Rattle.st_laws_bounds.specs.FewMessages.Few.{EventsHaveLines, RunsAreFew};
 ghost use Rattle.st_laws_bounds.specs.Generated.ReadBack.{HeadIsRead, TextIsRead, TextIsReplayed, TextIsReported};
@@ -36,6 +37,13 @@ pub fn reads_are_few()
 /// In every reached world there were at most sixteen thefts for each event.
 pub fn thefts_are_few()
     ensures { InEveryReached TheftsFew }
+{}
+
+/// A step raises no counter of a client by more than 2^15, whatever its input is: those of its commands, and of its page versions,
+/// lives and requests at each server (`steps`). The counters of a fresh client are 1 (`fresh`).
+pub fn client_steps_raise_little()
+    ensures steps { StepsRaiseLittle }
+    ensures fresh { FreshClientsBegin }
 {}
 
 /// The run of a generated schedule of at most 100,000 events sends at most 4,294,967,295 messages and submits at most as many commands.

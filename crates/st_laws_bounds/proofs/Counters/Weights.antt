@@ -36,6 +36,51 @@ abbrev pub of_loss : Output → ℕ
 of_loss (outputs.Note n) = note_of_loss n
 of_loss o = 0
 
+-- whatever raises a counter, but for a message
+abbrev pub note_of_rise : Note → ℕ
+note_of_rise (notes.Accepted f p bytes) = 1
+note_of_rise (notes.Patched f p at bytes) = 1
+note_of_rise (notes.Lost s life) = 1
+note_of_rise n = 0
+
+abbrev pub of_rise : Output → ℕ
+of_rise (outputs.Submit number at what) = 1
+of_rise (outputs.Note n) = note_of_rise n
+of_rise o = 0
+
+pub note_rises : (n : Note) → note_of_rise n ≤ 1
+note_rises (notes.Accepted f p bytes) = omega arith
+note_rises (notes.Patched f p at bytes) = omega arith
+note_rises (notes.Lost s life) = omega arith
+note_rises n = omega arith
+
+note_changes : (n : Note) → note_of_change n ≤ note_of_rise n
+note_changes (notes.Accepted f p bytes) = omega arith
+note_changes (notes.Patched f p at bytes) = omega arith
+note_changes (notes.Lost s life) = omega arith
+note_changes n = omega arith
+
+note_loses : (n : Note) → note_of_loss n ≤ note_of_rise n
+note_loses (notes.Accepted f p bytes) = omega arith
+note_loses (notes.Patched f p at bytes) = omega arith
+note_loses (notes.Lost s life) = omega arith
+note_loses n = omega arith
+
+command_rises : (o : Output) → of_command o ≤ of_rise o
+command_rises (outputs.Submit number at what) = omega arith
+command_rises (outputs.Note n) = omega arith
+command_rises o = omega arith
+
+change_rises : (o : Output) → of_change o ≤ of_rise o
+change_rises (outputs.Submit number at what) = omega arith
+change_rises (outputs.Note n) = note_changes n
+change_rises o = omega arith
+
+loss_rises : (o : Output) → of_loss o ≤ of_rise o
+loss_rises (outputs.Submit number at what) = omega arith
+loss_rises (outputs.Note n) = note_loses n
+loss_rises o = omega arith
+
 -- what outputs weigh together
 abbrev pub weigh : (Output → ℕ) → List Output → ℕ
 weigh f [] = 0
@@ -44,6 +89,20 @@ weigh f (o ∷ os) = f o + weigh f os
 pub weigh_both : (f : Output → ℕ) (os ps : List Output) → weigh f (os ++ ps) ≡ weigh f os + weigh f ps
 weigh_both f [] ps = omega arith
 weigh_both f (o ∷ os) ps = let z = weigh_both f os ps in omega (arith, z)
+
+weigh_less : (f g : Output → ℕ) → ((o : Output) → f o ≤ g o) → (os : List Output) → weigh f os ≤ weigh g os
+weigh_less f g l [] = omega arith
+weigh_less f g l (o ∷ os) = let x = l o in let y = weigh_less f g l os in omega (arith, x, y)
+
+-- each kind weighs no more than whatever raises a counter
+pub commands_rise : (os : List Output) → weigh of_command os ≤ weigh of_rise os
+commands_rise os = weigh_less of_command of_rise command_rises os
+
+pub changes_rise : (os : List Output) → weigh of_change os ≤ weigh of_rise os
+changes_rise os = weigh_less of_change of_rise change_rises os
+
+pub losses_rise : (os : List Output) → weigh of_loss os ≤ weigh of_rise os
+losses_rise os = weigh_less of_loss of_rise loss_rises os
 
 pub weigh_more : (f : Output → ℕ) (os ps : List Output) → weigh f os ≤ weigh f (os ++ ps)
 weigh_more f os ps = let z = weigh_both f os ps in omega (arith, z)

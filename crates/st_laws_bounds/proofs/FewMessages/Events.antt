@@ -39,7 +39,7 @@ use Rattle.st_laws_bounds.proofs.FewMessages.Stepping.{Few, Steps, step_costs}
 pub record Low (n : ℕ) (w : World) : Type 0 where
   pub clients : (c : ClientId) (site : ClientSite) → site_of w c ≡ Some site → Few site.node.state
   pub waits : (s : ServerId) (node : ServerNode) → node_of w s ≡ Some node → length node.state.locks.waiters ≤ n
-  pub commands : length w.commands ≤ 16464 * n
+  pub commands : length w.commands ≤ 16468 * n
 
 -- the same nodes, and as many commands
 low_same : (m n : ℕ) (w v : World) → m ≤ n → v.clients ≡ w.clients → v.servers ≡ w.servers → length v.commands ≡ length w.commands → Low m w → Low n v
@@ -52,7 +52,7 @@ low_same m n w v l cs ss e h =
 
 -- one client is another
 client_other : (n : ℕ) (w v : World) (c : ClientId) (old new : ClientSite) → site_of w c ≡ Some old → v.clients ≡ with_numbered c.0 new w.clients → v.servers ≡ w.servers → Few new.node.state →
-    length v.commands ≤ 16464 + length w.commands → Low n w → Low (n + 1) v
+    length v.commands ≤ 16468 + length w.commands → Low n w → Low (n + 1) v
 client_other n w v c old new there cs ss own more h =
     record {
       clients = λ d site e. go d site e (same_or_not d.0 c.0);

@@ -1,4 +1,4 @@
--- What a client hears, asks and loses: no command, and one message at most.
+-- What a client hears, asks and loses: no command and no change, one loss, and one message at most.
 use Rattle.std.proofs.Common.{◌≡◌, ℕ, ◌+◌, ◌≤◌, Bool, true, false, ◌==◌, List, [], ◌∷◌, ◌++◌, Option, Some, None, refl, sym, subst, arith, if◌then◌else◌}
 use Rattle.std.specs.Prelude.{filter, length, map, not}
 use Rattle.st_base.specs.declared.disk.Tag.{Tag}
@@ -42,11 +42,11 @@ use Rattle.st_rules.specs.ClientState as state
 use Rattle.st_rules.specs.ClientState.{ClientSession, Turn, answer_each, send, with_session}
 use Rattle.st_laws_bounds.proofs.Counters.Reading.{same_many}
 use Rattle.st_laws_bounds.proofs.Counters.Servers.{fewer}
-use Rattle.st_laws_bounds.proofs.Counters.Weights.{of_command, of_message, weigh, weigh_both}
+use Rattle.st_laws_bounds.proofs.Counters.Weights.{of_rise, of_message, weigh, weigh_both}
 use Rattle.st_laws_bounds.proofs.FewMessages.Passing.{C, Costs, c_after, c_answers, c_answers_one, c_if, c_keep, c_none, c_says, c_sends}
 
 -- notes are said
-c_quiet : (t : Turn) (os : List Output) → weigh of_command os ≡ 0 → weigh of_message os ≡ 0 → C 0 0 0 t (record t { out = t.out ++ os })
+c_quiet : (t : Turn) (os : List Output) → weigh of_rise os ≡ 0 → weigh of_message os ≡ 0 → C 0 0 0 t (record t { out = t.out ++ os })
 c_quiet t os e f = c_says 0 0 0 0 0 t os e f (omega arith) (omega arith)
 
 -- what costs nothing costs one message at most
@@ -282,22 +282,22 @@ unfolding cl.end_each
 c_end_each s [] t = c_none 0 0 0 t
 c_end_each s (o ∷ os) t = c_after 0 0 0 t (cl.end_operation t s o) (cl.end_each s os (cl.end_operation t s o)) (c_end t s o) (c_end_each s os (cl.end_operation t s o))
 
-pub c_lose : (now : Stamp) (t : Turn) → C 0 0 0 t (cl.lose now t)
+pub c_lose : (now : Stamp) (t : Turn) → C 0 1 0 t (cl.lose now t)
 unfolding cl.lose cl.lose_by cl.lose_over cl.lose_session cl.end_operations
 c_lose now t = go t.here.session
   where
     begun : Turn
     begun = state.with_operations (filter (λ o. not (state.is_of t.here.server o)) t.operations) (cl.with_lost_pages t.here.store (state.note t (notes.Lost t.here.server t.here.life)))
 
-    session : (s : ClientSession) → C 0 0 0 t (cl.lose_session t s)
+    session : (s : ClientSession) → C 0 1 0 t (cl.lose_session t s)
     session s =
         let z = c_end_each s (filter (state.is_of t.here.server) t.operations) begun in
         let a = z.ops in let b = z.commands in let c = z.messages in
-        let d = weigh_both of_command t.out (outputs.Note (notes.Lost t.here.server t.here.life) ∷ []) in
+        let d = weigh_both of_rise t.out (outputs.Note (notes.Lost t.here.server t.here.life) ∷ []) in
         let e = weigh_both of_message t.out (outputs.Note (notes.Lost t.here.server t.here.life) ∷ []) in
         let f = fewer (λ o. not (state.is_of t.here.server o)) t.operations in
         record { ops = omega (arith, a, f); dirty = λ h. omega arith; commands = omega (arith, b, d); messages = omega (arith, c, e) }
 
-    go : (o : Option ClientSession) → C 0 0 0 t (cl.lose_by t now o)
-    go None = c_none 0 0 0 t
-    go (Some s) = c_if 0 0 0 t (cl.is_over t s now) _ t (session s) (c_none 0 0 0 t)
+    go : (o : Option ClientSession) → C 0 1 0 t (cl.lose_by t now o)
+    go None = c_none 0 1 0 t
+    go (Some s) = c_if 0 1 0 t (cl.is_over t s now) _ t (session s) (c_none 0 1 0 t)

@@ -1,4 +1,5 @@
--- The passes of a client at a server: at most one command for each operation and each dirty page, and two messages.
+-- The passes of a client at a server: at most one command or change for each operation, one command for each dirty page, and two messages.
+-- Commands, changes and losses are counted together, by what raises a counter.
 use Rattle.std.proofs.Common.{◌≡◌, ℕ, ◌+◌, ◌*◌, ◌≤◌, ◌<◌, Bool, true, false, List, [], ◌∷◌, ◌++◌, Option, Some, None, Ok, Err, refl, sym, subst, arith, if◌then◌else◌}
 use Rattle.std.specs.Prelude.{length, filter, map, not, nat_le}
 use Rattle.std.proofs.lemmas.Bool.{leb-false}
@@ -34,7 +35,7 @@ use Rattle.st_rules.specs.ClientState as state
 use Rattle.st_rules.specs.ClientState.{ClientSession, Turn, answer_each, is_open_file, keep, send}
 use Rattle.st_laws_bounds.proofs.Counters.Reading.{AsMany, first_many, length_both, same_many}
 use Rattle.st_laws_bounds.proofs.Counters.Servers.{fewer, flat_many}
-use Rattle.st_laws_bounds.proofs.Counters.Weights.{of_command, of_message, weigh, weigh_both}
+use Rattle.st_laws_bounds.proofs.Counters.Weights.{note_rises, of_message, of_rise, weigh, weigh_both}
 use Rattle.st_laws_bounds.proofs.FewMessages.Lengths.{put_few, rising_length}
 
 -- What a rule leaves: at most so many more operations are pending, at most 64 pages are dirty where they were, and at most so many
@@ -42,7 +43,7 @@ use Rattle.st_laws_bounds.proofs.FewMessages.Lengths.{put_few, rising_length}
 pub record Costs (k c m : ℕ) (os : List Operation) (ds : List DirtyPage) (out : List Output) (os2 : List Operation) (ds2 : List DirtyPage) (out2 : List Output) : Type 0 where
   pub ops : length os2 ≤ k + length os
   pub dirty : length ds ≤ 64 → length ds2 ≤ 64
-  pub commands : weigh of_command out2 ≤ c + weigh of_command out
+  pub commands : weigh of_rise out2 ≤ c + weigh of_rise out
   pub messages : weigh of_message out2 ≤ m + weigh of_message out
 
 abbrev pub C : ℕ → ℕ → ℕ → Turn → Turn → Type 0
@@ -74,19 +75,19 @@ c_if k c m t false u v f g = g
 
 -- more is said, so many commands and messages of it
 costs_say : (k c m i j : ℕ) (ops ops2 : List Operation) (dirty dirty2 : List DirtyPage) (out os : List Output) → length ops2 ≤ k + length ops → (length dirty ≤ 64 → length dirty2 ≤ 64) →
-    weigh of_command os ≡ i → weigh of_message os ≡ j → i ≤ c → j ≤ m → Costs k c m ops dirty out ops2 dirty2 (out ++ os)
+    weigh of_rise os ≡ i → weigh of_message os ≡ j → i ≤ c → j ≤ m → Costs k c m ops dirty out ops2 dirty2 (out ++ os)
 costs_say k c m i j ops ops2 dirty dirty2 out os l d e f p q =
-    let x = weigh_both of_command out os in let y = weigh_both of_message out os in
+    let x = weigh_both of_rise out os in let y = weigh_both of_message out os in
     record { ops = l; dirty = d; commands = omega (arith, x, e, p); messages = omega (arith, y, f, q) }
 
-pub c_says : (k c m i j : ℕ) (t : Turn) (os : List Output) → weigh of_command os ≡ i → weigh of_message os ≡ j → i ≤ c → j ≤ m → C k c m t (record t { out = t.out ++ os })
+pub c_says : (k c m i j : ℕ) (t : Turn) (os : List Output) → weigh of_rise os ≡ i → weigh of_message os ≡ j → i ≤ c → j ≤ m → C k c m t (record t { out = t.out ++ os })
 c_says k c m i j t os e f p q = costs_say k c m i j t.operations t.operations t.here.store.pages.dirty t.here.store.pages.dirty t.out os (omega arith) (λ h. h) e f p q
 
 -- an answer, and a message
 pub c_answers_one : (k c : ℕ) (t : Turn) (op : ℕ) (a : AppAnswer) → C k c 0 t (state.answered t op a)
 c_answers_one k c t op a = c_says k c 0 0 0 t (outputs.Answer op a ∷ []) refl refl (omega arith) (omega arith)
 
-pub c_sends : (t : Turn) (os : List Output) → weigh of_command os ≡ 0 → weigh of_message os ≡ 1 → C 0 0 1 t (record t { out = t.out ++ os })
+pub c_sends : (t : Turn) (os : List Output) → weigh of_rise os ≡ 0 → weigh of_message os ≡ 1 → C 0 0 1 t (record t { out = t.out ++ os })
 c_sends t os e f = c_says 0 0 1 0 1 t os e f (omega arith) (omega arith)
 
 -- one more operation is pending
@@ -94,7 +95,7 @@ pub c_keep : (c m : ℕ) (o : Operation) (t u : Turn) → C 0 c m t u → C 1 c 
 c_keep c m o t u x = let a = x.ops in let z = length_both u.operations (o ∷ []) in record { ops = omega (arith, a, z); dirty = x.dirty; commands = x.commands; messages = x.messages }
 
 -- operations are answered
-no_commands : (a : AppAnswer) (os : List Operation) → weigh of_command (map (state.answer_to a) os) ≡ 0
+no_commands : (a : AppAnswer) (os : List Operation) → weigh of_rise (map (state.answer_to a) os) ≡ 0
 no_commands a [] = refl
 no_commands a (o ∷ os) = let z = no_commands a os in omega (arith, z)
 
@@ -105,7 +106,7 @@ no_messages a (o ∷ os) = let z = no_messages a os in omega (arith, z)
 pub c_answers : (picked : Operation → Bool) (a : AppAnswer) (t : Turn) → C 0 0 0 t (answer_each picked a t)
 unfolding answer_each
 c_answers picked a t =
-    let x = weigh_both of_command t.out (map (state.answer_to a) (filter picked t.operations)) in
+    let x = weigh_both of_rise t.out (map (state.answer_to a) (filter picked t.operations)) in
     let y = weigh_both of_message t.out (map (state.answer_to a) (filter picked t.operations)) in
     let e = no_commands a (filter picked t.operations) in let f = no_messages a (filter picked t.operations) in
     let g = fewer (λ o. not (picked o)) t.operations in
@@ -131,12 +132,12 @@ c_change t o f p bytes n = go (pages.is_full_for t.here.store.pages f.ino p) ref
     go : (b : Bool) → nat_le 64 (length (pages.without_dirty f.ino p dirty)) ≡ b → C 1 1 0 t (cp.change_by t o f p n (if b then Err refusals.DirtyFull else Ok (pages.written t.here.store.pages f.ino p bytes)))
     go true e = c_answers_one 1 1 t o.op _
     go false e =
-        let a = weigh_both of_command t.out (outputs.Note n ∷ []) in let b = weigh_both of_command (t.out ++ outputs.Note n ∷ []) (outputs.Answer o.op answers.Written ∷ []) in
+        let a = weigh_both of_rise t.out (outputs.Note n ∷ []) in let b = weigh_both of_rise (t.out ++ outputs.Note n ∷ []) (outputs.Answer o.op answers.Written ∷ []) in
         let c = weigh_both of_message t.out (outputs.Note n ∷ []) in let d = weigh_both of_message (t.out ++ outputs.Note n ∷ []) (outputs.Answer o.op answers.Written ∷ []) in
         record {
           ops = omega arith;
           dirty = λ h. put_few (pages.is_dirty_of f.ino p) (pages.new_dirty t.here.store.pages f.ino p bytes) dirty h (leb-false 64 _ e);
-          commands = omega (arith, a, b);
+          commands = let r = note_rises n in omega (arith, a, b, r);
           messages = omega (arith, c, d);
         }
 

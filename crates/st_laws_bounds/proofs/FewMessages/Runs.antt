@@ -29,7 +29,7 @@ behind n w e sc is thefts low =
 -- What is wanted of the events from a world on, where n events were before.
 record Ends (most n : ℕ) (es : List Event) (w : World) : Type 0 where
   sends : SendsFew (16 * most + 17) es w
-  commands : length (run es w).world.commands ≤ 16464 * (n + length es)
+  commands : length (run es w).world.commands ≤ 16468 * (n + length es)
 
 ends : (most n : ℕ) (es : List Event) (w : World) → n + length es ≤ most → TheftsLow n w → Low n w → Ends most n es w
 unfolding run go_on SendsFew
@@ -38,7 +38,7 @@ ends most n (e ∷ es) w few thefts low =
     let z = go (world_step w e) refl (λ v. ends most (n + 1) es v (omega (arith, few))) in record { sends = z.0; commands = z.1 }
   where
     go : (r : Result WorldTurn WorldRefusal) → world_step w e ≡ r → ((v : World) → TheftsLow (n + 1) v → Low (n + 1) v → Ends most (n + 1) es v) →
-        SendsFewOn (16 * most + 17) (SendsFew (16 * most + 17) es) w r × (length (go_on (run es) w r).world.commands ≤ 16464 * (n + length (e ∷ es)))
+        SendsFewOn (16 * most + 17) (SendsFew (16 * most + 17) es) w r × (length (go_on (run es) w r).world.commands ≤ 16468 * (n + length (e ∷ es)))
     go (Err r) q f = (tt, let c = low.commands in omega (arith, c))
     go (Ok sc) q f =
         let b = behind n w e sc q thefts low in

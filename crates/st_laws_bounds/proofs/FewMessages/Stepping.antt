@@ -1,4 +1,4 @@
--- A whole step of a client: at most 12 messages and 16,464 commands, where at most 20 operations are pending, at most 64 pages are dirty
+-- A whole step of a client: at most 12 messages and 16,468 commands, changes and losses, where at most 20 operations are pending, at most 64 pages are dirty
 -- at each server, and there are at most four servers.
 use Rattle.std.proofs.Common.{◌≡◌, ◌⊎◌, ℕ, suc, ◌+◌, ◌*◌, ◌≤◌, ◌<◌, Bool, true, false, List, [], ◌∷◌, ◌++◌, ◌==◌, refl, sym, subst, inl, inr, arith, if◌then◌else◌}
 use Rattle.std.specs.Prelude.{length, nat_le}
@@ -17,7 +17,7 @@ use Rattle.st_rules.specs.ClientState.{Association, ClientState, ClientTurn, Tur
 use Rattle.st_lemmas.specs.Lists.{Has}
 use Rattle.st_lemmas.proofs.Tables.{has_append}
 use Rattle.st_laws_bounds.proofs.Counters.Reading.{length_both}
-use Rattle.st_laws_bounds.proofs.Counters.Weights.{of_command, of_message, weigh, weigh_both}
+use Rattle.st_laws_bounds.proofs.Counters.Weights.{commands_rise, of_command, of_message, of_rise, weigh, weigh_both}
 use Rattle.st_laws_bounds.proofs.FewMessages.Passing.{C, c_none, c_passes}
 use Rattle.st_laws_bounds.proofs.FewMessages.Hearing.{c_finish, c_hear, c_lose, c_take}
 
@@ -30,7 +30,7 @@ record Goes (k c m n more : ℕ) (t u : ClientTurn) : Type 0 where
   many : length u.state.associations ≡ more + length t.state.associations
   ops : length u.state.operations ≤ k * n + length t.state.operations
   each : EachLow u.state.associations
-  commands : weigh of_command u.out ≤ c * n + weigh of_command t.out
+  commands : weigh of_rise u.out ≤ c * n + weigh of_rise t.out
   messages : weigh of_message u.out ≤ m * n + weigh of_message t.out
 
 one_more : (k n : ℕ) → k * suc n ≡ k + k * n
@@ -83,7 +83,7 @@ pub record Few (s : ClientState) : Type 0 where
 -- What a part of a step leaves.
 record Left (c m : ℕ) (t u : ClientTurn) : Type 0 where
   few : Few u.state
-  commands : weigh of_command u.out ≤ c + weigh of_command t.out
+  commands : weigh of_rise u.out ≤ c + weigh of_rise t.out
   messages : weigh of_message u.out ≤ m + weigh of_message t.out
 
 -- a rule that makes no operation pend, at each of four servers at most
@@ -106,7 +106,7 @@ left_none c m t h = record { few = h; commands = omega arith; messages = omega a
 
 said : (c m : ℕ) (t : ClientTurn) (op : ℕ) (a : AppAnswer) → Few t.state → Left c m t (cl.answered_at_once t op a)
 said c m t op a h =
-    let x = weigh_both of_command t.out (outputs.Answer op a ∷ []) in let y = weigh_both of_message t.out (outputs.Answer op a ∷ []) in
+    let x = weigh_both of_rise t.out (outputs.Answer op a ∷ []) in let y = weigh_both of_message t.out (outputs.Answer op a ∷ []) in
     record { few = h; commands = omega (arith, x); messages = omega (arith, y) }
 
 -- an ask is one more operation at its server, where fewer than 16 are pending
@@ -153,7 +153,8 @@ input_left t now (inputs.Done number result) h =
 -- the whole step
 pub record Steps (u : ClientTurn) : Type 0 where
   pub few : Few u.state
-  pub commands : weigh of_command u.out ≤ 16464
+  pub rises : weigh of_rise u.out ≤ 16468
+  pub commands : weigh of_command u.out ≤ 16468
   pub messages : weigh of_message u.out ≤ 12
 
 pub step_costs : (s : ClientState) (now : Stamp) (input : ClientInput) → Few s → Steps (cl.client_step s now input)
@@ -161,8 +162,9 @@ unfolding cl.client_step cl.work cl.losses
 step_costs s now input h =
     let t = cl.losses (client_turn s []) now in
     let u = cl.take_input t now input in
-    let a = each_left 0 0 (cl.lose now) (λ v few low. c_lose now v) (client_turn s []) h in
+    let a = each_left 1 0 (cl.lose now) (λ v few low. c_lose now v) (client_turn s []) h in
     let b = input_left t now input a.few in
     let c = each_left 4116 2 (cp.passes now (cl.is_tick input)) (λ v few low. c_passes now (cl.is_tick input) v few low) u b.few in
     let d = a.commands in let e = b.commands in let f = c.commands in let g = a.messages in let i = b.messages in let j = c.messages in
-    record { few = c.few; commands = omega (arith, d, e, f); messages = omega (arith, g, i, j) }
+    let k = commands_rise (at_each (cp.passes now (cl.is_tick input)) u).out in
+    record { few = c.few; rises = omega (arith, d, e, f); commands = omega (arith, d, e, f, k); messages = omega (arith, g, i, j) }
