@@ -95,6 +95,13 @@ impl Extents {
         })
     }
 
+    /// The server's number.
+    pub fn server(&self) -> ServerId
+        ensures { result ≡ self.now.server }
+    {
+        self.server
+    }
+
     /// The block and the birth of a page, if it is mapped.
     pub fn map(&self, file: FileId, page: PageNo) -> Option<(BlockAt, u64)>
         ensures { result ≡ extents.map_page self.now file page }
