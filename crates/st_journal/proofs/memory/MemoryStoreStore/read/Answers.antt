@@ -1,0 +1,19 @@
+use Rattle.std.proofs.Common.{arith}
+use Rattle.st_journal.specs.Plans as plans
+use Rattle.st_journal.proofs.Kept.{length-seen, read_seen, read_within, read_time, read_cause}
+use Rattle.st_journal.proofs.memory.MemoryStoreStore.read.Goals as goal
+
+pub read_bytes-requires : goal.read_bytes-requires
+read_bytes-requires c = omega (arith, c.requires, length-seen c.args.self.now.contents)
+
+pub returns-clause-seen : goal.returns-clause-seen
+returns-clause-seen c = read_seen c.args.self.now c.read_bytes.new.self (plans.outcome c.args.self.now.plan) c.read_bytes.result c.read_bytes.ensures.exact
+
+pub returns-clause-crash : goal.returns-clause-crash
+returns-clause-crash c = read_within c.args.self.now c.read_bytes.new.self (plans.outcome c.args.self.now.plan) c.read_bytes.result c.read_bytes.ensures.exact
+
+pub returns-clause-time : goal.returns-clause-time
+returns-clause-time c = read_time c.args.self.now c.read_bytes.new.self (plans.outcome c.args.self.now.plan) c.read_bytes.result c.read_bytes.ensures.exact
+
+pub returns-clause-cause : goal.returns-clause-cause
+returns-clause-cause c = read_cause c.args.self.now c.read_bytes.new.self c.read_bytes.ensures.later (plans.outcome c.args.self.now.plan) c.read_bytes.result c.read_bytes.ensures.exact

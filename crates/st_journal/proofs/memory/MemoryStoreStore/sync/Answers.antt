@@ -1,0 +1,18 @@
+use Rattle.st_journal.specs.Plans as plans
+use Rattle.st_journal.proofs.Kept.{sync_seen, sync_durable, sync_crash, sync_time, sync_cause}
+use Rattle.st_journal.proofs.memory.MemoryStoreStore.sync.Goals as goal
+
+pub returns-clause-durable : goal.returns-clause-durable
+returns-clause-durable c = sync_durable c.args.self.now c.sync_bytes.new.self (plans.outcome c.args.self.now.plan) c.sync_bytes.result c.sync_bytes.ensures.exact
+
+pub returns-clause-seen : goal.returns-clause-seen
+returns-clause-seen c = sync_seen c.args.self.now c.sync_bytes.new.self (plans.outcome c.args.self.now.plan) c.sync_bytes.result c.sync_bytes.ensures.exact
+
+pub returns-clause-crash : goal.returns-clause-crash
+returns-clause-crash c = sync_crash c.args.self.now c.sync_bytes.new.self (plans.outcome c.args.self.now.plan) c.sync_bytes.result c.sync_bytes.ensures.exact
+
+pub returns-clause-time : goal.returns-clause-time
+returns-clause-time c = sync_time c.args.self.now c.sync_bytes.new.self (plans.outcome c.args.self.now.plan) c.sync_bytes.result c.sync_bytes.ensures.exact
+
+pub returns-clause-cause : goal.returns-clause-cause
+returns-clause-cause c = sync_cause c.args.self.now c.sync_bytes.new.self c.sync_bytes.ensures.later (plans.outcome c.args.self.now.plan) c.sync_bytes.result c.sync_bytes.ensures.exact

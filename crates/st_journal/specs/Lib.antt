@@ -1,0 +1,6 @@
+pub mod Store
+pub mod Plans
+pub mod InMemory
+pub mod Kept
+pub mod Laws
+pub mod Writing
