@@ -2,3 +2,8 @@ pub mod Kept
 pub mod Parts
 pub mod Moments
 pub mod Torn
+pub mod Appending
+pub mod Exact
+pub mod Read
+pub mod Unique
+pub mod Removed

@@ -4,3 +4,8 @@ pub mod InMemory
 pub mod Kept
 pub mod Laws
 pub mod Writing
+pub mod Changes
+pub mod Reading
+pub mod Stable
+pub mod Parts
+pub mod Journal

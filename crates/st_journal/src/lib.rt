@@ -2,14 +2,24 @@
 //! has the rules.
 #![tactic(auto)]
 
+mod change;
 mod contents;
+mod fault;
 mod history;
+mod laws;
 mod memory;
 mod plan;
+mod reading;
+mod stable;
 mod store;
 mod writing;
 
+pub use change::Change;
+pub use fault::JournalFault;
 pub use history::{Piece, StoreCall};
+pub use laws::{appends_survive_crashes, bytes_have_one_journal};
 pub use memory::MemoryStore;
+pub use reading::decode;
 pub use st_link::Failed;
+pub use stable::{ChangeRefusal, Stable};
 pub use store::Store;

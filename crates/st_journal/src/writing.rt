@@ -1,11 +1,28 @@
 // How a change is written: its record, a sync, its gate, a sync.
 ghost use Rattle.std.specs.Prelude.{◌≡◌, ◌≤◌, ◌<◌, ◌+◌, ◌++◌, ◌∷◌, [], true, IfOk, OnOk, length};
 ghost use Rattle.st_link.specs.Causes.{HasCause};
+ghost use Rattle.st_journal.specs.Changes.{fits};
+ghost use Rattle.st_journal.specs.Journal.{framed};
 ghost use Rattle.st_journal.specs.Store.{LeavesOnly, Only, Torn, written};
 ghost use Rattle.st_journal.specs.Writing.{IsTornAppend, with_open_gate};
 
+use crate::change::{Change, put_byte, put_word32};
 use crate::store::Store;
 use st_link::Failed;
+use std::alloc::{AllocError, Global};
+
+/// The bytes that are written behind a gate: the number of the change's bytes, those bytes, and a gate that is not open.
+#[tactic(auto, unfolding(crate::specs::Journal::framed))]
+pub(crate) fn record_of(alloc: Global, change: &Change) -> Result<Vec<u8>, AllocError>
+    requires { fits change.now ≡ true }
+    ensures { IfOk result (λ r. r.items ≡ framed change.now ++ 0 ∷ []) }
+{
+    let mut out = Vec::new(alloc);
+    put_word32(&mut out, change.size() as u32)?;
+    change.put(&mut out)?;
+    put_byte(&mut out, 0)?;
+    Ok(out)
+}
 
 /// Writes bytes and syncs.
 fn write_synced<D: Store>(store: &mut D, at: u64, bytes: &[u8]) -> Result<(), Failed>
