@@ -1,0 +1,5 @@
+mod Moved
+mod Runs
+mod Says
+mod Stands
+mod Token

@@ -1,0 +1,6 @@
+pub mod Calls
+pub mod Containers
+pub mod Law
+pub mod Script
+pub mod Updates
+pub mod World

@@ -1,0 +1,22 @@
+//! Containers that move from one server to another by order: the records of one server, and its calls.
+//! `docs/PROTOCOL.md`, "A container moves by order", has the rules.
+#![tactic(auto)]
+
+mod record;
+mod refusal;
+mod updates;
+mod world;
+
+ghost use Rattle.st_move.specs.Law.{NoUpdateIsLost};
+
+pub use record::{ContainerRecord, MoveMessage, Standing};
+pub use refusal::MoveRefusal;
+pub use updates::{Update, Updates};
+pub use world::{MoveEvent, SentMove};
+
+/// Whatever is put, ordered, locked, delivered, lost or repeated: at most one server holds a container; what a list is answered
+/// is the list of accepted updates; a server with a lock row of a container holds it, and no other server does; and some server
+/// has the accepted updates.
+pub fn no_update_is_lost()
+    ensures { NoUpdateIsLost }
+{}

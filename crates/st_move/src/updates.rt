@@ -1,0 +1,99 @@
+// The updates of a container.
+ghost use Rattle.std.specs.Prelude.{◌≡◌, ◌≤◌, ◌<◌, [], IfOk, Some, length, slice_get, true};
+ghost use Rattle.st_move.specs.Updates as updates;
+
+use std::alloc::{AllocError, Global};
+use std::marker::Model;
+
+/// An update of a container: 1 to 139 bytes. Contracts see it as the list of these bytes.
+#[derive(Drop)]
+pub struct Update {
+    bytes: Vec<u8>,
+}
+
+impl Model for Update {
+    ghost use Rattle.std.specs.Prelude.{◌≡◌, List, ℕ, true};
+    ghost use Rattle.st_move.specs.Updates.{is_update};
+
+    ghost Value = { List ℕ };
+
+    ghost view = { λ u. u.bytes.items };
+
+    ghost invariant = { λ u. is_update u.bytes.items ≡ true };
+}
+
+impl Update {
+    /// Makes an update of a copy of these bytes, which are 1 to 139.
+    pub fn from_slice(alloc: Global, bytes: &[u8]) -> Result<Update, AllocError>
+        requires { updates.is_update bytes.now ≡ true }
+        ensures { IfOk result (λ u. u ≡ bytes.now) }
+    {
+        Ok(Update {
+            bytes: Vec::from_slice(alloc, bytes)?,
+        })
+    }
+
+    /// Returns the bytes.
+    pub fn as_slice(&self) -> &[u8]
+        ensures bytes { result.now ≡ self.now }
+        ensures length { updates.is_update self.now ≡ true }
+    {
+        self.bytes.as_slice()
+    }
+
+    /// Returns a copy of the update.
+    pub fn copy(&self) -> Result<Update, AllocError>
+        ensures { IfOk result (λ u. u ≡ self.now) }
+    {
+        Ok(Update {
+            bytes: self.bytes.clone()?,
+        })
+    }
+}
+
+/// The updates of a container, in the order in which they were accepted: at most 60,000 bytes together. Contracts see them
+/// as a list of lists of bytes.
+#[derive(Drop)]
+pub struct Updates {
+    items: Vec<Update>,
+    bytes: u32,
+}
+
+impl Model for Updates {
+    ghost use Rattle.std.specs.Prelude.{◌≡◌, List, ℕ};
+    ghost use Rattle.st_move.specs.Updates.{AreUpdates, bytes_of};
+
+    ghost Value = { List (List ℕ) };
+
+    ghost view = { λ u. u.items.items };
+
+    ghost invariant = { λ u. AreUpdates u.items.items × (u.bytes ≡ bytes_of u.items.items) };
+}
+
+impl Updates {
+    /// No updates. It does not allocate.
+    pub fn new(alloc: Global) -> Updates
+        ensures { result ≡ [] }
+    {
+        Updates {
+            items: Vec::new(alloc),
+            bytes: 0,
+        }
+    }
+
+    /// Returns the update at index `i`.
+    pub fn get(&self, i: usize) -> &Update
+        requires { i < length self.now }
+        ensures { slice_get self.now i ≡ Some result.now }
+    {
+        &self.items[i]
+    }
+
+    /// Returns the number of bytes of all updates, at most 60,000.
+    pub fn bytes(&self) -> u32
+        ensures bytes { result ≡ updates.bytes_of self.now }
+        ensures few { result ≤ updates.most_bytes }
+    {
+        self.bytes
+    }
+}
