@@ -1,3 +1,6 @@
+mod Bytes
+mod Lifts
+mod Loops
 mod Moved
 mod Runs
 mod Says

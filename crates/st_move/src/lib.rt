@@ -2,6 +2,7 @@
 //! `docs/PROTOCOL.md`, "A container moves by order", has the rules.
 #![tactic(auto)]
 
+mod mover;
 mod record;
 mod refusal;
 mod updates;
@@ -9,6 +10,7 @@ mod world;
 
 ghost use Rattle.st_move.specs.Law.{NoUpdateIsLost};
 
+pub use mover::Mover;
 pub use record::{ContainerRecord, MoveMessage, Standing};
 pub use refusal::MoveRefusal;
 pub use updates::{Update, Updates};

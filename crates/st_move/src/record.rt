@@ -1,5 +1,13 @@
+// What a server has of a container, and what the calls do to it.
+ghost use Rattle.std.specs.Prelude.{◌≡◌, ◌<◌, ◌+◌, OnOk, OnErr, Ok, Some, true, ℕ, ◌^◌};
+ghost use Rattle.st_move.specs.Calls as calls;
+ghost use Rattle.st_move.specs.Containers as containers;
+ghost use Rattle.st_move.specs.Updates.{added, is_update};
+
+use crate::refusal::MoveRefusal;
 use crate::updates::Updates;
 use st_base::ServerId;
+use std::alloc::{AllocError, Global};
 
 /// How a container stands at a server that has a record of it.
 #[derive(Clone, Copy, Debug, PartialEq, Eq)]
@@ -30,4 +38,206 @@ pub enum MoveMessage {
     Image(u32, u64, Updates),
     /// An image of this version came.
     Taken(u32, u64),
+}
+
+fn is_holding(standing: Standing) -> bool
+    ensures { result ≡ containers.is_holding standing }
+{
+    match standing {
+        Standing::Holding => true,
+        Standing::Leaving(_) => false,
+        Standing::Sent(_) => false,
+        Standing::Gone(_) => false,
+    }
+}
+
+fn is_leaving(standing: Standing) -> bool
+    ensures { result ≡ containers.is_leaving standing }
+{
+    match standing {
+        Standing::Holding => false,
+        Standing::Leaving(_) => true,
+        Standing::Sent(_) => false,
+        Standing::Gone(_) => false,
+    }
+}
+
+impl ContainerRecord {
+    /// Whether the container is served.
+    pub(crate) fn is_holding(&self) -> bool
+        ensures { result ≡ containers.is_holding self.now.standing }
+    {
+        is_holding(self.standing)
+    }
+
+    /// Whether the container is about to move.
+    pub(crate) fn is_leaving(&self) -> bool
+        ensures { result ≡ containers.is_leaving self.now.standing }
+    {
+        is_leaving(self.standing)
+    }
+
+    /// Whether the updates may be listed.
+    #[tactic(auto, unfolding(crate::specs::Containers::unless_sent))]
+    pub(crate) fn may_list(&self) -> Result<(), MoveRefusal>
+        ensures { calls.allowed self.now result ≡ containers.unless_sent self.now self.now.standing }
+    {
+        match self.standing {
+            Standing::Holding => Ok(()),
+            Standing::Leaving(_) => Ok(()),
+            Standing::Sent(to) => Err(MoveRefusal::Redirect(to, self.version)),
+            Standing::Gone(to) => Err(MoveRefusal::Redirect(to, self.version)),
+        }
+    }
+
+    /// Whether a put or an order may come.
+    #[tactic(auto, unfolding(crate::specs::Containers::unless_leaving, crate::specs::Containers::unless_sent))]
+    pub(crate) fn may_change(&self) -> Result<(), MoveRefusal>
+        ensures { calls.allowed self.now result ≡ containers.unless_leaving self.now self.now.standing }
+    {
+        match self.standing {
+            Standing::Holding => Ok(()),
+            Standing::Leaving(to) => Err(MoveRefusal::Leaving(to)),
+            Standing::Sent(to) => Err(MoveRefusal::Redirect(to, self.version)),
+            Standing::Gone(to) => Err(MoveRefusal::Redirect(to, self.version)),
+        }
+    }
+
+    /// One more update.
+    #[tactic(auto, unfolding(crate::specs::Containers::updated_with))]
+    fn add(&mut self, update: &[u8]) -> Result<u32, MoveRefusal>
+        requires { is_update update.now ≡ true }
+        ensures { calls.Counts calls.count_in self.old self.new result (containers.updated_with self.old (added self.old.updates update.now)) }
+    {
+        self.updates.push(update)
+    }
+
+    /// One more update, if it may come.
+    #[tactic(auto, unfolding(crate::specs::Containers::updated, crate::specs::Containers::changeable))]
+    fn put(&mut self, update: &[u8]) -> Result<u32, MoveRefusal>
+        requires { is_update update.now ≡ true }
+        ensures { calls.Counts calls.count_in self.old self.new result (containers.updated update.now (containers.changeable (Ok self.old))) }
+    {
+        self.may_change()?;
+        self.add(update)
+    }
+
+    /// The container is to leave, if it may and is to go to another server.
+    #[tactic(auto, unfolding(crate::specs::Containers::ordered, crate::specs::Containers::changeable))]
+    fn order(&mut self, server: ServerId, to: ServerId) -> Result<(), MoveRefusal>
+        ensures { calls.Answers self.old self.new result (containers.ordered server to (containers.changeable (Ok self.old))) }
+    {
+        self.may_change()?;
+        if to.0 == server.0 {
+            return Err(MoveRefusal::Same);
+        }
+        self.standing = Standing::Leaving(to);
+        Ok(())
+    }
+
+    /// The container is sent in the next version.
+    #[tactic(auto, unfolding(crate::specs::Containers::sent_on))]
+    fn send_on(&mut self)
+        requires { self.old.version + 1 < 2 ^ 64 }
+        ensures { self.new ≡ containers.sent_on self.old self.old.standing }
+    {
+        if let Standing::Leaving(to) = self.standing {
+            self.version += 1;
+            self.standing = Standing::Sent(to);
+        }
+    }
+
+    /// The answer to what was sent came.
+    #[tactic(auto, unfolding(crate::specs::Containers::gone_by))]
+    fn end(&mut self, alloc: Global)
+        ensures { self.new ≡ containers.gone_by self.old self.old.standing }
+    {
+        if let Standing::Sent(to) = self.standing {
+            self.standing = Standing::Gone(to);
+            self.updates = Updates::new(alloc);
+        }
+    }
+}
+
+/// One more update of a record.
+#[tactic(auto, unfolding(crate::specs::Containers::found_at, crate::specs::Containers::updated, crate::specs::Containers::changeable, crate::specs::Calls::there))]
+pub(crate) fn put_in(entry: &mut Option<ContainerRecord>, update: &[u8]) -> Result<u32, MoveRefusal>
+    requires { is_update update.now ≡ true }
+    ensures { (c : ℕ) → calls.Counts calls.count_of entry.old entry.new result (calls.there (containers.updated update.now (containers.changeable (containers.found_at c (Some entry.old))))) }
+{
+    match entry {
+        None => Err(MoveRefusal::Absent),
+        Some(record) => record.put(update),
+    }
+}
+
+/// The record's container is to leave.
+#[tactic(auto, unfolding(crate::specs::Containers::found_at, crate::specs::Containers::ordered, crate::specs::Containers::changeable, crate::specs::Calls::there))]
+pub(crate) fn order_in(
+    entry: &mut Option<ContainerRecord>,
+    server: ServerId,
+    to: ServerId,
+) -> Result<(), MoveRefusal>
+    ensures { (c : ℕ) → calls.Answers entry.old entry.new result (calls.there (containers.ordered server to (containers.changeable (containers.found_at c (Some entry.old))))) }
+{
+    match entry {
+        None => Err(MoveRefusal::Absent),
+        Some(record) => record.order(server, to),
+    }
+}
+
+/// Whether the version is above the record's, or there is no record.
+fn is_below(version: u64, entry: &Option<ContainerRecord>) -> bool
+    ensures { result ≡ containers.is_below version entry.now }
+{
+    match entry {
+        None => true,
+        Some(record) => record.version < version,
+    }
+}
+
+/// An image came.
+#[tactic(auto, unfolding(crate::specs::Containers::with_image))]
+pub(crate) fn take_image(
+    entry: &mut Option<ContainerRecord>,
+    version: u64,
+    updates: &Updates,
+) -> Result<(), AllocError>
+    ensures ok { OnOk result (entry.new ≡ containers.with_image version updates.now entry.old) }
+    ensures err { OnErr result (entry.new ≡ entry.old) }
+{
+    if is_below(version, entry) {
+        let updates = updates.copy()?;
+        *entry = Some(ContainerRecord {
+            version,
+            standing: Standing::Holding,
+            updates,
+        });
+    }
+    Ok(())
+}
+
+/// An answer came.
+#[tactic(auto, unfolding(crate::specs::Containers::answered))]
+pub(crate) fn take_answer(entry: &mut Option<ContainerRecord>, alloc: Global, version: u64)
+    ensures { entry.new ≡ containers.answered version entry.old }
+{
+    if let Some(record) = entry {
+        if record.version == version {
+            record.end(alloc);
+        }
+    }
+}
+
+/// The record is sent on, or stays as it is.
+#[tactic(auto, unfolding(crate::specs::Containers::sent_if))]
+pub(crate) fn send_if(entry: &mut Option<ContainerRecord>, yes: bool)
+    requires { containers.has_next entry.old ≡ true }
+    ensures { entry.new ≡ containers.sent_if yes entry.old }
+{
+    if yes {
+        if let Some(record) = entry {
+            record.send_on();
+        }
+    }
 }

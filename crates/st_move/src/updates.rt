@@ -1,7 +1,9 @@
 // The updates of a container.
-ghost use Rattle.std.specs.Prelude.{◌≡◌, ◌≤◌, ◌<◌, [], IfOk, Some, length, slice_get, true};
+ghost use Rattle.std.specs.Prelude.{◌≡◌, ◌≤◌, ◌<◌, ◌++◌, ◌∷◌, [], IfOk, Some, length, slice_get, true};
 ghost use Rattle.st_move.specs.Updates as updates;
+ghost use Rattle.st_move.specs.Calls.{Adds};
 
+use crate::refusal::MoveRefusal;
 use std::alloc::{AllocError, Global};
 use std::marker::Model;
 
@@ -81,6 +83,16 @@ impl Updates {
         }
     }
 
+    /// Returns the number of updates, at most 60,000.
+    pub fn len(&self) -> usize
+        ensures len { result ≡ length self.now }
+        ensures few { result ≤ 60000 }
+        ensures updates { updates.AreUpdates self.now }
+    {
+        let _bytes = self.bytes;
+        self.items.len()
+    }
+
     /// Returns the update at index `i`.
     pub fn get(&self, i: usize) -> &Update
         requires { i < length self.now }
@@ -96,4 +108,44 @@ impl Updates {
     {
         self.bytes
     }
+
+    /// Adds a copy of an update of 1 to 139 bytes, and returns the number of updates.
+    ///
+    /// # Errors
+    /// `Full` where the updates would have more than 60,000 bytes; `Memory` where memory runs out. Then nothing changed.
+    #[tactic(auto, unfolding(crate::specs::Updates::added))]
+    pub fn push(&mut self, update: &[u8]) -> Result<u32, MoveRefusal>
+        requires { updates.is_update update.now ≡ true }
+        ensures { Adds self.old self.new result update.now }
+    {
+        let bytes = self.bytes + update.len() as u32;
+        if bytes > 60_000 {
+            return Err(MoveRefusal::Full(bytes as u64));
+        }
+        let update = Update::from_slice(*self.items.allocator(), update)?;
+        self.items.push(update)?;
+        self.bytes = bytes;
+        Ok(self.len() as u32)
+    }
+
+    /// Returns a copy of the updates.
+    pub fn copy(&self) -> Result<Updates, AllocError>
+        ensures { IfOk result (λ us. us ≡ self.now) }
+    {
+        let items = copies(*self.items.allocator(), self.items.as_slice())?;
+        Ok(Updates {
+            items,
+            bytes: self.bytes,
+        })
+    }
+}
+
+fn copies(alloc: Global, items: &[Update]) -> Result<Vec<Update>, AllocError>
+    ensures { IfOk result (λ v. v.items ≡ items.now) }
+{
+    let mut copies = Vec::new(alloc);
+    for item in items {
+        copies.push(item.copy()?)?;
+    }
+    Ok(copies)
 }

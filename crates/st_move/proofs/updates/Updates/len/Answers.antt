@@ -1,0 +1,9 @@
+use Rattle.std.proofs.Common.{◌≤◌, length, arith}
+use Rattle.st_move.specs.Updates.{bytes_of}
+use Rattle.st_move.proofs.Bytes.{count_few}
+use Rattle.st_move.proofs.updates.Updates.len.Goals as goal
+
+pub returns-clause-few : goal.returns-clause-few
+returns-clause-few c =
+    let n : length c.self.inside.items.items ≤ bytes_of c.self.inside.items.items = count_few c.self.inside.items.items c.self.invariant.0.each in
+    omega (arith, c.self.invariant.0.few, c.len.ensures)
