@@ -1,0 +1,7 @@
+-- What an option has.
+use Rattle.std.proofs.Common.{◌≡◌, true, Option, Some, None, refl, sym, true≢false}
+use Rattle.std.specs.Prelude.{is_some}
+
+pub some_is : {A : Type 0} (o : Option A) → is_some o ≡ true → (x : A) × (o ≡ Some x)
+some_is None h = absurd (true≢false (sym h))
+some_is (Some x) h = (x, refl)
