@@ -1,3 +1,11 @@
 pub mod Options
 pub mod Slotted
 pub mod Written
+pub mod Lists
+pub mod Keys
+pub mod Latest
+pub mod Pages
+pub mod Kept
+pub mod Writes
+pub mod Counting
+pub mod Shelved

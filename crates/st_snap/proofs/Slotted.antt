@@ -1,6 +1,6 @@
 -- Slots on the blocks of one disk.
 use Rattle.std.proofs.Common.{◌≡◌, ℕ, zero, suc, ◌+◌, ◌<◌, ◌≤◌, ◌%◌, ◌^◌, Bool, true, false, cond, List, [], ◌∷◌, ◌++◌, length, map, filter, Option, Some, None, Ok, Err, Result, arith, refl, sym, ap, subst, ◌∙◌, ⊎_elim, true≢false}
-use Rattle.std.specs.Prelude.{All, OnOk, OnErr, is_err, ◌==◌, ◌&&◌, ◌||◌, not, is_some, if◌then◌else◌, find, nat_le, flat_map, unwrap_or}
+use Rattle.std.specs.Prelude.{OnOk, OnErr, is_err, ◌==◌, ◌&&◌, ◌||◌, not, is_some, if◌then◌else◌, find, nat_le, flat_map, unwrap_or}
 use Rattle.std.specs.List.{AllByRecursion, IsDistinct, list_any}
 use Rattle.std.specs.Option.{option_map}
 use Rattle.std.proofs.lemmas.Bool.{cases_Bool, eqb-true, eq-eqb, le-leb, ne_eqb, or_cases, and_parts, and_from, false_from_ne_true}
@@ -11,7 +11,6 @@ use Rattle.std.proofs.lemmas.Option.{none-some, same_Some}
 use Rattle.st_base.specs.declared.ids.FileId.{FileId}
 use Rattle.st_base.specs.declared.ids.PageNo.{PageNo}
 use Rattle.st_base.specs.declared.disk.BlockAt.{BlockAt}
-use Rattle.st_base.specs.declared.disk.Tag.{Tag}
 use Rattle.st_rules.specs.declared.disks.Block.{Block}
 use Rattle.st_rules.specs.declared.extents.Extent.{Extent}
 use Rattle.st_rules.specs.declared.extents.AllocateRefusal.{AllocateRefusal}

@@ -1,10 +1,9 @@
 -- A block that is written in one call.
-use Rattle.std.proofs.Common.{◌≡◌, ℕ, zero, suc, ◌+◌, Bool, true, false, List, [], ◌∷◌, ◌++◌, length, Option, Some, None, Ok, Err, Result, arith, refl, sym, ap, subst, ◌∙◌, true≢false}
+use Rattle.std.proofs.Common.{◌≡◌, ℕ, suc, Bool, true, false, List, [], ◌∷◌, ◌++◌, length, Option, Some, None, Ok, Err, Result, refl, sym, ap, ◌∙◌, true≢false}
 use Rattle.std.specs.Prelude.{OnErr, is_err, slice_get, if◌then◌else◌}
 use Rattle.st_base.specs.declared.disk.BlockAt.{BlockAt}
 use Rattle.st_base.specs.declared.disk.Tag.{Tag}
 use Rattle.st_base.specs.declared.disk.Command.TheVariants as commands
-use Rattle.st_rules.specs.declared.disks.Block.{Block}
 use Rattle.st_rules.specs.declared.disks.CommandRefusal.{CommandRefusal}
 use Rattle.st_rules.specs.declared.disks.CommandRefusal.TheVariants.{NotEffected}
 use Rattle.st_rules.specs.declared.disks.DiskCommand.{DiskCommand}

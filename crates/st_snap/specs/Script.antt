@@ -1,5 +1,5 @@
 -- A script on a volume: its events, what each is answered, and the text of its answers.
-use Rattle.std.specs.Prelude.{ℕ, ◌+◌, ◌-◌, List, [], ◌∷◌, ◌++◌, length, codes, Option, Some, None, Result, Ok, Err}
+use Rattle.std.specs.Prelude.{ℕ, ◌+◌, ◌-◌, List, [], ◌∷◌, ◌++◌, codes, Option, Some, None, Result, Ok, Err}
 use Rattle.std.specs.Fmt.{decimal}
 use Rattle.st_base.specs.Page.{filled}
 use Rattle.st_rules.specs.Report.{field, runs}

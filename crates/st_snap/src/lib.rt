@@ -4,6 +4,8 @@
 
 mod refusal;
 mod slots;
+mod versions;
 
 pub use refusal::SnapRefusal;
 pub use slots::Slots;
+pub use versions::{VersionKey, Versions};

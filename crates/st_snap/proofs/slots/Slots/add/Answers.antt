@@ -1,4 +1,4 @@
-use Rattle.std.proofs.Common.{◌≡◌, ◌==◌, cond, Some, filter, not, sym, ap, ◌∙◌}
+use Rattle.std.proofs.Common.{◌==◌, cond, Some, filter, not, sym, ap, ◌∙◌}
 use Rattle.std.specs.Prelude.{is_some}
 use Rattle.st_snap.specs.Slots.{Slots, slot_at}
 use Rattle.st_snap.proofs.Slotted.{added_and_gone, added_there, cond_twice, err_of, found_last, ok_of}

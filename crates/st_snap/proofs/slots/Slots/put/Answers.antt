@@ -1,4 +1,4 @@
-use Rattle.std.proofs.Common.{◌≡◌, ◌==◌, cond, Some, sym, ap, ◌∙◌}
+use Rattle.std.proofs.Common.{◌==◌, cond, Some, sym, ap, ◌∙◌}
 use Rattle.st_snap.specs.Slots.{slot_at, slots_of}
 use Rattle.std.proofs.lemmas.Option.{none-some, some_pair_parts}
 use Rattle.st_rules.specs.Extents as extents

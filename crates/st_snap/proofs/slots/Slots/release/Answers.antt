@@ -1,9 +1,9 @@
-use Rattle.std.proofs.Common.{◌≡◌, ◌+◌, length, sym, ap, subst, ◌∙◌}
+use Rattle.std.proofs.Common.{◌+◌, length, sym, ap, subst, ◌∙◌}
 use Rattle.st_rules.specs.Extents as extents
 use Rattle.st_rules.specs.Extents.{Extents}
 use Rattle.st_rules.specs.Keys.{page_no}
 use Rattle.st_extents.specs.Ownership.{IsOwned}
-use Rattle.st_snap.specs.Slots.{AreSlots, slot_at, slot_file, slots_of}
+use Rattle.st_snap.specs.Slots.{AreSlots, slot_at, slots_of}
 use Rattle.st_snap.proofs.Slotted.{fewer_slots, gone, left_blocks, left_slots, one_gone}
 use Rattle.st_snap.proofs.slots.Slots.release.Goals as goal
 
