@@ -1,0 +1,11 @@
+pub mod InAndOut
+pub mod Numbered
+pub mod Agreeing
+pub mod Clients
+pub mod Submitting
+pub mod Effects
+pub mod Reports
+pub mod EveryHistory
+pub mod Led
+pub mod OneRow
+pub mod Refusing

@@ -1,0 +1,7 @@
+use Rattle.std.proofs.Common.{◌≡◌, ◌++◌, drop, take}
+use Rattle.std.specs.Prelude.{map}
+use Rattle.st_shared.specs.Shared.{stop_member}
+use Rattle.st_shared.proofs.members.stop_member.Given as goal
+
+abbrev pub invariant-loop-member : goal.invariant-loop-member
+invariant-loop-member l = take l.member-index l.members ++ map (stop_member l.client) (drop l.member-index l.members) ≡ map (stop_member l.client) l.initial.members

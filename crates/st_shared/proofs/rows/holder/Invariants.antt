@@ -1,0 +1,7 @@
+use Rattle.std.proofs.Common.{◌≡◌, ℕ, ◌<◌, ◌≤◌, false}
+use Rattle.st_rules.specs.Keys.{client}
+use Rattle.st_rules.specs.Locks.{has_rows}
+use Rattle.st_shared.proofs.rows.holder.Given as goal
+
+abbrev pub invariant-loop-number : goal.invariant-loop-number
+invariant-loop-number l = (k : ℕ) → 1 ≤ k → k < l.number → has_rows l.locks (client k) ≡ false

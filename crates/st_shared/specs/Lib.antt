@@ -1,0 +1,6 @@
+pub mod Rows
+pub mod Shared
+pub mod Calls
+pub mod History
+pub mod Reporting
+pub mod Script
