@@ -1,5 +1,5 @@
 // The servers and the lives of a client, which a crash keeps.
-ghost use Rattle.std.specs.Prelude.{◌≡◌, ◌++◌, true, length, IsOk, IfOk, OnOk};
+ghost use Rattle.std.specs.Prelude.{◌≡◌, ◌≤◌, ◌+◌, ◌++◌, true, length, vec_len, vec_capacity, IsOk, IfOk};
 ghost use Rattle.std.specs.List.{list_all};
 ghost use Rattle.st_base.specs.Config as settings;
 ghost use Rattle.st_client.specs.Nodes.{crashed_client, crashed_lives, is_low, is_server, life_in};
@@ -30,26 +30,26 @@ pub(crate) fn are_low(lives: &[Life]) -> bool
     lives.iter().all(|life| life.0 < 4_611_686_018_427_387_904)
 }
 
-/// Adds the lives of a client that is crashed: no lease is held.
+/// Adds the lives of a client that is crashed, for which the list has room: no lease is held.
 pub(crate) fn push_crashed(
     client: ClientId,
     servers: &[ServerId],
     lives: &[Life],
     found: &mut Vec<LeaseLife>,
-) -> Result<(), AllocError>
-    requires { length lives.now ≡ length servers.now }
-    ensures { OnOk result (found.new.items ≡ found.old.items ++ crashed_lives client servers.now lives.now) }
+)
+    requires each { length lives.now ≡ length servers.now }
+    requires room { vec_len found.old + length servers.now ≤ vec_capacity found.old }
+    ensures { found.new.items ≡ found.old.items ++ crashed_lives client servers.now lives.now }
 {
     for i in 0..servers.len() {
-        found.push(LeaseLife {
+        found.push_reserved(LeaseLife {
             client,
             server: servers[i],
             life: lives[i],
             end: None,
             crashed: false,
-        })?;
+        });
     }
-    Ok(())
 }
 
 /// A client in the next life at each of these servers.

@@ -1,5 +1,5 @@
 // A client of a world: it runs, or it is crashed.
-ghost use Rattle.std.specs.Prelude.{◌≡◌, ◌≤◌, ◌^◌, ◌++◌, true, false, IsOk, IfOk, OnOk, IsTrue, ◌↔◌};
+ghost use Rattle.std.specs.Prelude.{◌≡◌, ◌≤◌, ◌^◌, ◌++◌, true, false, IsOk, IfOk, OnOk, OnErr, IsTrue, ◌↔◌};
 ghost use Rattle.std.specs.List.{list_all};
 ghost use Rattle.st_base.specs.Config as settings;
 ghost use Rattle.st_base.specs.declared.ids.ServerId.{ServerId};
@@ -151,18 +151,26 @@ impl ClientNode {
         }
     }
 
-    /// Adds its present lives, with the ends of their leases.
+    /// Adds its present lives, with the ends of their leases. Where memory runs out the list stays as it was.
     pub fn push_lives(&self, found: &mut Vec<LeaseLife>) -> Result<(), AllocError>
-        ensures { OnOk result (found.new.items ≡ found.old.items ++ world.lives_of self.now.state) }
+        ensures added { OnOk result (found.new.items ≡ found.old.items ++ world.lives_of self.now.state) }
+        ensures kept { OnErr result (found.new.items ≡ found.old.items) }
     {
+        found.reserve(self.servers.len())?;
         match &self.state {
-            Some(state) => state.push_lives(found),
-            None => push_crashed(
-                self.id,
-                self.servers.as_slice(),
-                self.lives.as_slice(),
-                found,
-            ),
+            Some(state) => {
+                state.push_lives(found);
+                Ok(())
+            }
+            None => {
+                push_crashed(
+                    self.id,
+                    self.servers.as_slice(),
+                    self.lives.as_slice(),
+                    found,
+                );
+                Ok(())
+            }
         }
     }
 
@@ -183,11 +191,12 @@ impl ClientNode {
         self.state = None;
     }
 
-    /// A node that does not run is started, in its next life at every server.
+    /// A node that does not run is started, in its next life at every server. Where memory runs out the node stays as it was.
     pub fn start(&mut self) -> Result<(), AllocError>
         requires crashed { self.old.running ≡ false }
         requires room { HasRoom self.old.state }
-        ensures { OnOk result (self.new ≡ client.start_node self.old) }
+        ensures started { OnOk result (self.new ≡ client.start_node self.old) }
+        ensures kept { OnErr result (self.new ≡ self.old) }
     {
         let state = started(
             self.alloc,

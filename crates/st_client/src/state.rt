@@ -1,5 +1,5 @@
 // A client that runs, between its steps.
-ghost use Rattle.std.specs.Prelude.{◌≡◌, ◌≤◌, ◌^◌, ◌++◌, [], true, map, length, vec_capacity, ◌∷◌, ◌<◌, IsOk, IfOk, OnOk};
+ghost use Rattle.std.specs.Prelude.{◌≡◌, ◌≤◌, ◌+◌, ◌^◌, ◌++◌, [], true, map, length, vec_len, vec_capacity, ◌∷◌, ◌<◌, IsOk, IfOk};
 ghost use Rattle.std.specs.List.{list_all};
 ghost use Rattle.std.specs.Option.{option_copied, option_map};
 ghost use Rattle.st_base.specs.Config as settings;
@@ -176,20 +176,20 @@ impl State {
         }
     }
 
-    /// Adds its present lives, with the ends of their leases.
-    pub(crate) fn push_lives(&self, found: &mut Vec<LeaseLife>) -> Result<(), AllocError>
-        ensures { OnOk result (found.new.items ≡ found.old.items ++ world.lives_of self.now) }
+    /// Adds its present lives, with the ends of their leases, for which the list has room.
+    pub(crate) fn push_lives(&self, found: &mut Vec<LeaseLife>)
+        requires { vec_len found.old + length self.now.associations ≤ vec_capacity found.old }
+        ensures { found.new.items ≡ found.old.items ++ world.lives_of self.now }
     {
         for a in self.parts.associations.iter() {
-            found.push(LeaseLife {
+            found.push_reserved(LeaseLife {
                 client: self.parts.id,
                 server: a.server(),
                 life: a.life(),
                 end: a.lease_end(),
                 crashed: false,
-            })?;
+            });
         }
-        Ok(())
     }
 
     /// A client without servers.

@@ -1,4 +1,4 @@
-ghost use Rattle.std.specs.Prelude.{◌≡◌, ◌≤◌, ◌<◌, ◌+◌, ◌-◌, ◌^◌, true, false, IsOk, IfOk, IfErr, OnOk, IsTrue, ◌↔◌};
+ghost use Rattle.std.specs.Prelude.{◌≡◌, ◌≤◌, ◌<◌, ◌+◌, ◌-◌, ◌^◌, true, false, IsOk, IfOk, IfErr, OnOk, OnErr, IsTrue, ◌↔◌};
 ghost use Rattle.std.specs.List.{list_all};
 ghost use Rattle.st_base.specs.Config as settings;
 ghost use Rattle.st_extents.specs.Layout.{IsWithinLimits};
@@ -104,12 +104,13 @@ impl ServerNode {
         self.running = false;
     }
 
-    /// A node that does not run is started: its epoch rises, and grace begins.
+    /// A node that does not run is started: its epoch rises, and grace begins. Where memory runs out the node stays as it was.
     pub fn start(&mut self, now: Stamp) -> Result<(), AllocError>
         requires crashed { self.old.running ≡ false }
         requires epochs { self.old.state.stable.epoch.0 < 2 ^ 32 - 1 }
         requires time { now.0 ≤ 2 ^ 62 }
-        ensures { OnOk result (self.new ≡ server.start_node self.old now) }
+        ensures started { OnOk result (self.new ≡ server.start_node self.old now) }
+        ensures kept { OnErr result (self.new ≡ self.old) }
     {
         self.machine.start(now);
         self.running = true;
