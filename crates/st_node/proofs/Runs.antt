@@ -1,6 +1,6 @@
 -- The run of a node, frame by frame, whatever bytes follow.
-use Rattle.std.proofs.Common.{◌≡◌, ℕ, zero, suc, ◌-◌, ◌<◌, List, [], ◌∷◌, ◌++◌, length, Option, Some, None, Ok, Err, refl, sym, ap, subst, ◌∙◌, append_assoc, append-nil, arith}
-use Rattle.std.specs.Prelude.{slice_get, IfSome}
+use Rattle.std.proofs.Common.{◌≡◌, ℕ, zero, suc, ◌-◌, ◌<◌, ◌≤◌, List, [], ◌∷◌, ◌++◌, length, Option, Some, None, Ok, Err, refl, sym, ap, subst, ◌∙◌, append_assoc, append-nil, arith}
+use Rattle.std.specs.Prelude.{slice_get}
 use Rattle.st_base.specs.declared.ids.Stamp.{Stamp}
 use Rattle.st_clock.specs.Readings.{after, Tells}
 use Rattle.st_codec.specs.declared.refusal.CodecRefusal.{CodecRefusal}
@@ -10,7 +10,7 @@ use Rattle.st_node.specs.declared.node.Node.{Node}
 use Rattle.st_node.specs.declared.fault.NodeFault.{NodeFault}
 use Rattle.st_node.specs.declared.fault.NodeFault.TheVariants as faults
 use Rattle.st_node.specs.Runs.{Run, handle, run, go_on, then_rest, behind, ended, end_at, full_at, reading}
-use Rattle.st_node.specs.Serving.{Carries, GoesOn, StopsAt, IsIdle}
+use Rattle.st_node.specs.Serving.{AreReadings, Carries, GoesOn, IsIdle, OfReadings, StopsAt}
 use Rattle.st_node.proofs.Reading.{next_more}
 
 -- ---- pieces
@@ -69,42 +69,89 @@ told_reading : (rs : List Stamp) (now : Stamp) → slice_get rs 0 ≡ Some now �
 told_reading [] now e = absurd cc
 told_reading (x ∷ xs) now e = cc
 
--- a frame was handled, with one reading
-pub handled_goes : (k : ℕ) (n p : Node) (f g : Frames) (m : Message) (old new : List ℕ) (now : Stamp) (before later : Option (List Stamp)) →
-    0 < k → next f ≡ (g, Some (Ok m)) → Tells before later now →
-    p ≡ (handle n now m).node → new ≡ old ++ (handle n now m).out → Carries before later (GoesOn k n f old (k - 1) p g new)
-handled_goes k n p f g m old new now None later some e told node out = told
-handled_goes k n p f g m old new now (Some rs) later some e told node out =
-    subst (λ l. Carries (Some rs) l (GoesOn k n f old (k - 1) p g new)) (sym told.1)
-    (λ more.
-    let is : reading rs ≡ now = told_reading rs now told.0 in
+-- a frame was handled, with this first reading
+reading_goes : (k : ℕ) (n p : Node) (f g : Frames) (m : Message) (old new : List ℕ) (now : Stamp) (rs : List Stamp) →
+    0 < k → next f ≡ (g, Some (Ok m)) → reading rs ≡ now →
+    p ≡ (handle n now m).node → new ≡ old ++ (handle n now m).out → GoesOn k n f old (k - 1) p g new rs (after rs)
+reading_goes k n p f g m old new now rs some e is node out = λ more.
     let goes : run k n rs (fed f more) ≡ then_rest (handle n now m) (λ p. run (k - 1) p (after rs) (fed g more)) =
     frame_goes k n rs f g m more some e ∙ ap (λ (x : Stamp). then_rest (handle n x m) (λ p. run (k - 1) p (after rs) (fed g more))) is in
     ap (λ (w : List ℕ). behind w (run (k - 1) p (after rs) (fed g more))) out
     ∙ ap (λ (q : Node). behind (old ++ (handle n now m).out) (run (k - 1) q (after rs) (fed g more))) node
     ∙ behind_both old (handle n now m).out (run (k - 1) (handle n now m).node (after rs) (fed g more))
-    ∙ ap (behind old) (sym goes))
+    ∙ ap (behind old) (sym goes)
+
+-- a reading before those that came later
+untold_goes : (k : ℕ) (n p : Node) (f g : Frames) (m : Message) (old new : List ℕ) (now : Stamp) (later : List Stamp) →
+    0 < k → next f ≡ (g, Some (Ok m)) → p ≡ (handle n now m).node → new ≡ old ++ (handle n now m).out → 1 ≤ length later →
+    OfReadings None (λ rs. GoesOn k n f old (k - 1) p g new rs later)
+untold_goes k n p f g m old new now [] some e node out one = absurd (omega (arith, one))
+untold_goes k n p f g m old new now (x ∷ xs) some e node out one = record {
+  readings = now ∷ (x ∷ xs);
+  are = omega arith;
+  holds = reading_goes k n p f g m old new now (now ∷ (x ∷ xs)) some e refl node out;
+}
+
+-- a frame was handled, with one reading
+pub handled_goes : (k : ℕ) (n p : Node) (f g : Frames) (m : Message) (old new : List ℕ) (now : Stamp) (before later : Option (List Stamp)) →
+    0 < k → next f ≡ (g, Some (Ok m)) → Tells before later now →
+    p ≡ (handle n now m).node → new ≡ old ++ (handle n now m).out → Carries before later (GoesOn k n f old (k - 1) p g new)
+handled_goes k n p f g m old new now None later some e told node out = record {
+  each = λ last are. untold_goes k n p f g m old new now last some e node out (subst (λ t. AreReadings t last) told are);
+}
+handled_goes k n p f g m old new now (Some rs) later some e told node out = record {
+  each = λ last are. record {
+    readings = rs;
+    are = refl;
+    holds = subst (λ t. GoesOn k n f old (k - 1) p g new rs t) (sym (subst (λ t. AreReadings t last) told.1 are))
+        (reading_goes k n p f g m old new now rs some e (told_reading rs now told.0) node out);
+  };
+}
 
 -- one after the other
 pub carries_both : (a b c : Option (List Stamp)) (k j i : ℕ) (n p q : Node) (f g h : Frames) (old mid new : List ℕ) →
     Carries a b (GoesOn k n f old j p g mid) → Carries b c (GoesOn j p g mid i q h new) → Carries a c (GoesOn k n f old i q h new)
-carries_both None b c k j i n p q f g h old mid new one two = none_stays b c one two
-  where
-    none_stays : (b c : Option (List Stamp)) → b ≡ None → Carries b c (GoesOn j p g mid i q h new) → c ≡ None
-    none_stays None c e two = two
-    none_stays (Some x) c e two = absurd cc
-carries_both (Some a) None c k j i n p q f g h old mid new one two = absurd one
-carries_both (Some a) (Some b) None k j i n p q f g h old mid new one two = absurd two
-carries_both (Some a) (Some b) (Some c) k j i n p q f g h old mid new one two = λ more. two more ∙ one more
+carries_both a b c k j i n p q f g h old mid new one two = record {
+  each = λ last are.
+      let t = two.each last are in
+      let o = one.each t.readings t.are in
+      record { readings = o.readings; are = o.are; holds = λ more. t.holds more ∙ o.holds more };
+}
 
 -- nothing was done
 pub carries_nothing : (a : Option (List Stamp)) (k : ℕ) (n : Node) (f : Frames) (old : List ℕ) → Carries a a (GoesOn k n f old k n f old)
-carries_nothing None k n f old = refl
-carries_nothing (Some a) k n f old = λ more. refl
+carries_nothing a k n f old = record { each = λ last are. record { readings = last; are = are; holds = λ more. refl } }
 
 -- a stop behind what was done
 pub stops_behind : (a b : Option (List Stamp)) (k j : ℕ) (n p q : Node) (f g : Frames) (old mid new : List ℕ) (stop : NodeFault) →
-    Carries a b (GoesOn k n f old j p g mid) → IfSome b (StopsAt j p g mid q new stop) → IfSome a (StopsAt k n f old q new stop)
-stops_behind None b k j n p q f g old mid new stop one two = tt
-stops_behind (Some a) None k j n p q f g old mid new stop one two = absurd one
-stops_behind (Some a) (Some b) k j n p q f g old mid new stop one two = λ more. two more ∙ one more
+    Carries a b (GoesOn k n f old j p g mid) → OfReadings b (StopsAt j p g mid q new stop) → OfReadings a (StopsAt k n f old q new stop)
+stops_behind a b k j n p q f g old mid new stop one two =
+    let o = one.each two.readings two.are in
+    record { readings = o.readings; are = o.are; holds = λ more. two.holds more ∙ o.holds more }
+
+-- ---- some readings
+
+-- a clock has readings
+pub some_readings : (told : Option (List Stamp)) → OfReadings told (λ readings. Unit {0})
+some_readings None = record { readings = record { 0 = 0 } ∷ []; are = omega arith; holds = tt }
+some_readings (Some rs) = record { readings = rs; are = refl; holds = tt }
+
+-- what is so of all readings
+pub each_reading : (told : Option (List Stamp)) (fact : List Stamp → Type 0) → ((rs : List Stamp) → fact rs) → OfReadings told fact
+each_reading told fact all = let some = some_readings told in record { readings = some.readings; are = some.are; holds = all some.readings }
+
+-- what follows from what is so of some readings
+pub map_readings : (told : Option (List Stamp)) (one two : List Stamp → Type 0) → ((rs : List Stamp) → one rs → two rs) → OfReadings told one → OfReadings told two
+map_readings told one two so h = record { readings = h.readings; are = h.are; holds = so h.readings h.holds }
+
+-- what is so of readings whose last ones are given
+pub from_both : (a b : Option (List Stamp)) (fact : List Stamp → List Stamp → Type 0) (end goal : List Stamp → Type 0) →
+    Carries a b fact → OfReadings b end → ((rs later : List Stamp) → fact rs later → end later → goal rs) → OfReadings a goal
+from_both a b fact end goal goes ends so =
+    let o = goes.each ends.readings ends.are in
+    record { readings = o.readings; are = o.are; holds = so o.readings ends.readings o.holds ends.holds }
+
+-- what is so whatever comes later
+pub from_first : (a b : Option (List Stamp)) (fact : List Stamp → List Stamp → Type 0) (goal : List Stamp → Type 0) →
+    Carries a b fact → ((rs later : List Stamp) → fact rs later → goal rs) → OfReadings a goal
+from_first a b fact goal goes so = from_both a b fact (λ readings. Unit {0}) goal goes (some_readings b) (λ rs later is u. so rs later is)

@@ -11,9 +11,9 @@ use Rattle.st_node.specs.declared.node.Node.{Node}
 use Rattle.st_node.specs.declared.fault.NodeFault.{NodeFault}
 use Rattle.st_node.specs.declared.fault.NodeFault.TheVariants as faults
 use Rattle.st_node.specs.Runs.{Run, MOST, behind, end_at, node_run, run}
-use Rattle.st_node.specs.Serving.{Breaks, Carries, GoesOn, IsCutOff, IsCutShort, IsFront, IsHalted, IsHandled, IsIdle, IsTorn, Pieces, Serves, StopsAt, room_for}
+use Rattle.st_node.specs.Serving.{Breaks, Carries, GoesOn, IsCutOff, IsCutShort, IsFront, IsHalted, IsHandled, IsIdle, IsTorn, OfReadings, Pieces, Serves, StopsAt, room_for}
 use Rattle.st_node.proofs.Reading.{part_few}
-use Rattle.st_node.proofs.Runs.{behind_both, fed_nothing, fed_twice, idle_ends}
+use Rattle.st_node.proofs.Runs.{behind_both, fed_nothing, fed_twice, from_both, from_first, idle_ends, some_readings}
 
 -- the run goes on from here, behind what was written
 abbrev pub Follows : Node → List ℕ → List ℕ → ℕ → Node → Frames → List Stamp → List Stamp → Type 0
@@ -46,13 +46,9 @@ begun left written readings n = record {
   written = [];
   took = Consumes-nil left;
   wrote = Appends-nil written;
-  goes = carries readings;
+  goes = record { each = λ later are. record { readings = later; are = are; holds = λ more. refl } };
   idle = idle_from MOST fresh (omega arith) fresh_idle;
 }
-  where
-    carries : (readings : Option (List Stamp)) → Carries readings readings (Follows n [] [] MOST n fresh)
-    carries None = refl
-    carries (Some rs) = λ more. refl
 
 -- ---- how much may come
 
@@ -69,16 +65,21 @@ room_falls k j f g n one two some few = let a = idle_small k f one in let b = id
 piece_goes : (before now later : Option (List Stamp)) (old : Node) (taken written piece out : List ℕ) (k j : ℕ) (n p : Node) (f g : Frames) →
     Carries before now (Follows old taken written k n f) → Carries now later (GoesOn k n (fed f piece) [] j p g out) →
     Carries before later (Follows old (taken ++ piece) (written ++ out) j p g)
-piece_goes None None later old taken written piece out k j n p f g one two = two
-piece_goes None (Some b) later old taken written piece out k j n p f g one two = absurd cc
-piece_goes (Some a) None later old taken written piece out k j n p f g one two = absurd one
-piece_goes (Some a) (Some b) None old taken written piece out k j n p f g one two = absurd two
-piece_goes (Some a) (Some b) (Some c) old taken written piece out k j n p f g one two = λ more.
-    behind_both written out (run j p c (fed g more))
-    ∙ ap (behind written) (two more)
-    ∙ ap (λ (h : Frames). behind written (run k n b h)) (fed_twice f piece more)
-    ∙ one (piece ++ more)
-    ∙ ap (node_run old a) (sym (append_assoc taken piece more))
+piece_goes before now later old taken written piece out k j n p f g one two = record {
+  each = λ last are.
+      let t = two.each last are in
+      let o = one.each t.readings t.are in
+      record {
+        readings = o.readings;
+        are = o.are;
+        holds = λ more.
+            behind_both written out (run j p last (fed g more))
+            ∙ ap (behind written) (t.holds more)
+            ∙ ap (λ (h : Frames). behind written (run k n t.readings h)) (fed_twice f piece more)
+            ∙ o.holds (piece ++ more)
+            ∙ ap (node_run old o.readings) (sym (append_assoc taken piece more));
+      };
+}
 
 pub piece_more : (left now later w wn wl : Option (List ℕ)) (before mid after : Option (List Stamp)) (old : Node) (piece : List ℕ) (k j : ℕ) (n p : Node)
     (f g : Frames) → Streams left now w wn before mid old k n f → Consumes now later piece → IsHandled k n (fed f piece) mid after wn wl j p g →
@@ -125,18 +126,18 @@ prefix_more w wn wl whole written out rest one two e =
 -- the whole stream was taken
 pub at_end : (result : Result Unit NodeFault) (left now later w wn : Option (List ℕ)) (before mid : Option (List Stamp)) (old : Node) (k : ℕ) (n : Node) (f : Frames) (piece : List ℕ) →
     Streams left now w wn before mid old k n f → Consumes now later piece → piece ≡ [] → IsAtEnd later → result ≡ end_at f.offset f.rest →
-    IfSome left (λ bytes. IfSome before (λ readings. Serves result w wn n (node_run old readings bytes)))
+    IfSome left (λ bytes. OfReadings before (λ readings. Serves result w wn n (node_run old readings bytes)))
 at_end result None now later w wn before mid old k n f piece s took empty end is = tt
 at_end result (Some bytes) None later w wn before mid old k n f piece s took empty end is = absurd s.took
 at_end result (Some bytes) (Some xs) None w wn before mid old k n f piece s took empty end is = absurd took
-at_end result (Some bytes) (Some xs) (Some ys) w wn None mid old k n f piece s took empty end is = tt
-at_end result (Some bytes) (Some xs) (Some ys) w wn (Some rs) None old k n f piece s took empty end is = absurd s.goes
-at_end result (Some bytes) (Some xs) (Some ys) w wn (Some rs) (Some now) old k n f piece s took empty end is =
+at_end result (Some bytes) (Some xs) (Some ys) w wn before mid old k n f piece s took empty end is =
     let nothing : xs ≡ [] = took ∙ ap (λ (x : List ℕ). x ++ ys) empty ∙ end in
     let all : bytes ≡ s.taken = s.took ∙ ap (λ (x : List ℕ). s.taken ++ x) nothing ∙ append-nil s.taken in
+    from_first before mid (Follows old s.taken s.written k n f) (λ rs. Serves result w wn n (node_run old rs bytes)) s.goes
+    (λ rs now goes.
     let whole : node_run old rs bytes ≡ record { node = n; out = s.written; stop = end_at f.offset f.rest } =
-    ap (node_run old rs) all ∙ taken_run old s.taken s.written k n f rs now s.goes s.idle in
-    serves result f.offset f.rest (node_run old rs bytes) is whole s.wrote
+    ap (node_run old rs) all ∙ taken_run old s.taken s.written k n f rs now goes s.idle in
+    serves result f.offset f.rest (node_run old rs bytes) is whole s.wrote)
   where
     serves : (result : Result Unit NodeFault) (offset : ℕ) (rest : List ℕ) (r : Run) → result ≡ end_at offset rest →
         r ≡ record { node = n; out = s.written; stop = end_at offset rest } → Appends w wn s.written → Serves result w wn n r
@@ -145,31 +146,39 @@ at_end result (Some bytes) (Some xs) (Some ys) w wn (Some rs) (Some now) old k n
     serves result offset (b ∷ bs) r is e wrote =
         subst (λ x. Serves x w wn n r) (sym is) (subst (Serves (Err (faults.Cut offset)) w wn n) (sym e) (refl, refl, wrote))
 
+-- no more is said of an end
+pub end_breaks : (result : Result Unit NodeFault) (left later w wn : Option (List ℕ)) (before : Option (List Stamp)) (old new : Node) (offset : ℕ) (rest : List ℕ) →
+    result ≡ end_at offset rest → OfReadings before (λ readings. Breaks result old new readings left later w wn)
+end_breaks result left later w wn before old new offset [] is =
+    subst (λ x. OfReadings before (λ readings. Breaks x old new readings left later w wn)) (sym is) (some_readings before)
+end_breaks result left later w wn before old new offset (b ∷ bs) is =
+    subst (λ x. OfReadings before (λ readings. Breaks x old new readings left later w wn)) (sym is) (some_readings before)
+
 -- a read failed
 pub cut_off : (left now later w wn : Option (List ℕ)) (before mid : Option (List Stamp)) (old : Node) (k : ℕ) (n : Node) (f : Frames) →
-    Streams left now w wn before mid old k n f → Keeps now later → IfSome before (λ readings. IsCutOff old n readings left later w wn)
-cut_off left now later w wn None mid old k n f s kept = tt
-cut_off left now later w wn (Some rs) None old k n f s kept = absurd s.goes
-cut_off left now later w wn (Some rs) (Some now_rs) old k n f s kept =
-    let is = taken_run old s.taken s.written k n f rs now_rs s.goes s.idle in
+    Streams left now w wn before mid old k n f → Keeps now later → OfReadings before (λ readings. IsCutOff old n readings left later w wn)
+cut_off left now later w wn before mid old k n f s kept =
+    from_first before mid (Follows old s.taken s.written k n f) (λ rs. IsCutOff old n rs left later w wn) s.goes
+    (λ rs last goes.
+    let is = taken_run old s.taken s.written k n f rs last goes s.idle in
     record {
       taken = s.taken;
       took = Consumes-kept left now later s.taken s.took kept;
       stands = ap (λ (r : Run). r.node) is;
       wrote = subst (Appends w wn) (sym (ap (λ (r : Run). r.out) is)) s.wrote;
-    }
+    })
 
 -- a front was written so far
 pub so_far : (left now w wn : Option (List ℕ)) (before mid : Option (List Stamp)) (old : Node) (k : ℕ) (n : Node) (f : Frames) →
     Streams left now w wn before mid old k n f →
-    IfSome left (λ bytes. IfSome before (λ readings. AppendsPrefix w wn (node_run old readings bytes).out))
+    IfSome left (λ bytes. OfReadings before (λ readings. AppendsPrefix w wn (node_run old readings bytes).out))
 so_far None now w wn before mid old k n f s = tt
 so_far (Some bytes) None w wn before mid old k n f s = absurd s.took
-so_far (Some bytes) (Some xs) w wn None mid old k n f s = tt
-so_far (Some bytes) (Some xs) w wn (Some rs) None old k n f s = absurd s.goes
-so_far (Some bytes) (Some xs) w wn (Some rs) (Some now) old k n f s =
+so_far (Some bytes) (Some xs) w wn before mid old k n f s =
+    from_first before mid (Follows old s.taken s.written k n f) (λ rs. AppendsPrefix w wn (node_run old rs bytes).out) s.goes
+    (λ rs now goes.
     prefix_of w wn (node_run old rs bytes).out s.written (run k n now (fed f xs)).out s.wrote
-    (ap (λ (b : List ℕ). (node_run old rs b).out) s.took ∙ front_run old s.taken s.written xs k n f rs now s.goes)
+    (ap (λ (b : List ℕ). (node_run old rs b).out) s.took ∙ front_run old s.taken s.written xs k n f rs now goes))
 
 -- the run stopped in a piece
 stop_run : (old : Node) (taken written piece out more : List ℕ) (k : ℕ) (n p : Node) (f : Frames) (stop : NodeFault) (before now : List Stamp) →
@@ -180,80 +189,84 @@ stop_run old taken written piece out more k n p f stop before now goes stops =
 
 pub halted : (left now later w wn wl : Option (List ℕ)) (before mid : Option (List Stamp)) (old : Node) (piece : List ℕ) (k : ℕ) (n p : Node) (f : Frames) (stop : NodeFault) →
     Streams left now w wn before mid old k n f → Consumes now later piece → IsHalted k n (fed f piece) mid wn wl p stop →
-    IfSome left (λ bytes. IfSome before (λ readings.
+    IfSome left (λ bytes. OfReadings before (λ readings.
     ((node_run old readings bytes).stop ≡ Err stop) × ((node_run old readings bytes).node ≡ p) × Appends w wl (node_run old readings bytes).out))
 halted None now later w wn wl before mid old piece k n p f stop s took h = tt
 halted (Some bytes) None later w wn wl before mid old piece k n p f stop s took h = absurd s.took
 halted (Some bytes) (Some xs) None w wn wl before mid old piece k n p f stop s took h = absurd took
-halted (Some bytes) (Some xs) (Some ys) w wn wl None mid old piece k n p f stop s took h = tt
-halted (Some bytes) (Some xs) (Some ys) w wn wl (Some rs) None old piece k n p f stop s took h = absurd s.goes
-halted (Some bytes) (Some xs) (Some ys) w wn wl (Some rs) (Some now) old piece k n p f stop s took h =
+halted (Some bytes) (Some xs) (Some ys) w wn wl before mid old piece k n p f stop s took h =
     let all : bytes ≡ s.taken ++ (piece ++ ys) = s.took ∙ ap (λ (x : List ℕ). s.taken ++ x) took in
+    from_both before mid (Follows old s.taken s.written k n f) (StopsAt k n (fed f piece) [] p h.out stop)
+    (λ rs. ((node_run old rs bytes).stop ≡ Err stop) × ((node_run old rs bytes).node ≡ p) × Appends w wl (node_run old rs bytes).out) s.goes h.stops
+    (λ rs now goes stops.
     let whole : node_run old rs bytes ≡ record { node = p; out = s.written ++ h.out; stop = Err stop } =
-    ap (node_run old rs) all ∙ stop_run old s.taken s.written piece h.out ys k n p f stop rs now s.goes h.stops in (
+    ap (node_run old rs) all ∙ stop_run old s.taken s.written piece h.out ys k n p f stop rs now goes stops in (
       ap (λ (r : Run). r.stop) whole,
       ap (λ (r : Run). r.node) whole,
       subst (Appends w wl) (sym (ap (λ (r : Run). r.out) whole)) (Appends-trans w wn wl s.written h.out s.wrote h.wrote),
-    )
+    ))
 
 -- a write failed
 pub torn : (left now later w wn wl : Option (List ℕ)) (before mid : Option (List Stamp)) (old : Node) (piece : List ℕ) (k : ℕ) (n p : Node) (f : Frames) →
     Streams left now w wn before mid old k n f → Consumes now later piece → IsTorn k n (fed f piece) mid wn wl p →
-    IfSome left (λ bytes. IfSome before (λ readings. AppendsPrefix w wl (node_run old readings bytes).out))
+    IfSome left (λ bytes. OfReadings before (λ readings. AppendsPrefix w wl (node_run old readings bytes).out))
 torn None now later w wn wl before mid old piece k n p f s took h = tt
 torn (Some bytes) None later w wn wl before mid old piece k n p f s took h = absurd s.took
 torn (Some bytes) (Some xs) None w wn wl before mid old piece k n p f s took h = absurd took
-torn (Some bytes) (Some xs) (Some ys) w wn wl None mid old piece k n p f s took h = tt
-torn (Some bytes) (Some xs) (Some ys) w wn wl (Some rs) None old piece k n p f s took h = absurd s.goes
-torn (Some bytes) (Some xs) (Some ys) w wn wl (Some rs) (Some now) old piece k n p f s took h =
+torn (Some bytes) (Some xs) (Some ys) w wn wl before mid old piece k n p f s took h =
     let all : bytes ≡ s.taken ++ (piece ++ ys) = s.took ∙ ap (λ (x : List ℕ). s.taken ++ x) took in
-    let more = h.front.first ys in
+    from_both before mid (Follows old s.taken s.written k n f) (IsFront k n (fed f piece) p h.out) (λ rs. AppendsPrefix w wl (node_run old rs bytes).out) s.goes h.front
+    (λ rs now goes front.
+    let more = front.first ys in
     prefix_more w wn wl (node_run old rs bytes).out s.written h.out more.0 s.wrote h.wrote
-    (ap (λ (b : List ℕ). (node_run old rs b).out) all ∙ front_run old s.taken s.written (piece ++ ys) k n f rs now s.goes
-    ∙ ap (λ (g : Frames). s.written ++ (run k n now g).out) (sym (fed_twice f piece ys)) ∙ ap (λ (x : List ℕ). s.written ++ x) more.1)
+    (ap (λ (b : List ℕ). (node_run old rs b).out) all ∙ front_run old s.taken s.written (piece ++ ys) k n f rs now goes
+    ∙ ap (λ (g : Frames). s.written ++ (run k n now g).out) (sym (fed_twice f piece ys)) ∙ ap (λ (x : List ℕ). s.written ++ x) more.1))
 
 pub cut_short : (left now later w wn wl : Option (List ℕ)) (before mid : Option (List Stamp)) (old : Node) (piece : List ℕ) (k : ℕ) (n p : Node) (f : Frames) →
     Streams left now w wn before mid old k n f → Consumes now later piece → IsTorn k n (fed f piece) mid wn wl p →
-    IfSome before (λ readings. IsCutShort old p readings left later w wl)
-cut_short left now later w wn wl None mid old piece k n p f s took h = tt
-cut_short left now later w wn wl (Some rs) None old piece k n p f s took h = absurd s.goes
-cut_short left now later w wn wl (Some rs) (Some now_rs) old piece k n p f s took h =
-    let is : node_run old rs (s.taken ++ piece) ≡ behind s.written (run k n now_rs (fed f piece)) = sym (s.goes piece) in
+    OfReadings before (λ readings. IsCutShort old p readings left later w wl)
+cut_short left now later w wn wl before mid old piece k n p f s took h =
+    from_both before mid (Follows old s.taken s.written k n f) (IsFront k n (fed f piece) p h.out) (λ rs. IsCutShort old p rs left later w wl) s.goes h.front
+    (λ rs last goes front.
+    let is : node_run old rs (s.taken ++ piece) ≡ behind s.written (run k n last (fed f piece)) = sym (goes piece) in
     record {
       taken = s.taken ++ piece;
       took = Consumes-trans left now later s.taken piece s.took took;
-      stands = ap (λ (r : Run). r.node) is ∙ h.front.stands;
+      stands = ap (λ (r : Run). r.node) is ∙ front.stands;
       wrote = prefix_more w wn wl (node_run old rs (s.taken ++ piece)).out s.written h.out [] s.wrote h.wrote
-          (ap (λ (r : Run). r.out) is ∙ ap (λ (x : List ℕ). s.written ++ x) (h.front.is ∙ sym (append-nil h.out)));
-    }
+          (ap (λ (r : Run). r.out) is ∙ ap (λ (x : List ℕ). s.written ++ x) (front.is ∙ sym (append-nil h.out)));
+    })
 
 -- ---- a piece
 
 -- what a call that went on leaves of a piece is a front of its run
 pub front_of_going : (before now : Option (List Stamp)) (k j : ℕ) (n p : Node) (f g : Frames) (out : List ℕ) → Carries before now (GoesOn k n f [] j p g out) → IsIdle j g →
-    IfSome before (IsFront k n f p out)
-front_of_going None now k j n p f g out goes idle = tt
-front_of_going (Some rs) None k j n p f g out goes idle = absurd goes
-front_of_going (Some rs) (Some ts) k j n p f g out goes idle =
+    OfReadings before (IsFront k n f p out)
+front_of_going before now k j n p f g out goes idle =
+    from_first before now (GoesOn k n f [] j p g out) (IsFront k n f p out) goes
+    (λ rs ts on.
     let is : run k n rs f ≡ record { node = p; out = out; stop = end_at g.offset g.rest } =
-    ap (run k n rs) (sym (fed_nothing f)) ∙ sym (goes []) ∙ ap (λ (h : Frames). behind out (run j p ts h)) (fed_nothing g) ∙ ap (behind out) (idle_ends j p ts g idle)
+    ap (run k n rs) (sym (fed_nothing f)) ∙ sym (on []) ∙ ap (λ (h : Frames). behind out (run j p ts h)) (fed_nothing g) ∙ ap (behind out) (idle_ends j p ts g idle)
     ∙ ap (λ (w : List ℕ). record { node = p; out = w; stop = end_at g.offset g.rest }) (append-nil out) in
     record {
       stands = ap (λ (r : Run). r.node) is;
       is = ap (λ (r : Run). r.out) is;
-      first = λ more. ((run j p ts (fed g more)).out, ap (λ (r : Run). r.out) (sym (goes more)));
-    }
+      first = λ more. ((run j p ts (fed g more)).out, ap (λ (r : Run). r.out) (sym (on more)));
+    })
 
 -- so is what a call that stopped leaves
-pub front_of_stop : (before : Option (List Stamp)) (k : ℕ) (n p : Node) (f : Frames) (out : List ℕ) (stop : NodeFault) → IfSome before (StopsAt k n f [] p out stop) →
-    IfSome before (IsFront k n f p out)
-front_of_stop None k n p f out stop h = tt
-front_of_stop (Some rs) k n p f out stop h =
-    let is : run k n rs f ≡ record { node = p; out = out; stop = Err stop } = ap (run k n rs) (sym (fed_nothing f)) ∙ sym (h []) in
+pub front_of_stop : (before : Option (List Stamp)) (k : ℕ) (n p : Node) (f : Frames) (out : List ℕ) (stop : NodeFault) → OfReadings before (StopsAt k n f [] p out stop) →
+    OfReadings before (IsFront k n f p out)
+front_of_stop before k n p f out stop h =
+    let is : run k n h.readings f ≡ record { node = p; out = out; stop = Err stop } = ap (run k n h.readings) (sym (fed_nothing f)) ∙ sym (h.holds []) in
     record {
-      stands = ap (λ (r : Run). r.node) is;
-      is = ap (λ (r : Run). r.out) is;
-      first = λ more. ([], ap (λ (r : Run). r.out) (sym (h more)) ∙ sym (append-nil out));
+      readings = h.readings;
+      are = h.are;
+      holds = record {
+        stands = ap (λ (r : Run). r.node) is;
+        is = ap (λ (r : Run). r.out) is;
+        first = λ more. ([], ap (λ (r : Run). r.out) (sym (h.holds more)) ∙ sym (append-nil out));
+      };
     }
 
 -- ---- a call that stopped in a piece
@@ -266,7 +279,7 @@ written_as left now w wn wm before mid old k n f e s = subst (λ x. Streams left
 pub piece_serves : (e : NodeFault) (left now later w wn wl : Option (List ℕ)) (before mid after : Option (List Stamp)) (old : Node) (piece : List ℕ) (k j : ℕ)
     (n p : Node) (f g : Frames) → Streams left now w wn before mid old k n f → Consumes now later piece →
     Pieces (Err e) k n (fed f piece) mid after wn wl j p g →
-    IfSome left (λ bytes. IfSome before (λ readings. Serves (Err e) w wl p (node_run old readings bytes)))
+    IfSome left (λ bytes. OfReadings before (λ readings. Serves (Err e) w wl p (node_run old readings bytes)))
 piece_serves faults.Memory left now later w wn wl before mid after old piece k j n p f g s took h =
     so_far left now w wl before mid old k n f (written_as left now w wn wl before mid old k n f h s)
 piece_serves faults.Write left now later w wn wl before mid after old piece k j n p f g s took h = torn left now later w wn wl before mid old piece k n p f s took h
@@ -277,17 +290,13 @@ piece_serves (faults.Frame at r) left now later w wn wl before mid after old pie
 piece_serves faults.TooManyFrames left now later w wn wl before mid after old piece k j n p f g s took h =
     halted left now later w wn wl before mid old piece k n p f faults.TooManyFrames s took h
 
-nothing_breaks : (before : Option (List Stamp)) → IfSome before (λ readings. Unit {0})
-nothing_breaks None = tt
-nothing_breaks (Some rs) = tt
-
 pub piece_breaks : (e : NodeFault) (left now later w wn wl : Option (List ℕ)) (before mid after : Option (List Stamp)) (old : Node) (piece : List ℕ) (k j : ℕ)
     (n p : Node) (f g : Frames) → Streams left now w wn before mid old k n f → Consumes now later piece →
     Pieces (Err e) k n (fed f piece) mid after wn wl j p g →
-    IfSome before (λ readings. Breaks (Err e) old p readings left later w wl)
-piece_breaks faults.Memory left now later w wn wl before mid after old piece k j n p f g s took h = nothing_breaks before
+    OfReadings before (λ readings. Breaks (Err e) old p readings left later w wl)
+piece_breaks faults.Memory left now later w wn wl before mid after old piece k j n p f g s took h = some_readings before
 piece_breaks faults.Write left now later w wn wl before mid after old piece k j n p f g s took h = cut_short left now later w wn wl before mid old piece k n p f s took h
 piece_breaks faults.Read left now later w wn wl before mid after old piece k j n p f g s took h = absurd h
 piece_breaks (faults.Cut at) left now later w wn wl before mid after old piece k j n p f g s took h = absurd h
-piece_breaks (faults.Frame at r) left now later w wn wl before mid after old piece k j n p f g s took h = nothing_breaks before
-piece_breaks faults.TooManyFrames left now later w wn wl before mid after old piece k j n p f g s took h = nothing_breaks before
+piece_breaks (faults.Frame at r) left now later w wn wl before mid after old piece k j n p f g s took h = some_readings before
+piece_breaks faults.TooManyFrames left now later w wn wl before mid after old piece k j n p f g s took h = some_readings before

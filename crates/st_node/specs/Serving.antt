@@ -1,5 +1,5 @@
 -- A node that is served over a link: what stands of the link, the clock and the node when a call returns.
-use Rattle.std.specs.Prelude.{◌≡◌, ◌≤◌, ℕ, zero, suc, ◌*◌, List, [], ◌++◌, Option, Some, None, Result, Ok, Err, IfSome}
+use Rattle.std.specs.Prelude.{◌≡◌, ◌≤◌, ℕ, zero, suc, ◌*◌, List, [], ◌++◌, length, Option, Some, None, Result, Ok, Err}
 use Rattle.std.specs.Io.KnownBytes.{Appends, Consumes}
 use Rattle.st_base.specs.declared.ids.Stamp.{Stamp}
 use Rattle.st_codec.specs.Frames.{Frames, fed, next}
@@ -9,6 +9,17 @@ use Rattle.st_node.specs.declared.node.Node.{Node}
 use Rattle.st_node.specs.declared.fault.NodeFault.{NodeFault}
 use Rattle.st_node.specs.declared.fault.NodeFault.TheVariants as faults
 use Rattle.st_node.specs.Runs.{Run, behind, run, node_run}
+
+-- Readings as a clock has them: those to come where it tells them, and else any, at least one.
+abbrev pub AreReadings : Option (List Stamp) → List Stamp → Type 0
+AreReadings None readings = 1 ≤ length readings
+AreReadings (Some told) readings = readings ≡ told
+
+-- A fact of a clock's readings: of those to come where it tells them, and else of some.
+pub record OfReadings (told : Option (List Stamp)) (fact : List Stamp → Type 0) : Type 0 where
+  pub readings : List Stamp
+  pub are : AreReadings told readings
+  pub holds : fact readings
 
 -- What was written and where the node stands, next to the run over all bytes: all of it where the stream ended or the run stopped,
 -- and otherwise a front of what is written in it.
@@ -49,11 +60,9 @@ HasCauses result before now = now ≡ before
 
 -- Inside of a call.
 
--- a fact of the readings of a clock before and after a call, where it tells them
-abbrev pub Carries : Option (List Stamp) → Option (List Stamp) → (List Stamp → List Stamp → Type 0) → Type 0
-Carries None now fact = now ≡ None
-Carries (Some before) None fact = ⊥
-Carries (Some before) (Some now) fact = fact before now
+-- a fact of a clock's readings before and after a call: whatever they are after it, there were some before it
+pub record Carries (before now : Option (List Stamp)) (fact : List Stamp → List Stamp → Type 0) : Type 0 where
+  pub each : (later : List Stamp) → AreReadings now later → OfReadings before (λ readings. fact readings later)
 
 -- the fact holds of why a run stopped inside of the stream; nothing is said where memory ran out
 abbrev pub OnStop : {T : Type 0} → Result T NodeFault → (NodeFault → Type 0) → Type 0
@@ -88,7 +97,7 @@ pub record IsHandled (k : ℕ) (n : Node) (f : Frames) (before now : Option (Lis
 pub record IsHalted (k : ℕ) (n : Node) (f : Frames) (before : Option (List Stamp)) (old new : Option (List ℕ)) (p : Node) (stop : NodeFault) : Type 0 where
   pub out : List ℕ
   pub wrote : Appends old new out
-  pub stops : IfSome before (StopsAt k n f [] p out stop)
+  pub stops : OfReadings before (StopsAt k n f [] p out stop)
 
 -- the run over what is held leaves this node and these bytes, and these are the first ones whatever follows
 pub record IsFront (k : ℕ) (n : Node) (f : Frames) (p : Node) (out : List ℕ) (before : List Stamp) : Type 0 where
@@ -100,7 +109,7 @@ pub record IsFront (k : ℕ) (n : Node) (f : Frames) (p : Node) (out : List ℕ)
 pub record IsTorn (k : ℕ) (n : Node) (f : Frames) (before : Option (List Stamp)) (old new : Option (List ℕ)) (p : Node) : Type 0 where
   pub out : List ℕ
   pub wrote : AppendsPrefix old new out
-  pub front : IfSome before (IsFront k n f p out)
+  pub front : OfReadings before (IsFront k n f p out)
 
 -- what a piece left
 abbrev pub Pieces : Result Unit NodeFault → ℕ → Node → Frames → Option (List Stamp) → Option (List Stamp) → Option (List ℕ) → Option (List ℕ) → ℕ → Node → Frames → Type 0

@@ -5,7 +5,7 @@ ghost use Rattle.st_codec.specs.Frames.{fed};
 ghost use Rattle.st_node.specs.declared.fault.NodeFault.TheVariants.{Memory};
 ghost use Rattle.st_node.specs.Room.{HasRoomFor};
 ghost use Rattle.st_node.specs.Runs.{MOST, end_at, node_run};
-ghost use Rattle.st_node.specs.Serving.{Breaks, Carries, GoesOn, HasCauses, IsIdle, OnStop, Pieces, Serves, StopsAt, room_for};
+ghost use Rattle.st_node.specs.Serving.{Breaks, Carries, GoesOn, HasCauses, IsIdle, OfReadings, OnStop, Pieces, Serves, StopsAt, room_for};
 
 use crate::fault::NodeFault;
 use crate::node::Node;
@@ -28,7 +28,7 @@ fn handle_next<C: Clock>(
     requires room { HasRoomFor left.old node.old }
     ensures goes { OnOk result (Carries (C.readings clock.old) (C.readings clock.new)
         (GoesOn left.old node.old reader.old text.old.items left.new node.new reader.new text.new.items)) }
-    ensures stops { OnStop result (λ stop. IfSome (C.readings clock.old)
+    ensures stops { OnStop result (λ stop. OfReadings (C.readings clock.old)
         (StopsAt left.old node.old reader.old text.old.items node.new text.new.items stop)) }
     ensures room { OnOk result (HasRoomFor left.new node.new) }
     ensures few { OnOk result (length reader.old.rest + room_for left.new ≤ length reader.new.rest + room_for left.old) }
@@ -66,7 +66,7 @@ fn handle_frames<C: Clock>(
     requires room { HasRoomFor left.old node.old }
     ensures goes { OnOk result (Carries (C.readings clock.old) (C.readings clock.new)
         (GoesOn left.old node.old reader.old text.old.items left.new node.new reader.new text.new.items)) }
-    ensures stops { OnStop result (λ stop. IfSome (C.readings clock.old)
+    ensures stops { OnStop result (λ stop. OfReadings (C.readings clock.old)
         (StopsAt left.old node.old reader.old text.old.items node.new text.new.items stop)) }
     ensures room { OnOk result (HasRoomFor left.new node.new) }
     ensures few { OnOk result (length reader.old.rest + room_for left.new ≤ length reader.new.rest + room_for left.old) }
@@ -154,14 +154,14 @@ pub fn serve<L: Link, C: Clock>(
     node: &mut Node,
 ) -> Result<(), NodeFault>
     requires room { HasRoomFor MOST node.old }
-    // The run over all the bytes that the link held, at the clock's readings, where they are told: all of it where the stream ended or
-    // the run stopped, and otherwise a front of what is written in it.
-    ensures run { IfSome (L.left link.old) (λ bytes. IfSome (C.readings clock.old) (λ readings.
+    // The run over all the bytes that the link held, where it tells them, at the clock's readings: those to come where the clock tells
+    // them, and else some readings. All of it where the stream ended or the run stopped, and otherwise a front of what is written in it.
+    ensures run { IfSome (L.left link.old) (λ bytes. OfReadings (C.readings clock.old) (λ readings.
         Serves result (L.written link.old) (L.written link.new) node.new (node_run node.old readings bytes))) }
     ensures through { OnOk result (IsAtEnd (L.left link.new)) }
     // After `Read` and `Write` the node stands as after the run over the bytes that were taken; of this a front was written, and after
     // `Read` all.
-    ensures breaks { IfSome (C.readings clock.old) (λ readings.
+    ensures breaks { OfReadings (C.readings clock.old) (λ readings.
         Breaks result node.old node.new readings (L.left link.old) (L.left link.new) (L.written link.old) (L.written link.new)) }
     // `Read` and `Write` come only where the count of faults rose; elsewhere but at `Memory` it stayed.
     ensures causes { HasCauses result (L.Source.faults link.old) (L.Source.faults link.new) }

@@ -16,8 +16,9 @@ use Rattle.st_node.specs.declared.node.Node.{Node}
 use Rattle.st_node.specs.declared.fault.NodeFault.{NodeFault}
 use Rattle.st_node.specs.declared.fault.NodeFault.TheVariants as faults
 use Rattle.st_node.specs.Runs.{Run, node_run}
-use Rattle.st_node.specs.Serving.{HasCauses, Serves}
+use Rattle.st_node.specs.Serving.{HasCauses, OfReadings, Serves}
 use Rattle.st_node.specs.Whole.{RunsThrough, handle_all}
+use Rattle.st_node.proofs.Runs.{each_reading, map_readings}
 use Rattle.st_tank.specs.NodeEnds.{AttachesBy, Completes, IsAttached, IsTold, MayTell, Writes, end_status, end_text}
 use Rattle.st_tank.specs.NodeWords.{started, started_run}
 
@@ -39,42 +40,43 @@ serves_writes (Err (faults.Cut at)) before now n r h = (h.0, h.2)
 serves_writes (Err faults.TooManyFrames) before now n r h = (h.0, h.2)
 
 pub served_writes : (ended : Result Unit NodeFault) (left before now : Option (List ℕ)) (readings : Option (List Stamp)) (n : Node) (run : List Stamp → List ℕ → Run) →
-    IfSome left (λ bytes. IfSome readings (λ rs. Serves ended before now n (run rs bytes))) →
-    IfSome left (λ bytes. IfSome readings (λ rs. Writes ended before now (run rs bytes)))
+    IfSome left (λ bytes. OfReadings readings (λ rs. Serves ended before now n (run rs bytes))) →
+    IfSome left (λ bytes. OfReadings readings (λ rs. Writes ended before now (run rs bytes)))
 served_writes ended None before now readings n run h = tt
-served_writes ended (Some bytes) before now None n run h = tt
-served_writes ended (Some bytes) before now (Some rs) n run h = serves_writes ended before now n (run rs bytes) h
+served_writes ended (Some bytes) before now readings n run h =
+    map_readings readings (λ rs. Serves ended before now n (run rs bytes)) (λ rs. Writes ended before now (run rs bytes))
+    (λ rs. serves_writes ended before now n (run rs bytes)) h
 
 -- a node was started and attached, and then served
 pub attached_writes : (ended : Result Unit NodeFault) (l k w v now : Option (List ℕ)) (readings : Option (List Stamp)) (id : NodeId) (old new : Node) →
-    k ≡ l → v ≡ w → old ≡ started id → IfSome k (λ bytes. IfSome readings (λ rs. Serves ended v now new (node_run old rs bytes))) →
-    IfSome l (λ bytes. IfSome readings (λ rs. Writes ended w now (started_run id rs bytes)))
+    k ≡ l → v ≡ w → old ≡ started id → IfSome k (λ bytes. OfReadings readings (λ rs. Serves ended v now new (node_run old rs bytes))) →
+    IfSome l (λ bytes. OfReadings readings (λ rs. Writes ended w now (started_run id rs bytes)))
 attached_writes ended l k w v now readings id old new left written begun h =
-    let a : IfSome l (λ bytes. IfSome readings (λ rs. Serves ended v now new (node_run old rs bytes))) =
-    subst (λ x. IfSome x (λ bytes. IfSome readings (λ rs. Serves ended v now new (node_run old rs bytes)))) left h in
-    let b : IfSome l (λ bytes. IfSome readings (λ rs. Serves ended w now new (node_run old rs bytes))) =
-    subst (λ x. IfSome l (λ bytes. IfSome readings (λ rs. Serves ended x now new (node_run old rs bytes)))) written a in
-    let d : IfSome l (λ bytes. IfSome readings (λ rs. Serves ended w now new (node_run (started id) rs bytes))) =
-    subst (λ x. IfSome l (λ bytes. IfSome readings (λ rs. Serves ended w now new (node_run x rs bytes)))) begun b in
+    let a : IfSome l (λ bytes. OfReadings readings (λ rs. Serves ended v now new (node_run old rs bytes))) =
+    subst (λ x. IfSome x (λ bytes. OfReadings readings (λ rs. Serves ended v now new (node_run old rs bytes)))) left h in
+    let b : IfSome l (λ bytes. OfReadings readings (λ rs. Serves ended w now new (node_run old rs bytes))) =
+    subst (λ x. IfSome l (λ bytes. OfReadings readings (λ rs. Serves ended x now new (node_run old rs bytes)))) written a in
+    let d : IfSome l (λ bytes. OfReadings readings (λ rs. Serves ended w now new (node_run (started id) rs bytes))) =
+    subst (λ x. IfSome l (λ bytes. OfReadings readings (λ rs. Serves ended w now new (node_run x rs bytes)))) begun b in
     served_writes ended l w now readings new (λ rs bytes. started_run id rs bytes) d
 
 -- nothing was served
 pub nothing_read : (left before : Option (List ℕ)) (readings : Option (List Stamp)) (run : List Stamp → List ℕ → Run) →
-    IfSome left (λ bytes. IfSome readings (λ rs. Writes (Err faults.Read) before before (run rs bytes)))
+    IfSome left (λ bytes. OfReadings readings (λ rs. Writes (Err faults.Read) before before (run rs bytes)))
 nothing_read None before readings run = tt
-nothing_read (Some bytes) before None run = tt
-nothing_read (Some bytes) before (Some rs) run = none_written before (run rs bytes).out
+nothing_read (Some bytes) before readings run =
+    each_reading readings (λ rs. Writes (Err faults.Read) before before (run rs bytes)) (λ rs. none_written before (run rs bytes).out)
 
 pub unattached_writes : (l w v : Option (List ℕ)) (readings : Option (List Stamp)) (run : List Stamp → List ℕ → Run) → v ≡ w →
-    IfSome l (λ bytes. IfSome readings (λ rs. Writes (Err faults.Read) w v (run rs bytes)))
+    IfSome l (λ bytes. OfReadings readings (λ rs. Writes (Err faults.Read) w v (run rs bytes)))
 unattached_writes l w v readings run written =
-    subst (λ x. IfSome l (λ bytes. IfSome readings (λ rs. Writes (Err faults.Read) w x (run rs bytes)))) (sym written) (nothing_read l w readings run)
+    subst (λ x. IfSome l (λ bytes. OfReadings readings (λ rs. Writes (Err faults.Read) w x (run rs bytes)))) (sym written) (nothing_read l w readings run)
 
 pub nothing_made : (left before : Option (List ℕ)) (readings : Option (List Stamp)) (run : List Stamp → List ℕ → Run) →
-    IfSome left (λ bytes. IfSome readings (λ rs. Writes (Err faults.Memory) before before (run rs bytes)))
+    IfSome left (λ bytes. OfReadings readings (λ rs. Writes (Err faults.Memory) before before (run rs bytes)))
 nothing_made None before readings run = tt
-nothing_made (Some bytes) before None run = tt
-nothing_made (Some bytes) before (Some rs) run = none_written before (run rs bytes).out
+nothing_made (Some bytes) before readings run =
+    each_reading readings (λ rs. Writes (Err faults.Memory) before before (run rs bytes)) (λ rs. none_written before (run rs bytes).out)
 
 -- memory ran out for the text
 less_written : (ended : Result Unit NodeFault) (before now : Option (List ℕ)) (r : Run) → Writes ended before now r → Writes (Err faults.Memory) before now r
@@ -87,11 +89,12 @@ less_written (Err (faults.Cut at)) before now r h = all_front before now r.out h
 less_written (Err faults.TooManyFrames) before now r h = all_front before now r.out h.1
 
 less_run : (ended : Result Unit NodeFault) (left before now : Option (List ℕ)) (readings : Option (List Stamp)) (run : List Stamp → List ℕ → Run) →
-    IfSome left (λ bytes. IfSome readings (λ rs. Writes ended before now (run rs bytes))) →
-    IfSome left (λ bytes. IfSome readings (λ rs. Writes (Err faults.Memory) before now (run rs bytes)))
+    IfSome left (λ bytes. OfReadings readings (λ rs. Writes ended before now (run rs bytes))) →
+    IfSome left (λ bytes. OfReadings readings (λ rs. Writes (Err faults.Memory) before now (run rs bytes)))
 less_run ended None before now readings run h = tt
-less_run ended (Some bytes) before now None run h = tt
-less_run ended (Some bytes) before now (Some rs) run h = less_written ended before now (run rs bytes) h
+less_run ended (Some bytes) before now readings run h =
+    map_readings readings (λ rs. Writes ended before now (run rs bytes)) (λ rs. Writes (Err faults.Memory) before now (run rs bytes))
+    (λ rs. less_written ended before now (run rs bytes)) h
 
 -- what may be told of an end
 pub told_causes : (ended told : Result Unit NodeFault) (before now : ℕ) → MayTell ended told → HasCauses ended before now → HasCauses told before now
@@ -108,12 +111,12 @@ told_causes ended told before now (inr less) h = subst (λ e. HasCauses e before
     stopped (Err faults.TooManyFrames) e h = omega (arith, h)
 
 pub told_run : (ended told : Result Unit NodeFault) (left before now : Option (List ℕ)) (readings : Option (List Stamp)) (run : List Stamp → List ℕ → Run) →
-    MayTell ended told → IfSome left (λ bytes. IfSome readings (λ rs. Writes ended before now (run rs bytes))) →
-    IfSome left (λ bytes. IfSome readings (λ rs. Writes told before now (run rs bytes)))
+    MayTell ended told → IfSome left (λ bytes. OfReadings readings (λ rs. Writes ended before now (run rs bytes))) →
+    IfSome left (λ bytes. OfReadings readings (λ rs. Writes told before now (run rs bytes)))
 told_run ended told left before now readings run (inl same) h =
-    subst (λ e. IfSome left (λ bytes. IfSome readings (λ rs. Writes e before now (run rs bytes)))) (sym same) h
+    subst (λ e. IfSome left (λ bytes. OfReadings readings (λ rs. Writes e before now (run rs bytes)))) (sym same) h
 told_run ended told left before now readings run (inr less) h =
-    subst (λ e. IfSome left (λ bytes. IfSome readings (λ rs. Writes e before now (run rs bytes)))) (sym less.1) (less_run ended left before now readings run h)
+    subst (λ e. IfSome left (λ bytes. OfReadings readings (λ rs. Writes e before now (run rs bytes)))) (sym less.1) (less_run ended left before now readings run h)
 
 -- the status of an end that has no text of status 1
 sure_status : (ended : Result Unit NodeFault) (status : ℕ) (before now : Option (List ℕ)) (a b : ℕ) → (end_status ended ≡ 1 → ⊥) →
@@ -145,14 +148,14 @@ module _ (id : NodeId) (status : ℕ) (before now : Option (List ℕ)) (x y : �
 
 pub completes : (id : NodeId) (status : ℕ) (left before now : Option (List ℕ)) (readings : Option (List Stamp)) (x y : ℕ) (told_before told_now : Option (List ℕ)) (a b : ℕ)
     (ended : Result Unit NodeFault) → ((n : Node) (rs : List Stamp) (ms : List Message) → RunsThrough n rs ms) →
-    IfSome left (λ bytes. IfSome readings (λ rs. Writes ended before now (started_run id rs bytes))) → HasCauses ended x y →
+    IfSome left (λ bytes. OfReadings readings (λ rs. Writes ended before now (started_run id rs bytes))) → HasCauses ended x y →
     IsTold ended status told_before told_now a b → Completes id status left before now readings x y
-completes id status left before now readings x y told_before told_now a b ended law w c t = λ ms rs is tells framed few still.
-    let h : IfSome (Some (flat_map message_frame ms)) (λ bytes. IfSome readings (λ rs. Writes ended before now (started_run id rs bytes))) =
-    subst (λ l. IfSome l (λ bytes. IfSome readings (λ rs. Writes ended before now (started_run id rs bytes)))) is w in
-    let k : Writes ended before now (started_run id rs (flat_map message_frame ms)) =
-    subst (λ r. IfSome r (λ rs. Writes ended before now (started_run id rs (flat_map message_frame ms)))) tells h in
-    ends_so id status before now x y told_before told_now a b ms rs (law (started id) rs ms framed few) still ended k c t
+completes id status left before now readings x y told_before told_now a b ended law w c t = λ ms is framed few still.
+    let h : IfSome (Some (flat_map message_frame ms)) (λ bytes. OfReadings readings (λ rs. Writes ended before now (started_run id rs bytes))) =
+    subst (λ l. IfSome l (λ bytes. OfReadings readings (λ rs. Writes ended before now (started_run id rs bytes)))) is w in
+    map_readings readings (λ rs. Writes ended before now (started_run id rs (flat_map message_frame ms)))
+    (λ rs. (status ≡ 5) ⊎ ((status ≡ 0) × Appends before now (handle_all ms (started id) rs).out))
+    (λ rs k. ends_so id status before now x y told_before told_now a b ms rs (law (started id) rs ms framed few) still ended k c t) h
 
 -- what a status says of the link
 pub link_cause : (ended : Result Unit NodeFault) (status : ℕ) (before now : Option (List ℕ)) (a b x y : ℕ) → IsTold ended status before now a b → HasCauses ended x y →

@@ -15,7 +15,7 @@ use Rattle.st_rules.specs.Report.{field}
 use Rattle.st_node.specs.declared.fault.NodeFault.{NodeFault}
 use Rattle.st_node.specs.declared.fault.NodeFault.TheVariants as faults
 use Rattle.st_node.specs.Runs.{MOST, Run}
-use Rattle.st_node.specs.Serving.{HasCauses}
+use Rattle.st_node.specs.Serving.{HasCauses, OfReadings}
 use Rattle.st_node.specs.Whole.{handle_all}
 use Rattle.st_tank.specs.NodeWords.{started, started_run}
 
@@ -93,7 +93,7 @@ pub record IsAttached (status : ℕ) (before now : Option (List (List ℕ))) (na
 pub record IsServed (id : NodeId) (status : ℕ) (left written_before written_now : Option (List ℕ)) (readings : Option (List Stamp)) (link_before link_now : ℕ)
     (err_before err_now : Option (List ℕ)) (faults_before faults_now : ℕ) : Type 0 where
   pub ended : Result Unit NodeFault
-  pub run : IfSome left (λ bytes. IfSome readings (λ rs. Writes ended written_before written_now (started_run id rs bytes)))
+  pub run : IfSome left (λ bytes. OfReadings readings (λ rs. Writes ended written_before written_now (started_run id rs bytes)))
   pub causes : HasCauses ended link_before link_now
   pub told : IsTold ended status err_before err_now faults_before faults_now
 
@@ -101,5 +101,5 @@ pub record IsServed (id : NodeId) (status : ℕ) (left written_before written_no
 -- written, and the status is 0; or memory ran out.
 abbrev pub Completes : NodeId → ℕ → Option (List ℕ) → Option (List ℕ) → Option (List ℕ) → Option (List Stamp) → ℕ → ℕ → Type 0
 Completes id status left written_before written_now readings link_before link_now =
-    (ms : List Message) (rs : List Stamp) → left ≡ Some (flat_map message_frame ms) → readings ≡ Some rs → AllByRecursion IsFramed ms → length ms ≤ MOST →
-    ¬ (Rose link_before link_now) → (status ≡ 5) ⊎ ((status ≡ 0) × Appends written_before written_now (handle_all ms (started id) rs).out)
+    (ms : List Message) → left ≡ Some (flat_map message_frame ms) → AllByRecursion IsFramed ms → length ms ≤ MOST → ¬ (Rose link_before link_now) →
+    OfReadings readings (λ rs. (status ≡ 5) ⊎ ((status ≡ 0) × Appends written_before written_now (handle_all ms (started id) rs).out))

@@ -3,7 +3,7 @@ ghost use Rattle.std.specs.Prelude.{◌≡◌, ◌≤◌, ◌⊎◌, IfSome, IfO
 ghost use Rattle.st_link.specs.Causes.{Rose};
 ghost use Rattle.st_node.specs.Room.{HasRoomFor};
 ghost use Rattle.st_node.specs.Runs.{MOST};
-ghost use Rattle.st_node.specs.Serving.{HasCauses};
+ghost use Rattle.st_node.specs.Serving.{HasCauses, OfReadings};
 ghost use Rattle.st_tank.specs.NodeEnds.{AttachesBy, Completes, IsAttached, IsServed, Writes};
 ghost use Rattle.st_tank.specs.NodeKnown.{IsKnown};
 ghost use Rattle.st_tank.specs.NodeWords as words_of;
@@ -51,7 +51,7 @@ fn attach_and_serve<L: Link, C: Clock>(
 ) -> Result<(), NodeFault>
     requires started { node.old ≡ words_of.started id }
     requires room { HasRoomFor MOST node.old }
-    ensures run { IfSome (L.left link.old) (λ bytes. IfSome (C.readings clock.old) (λ readings.
+    ensures run { IfSome (L.left link.old) (λ bytes. OfReadings (C.readings clock.old) (λ readings.
         Writes result (L.written link.old) (L.written link.new) (words_of.started_run id readings bytes))) }
     ensures causes { HasCauses result (L.Source.faults link.old) (L.Source.faults link.new) }
     ensures names { AttachesBy result (L.attached link.old) (L.attached link.new) name.now }
@@ -72,7 +72,7 @@ fn start_and_serve<L: Link, C: Clock>(
     clock: &mut C,
 ) -> Result<(), NodeFault>
     requires { IsKnown id }
-    ensures run { IfSome (L.left link.old) (λ bytes. IfSome (C.readings clock.old) (λ readings.
+    ensures run { IfSome (L.left link.old) (λ bytes. OfReadings (C.readings clock.old) (λ readings.
         Writes result (L.written link.old) (L.written link.new) (words_of.started_run id readings bytes))) }
     ensures causes { HasCauses result (L.Source.faults link.old) (L.Source.faults link.new) }
     ensures names { AttachesBy result (L.attached link.old) (L.attached link.new) name.now }

@@ -2,7 +2,7 @@ use Rattle.std.proofs.Common.{rules, ◌≡◌, ◌<◌, ◌≤◌, ◌+◌, ◌
 use Rattle.std.specs.Io.KnownBytes.{Consumes}
 use Rattle.st_node.specs.Runs.{MOST}
 use Rattle.st_node.specs.Serving.{room_for}
-use Rattle.st_node.proofs.Streams.{Streams, at_end, begun, cut_off, piece_breaks, piece_more, piece_serves, room_falls, so_far, written_as}
+use Rattle.st_node.proofs.Streams.{Streams, at_end, begun, cut_off, end_breaks, piece_breaks, piece_more, piece_serves, room_falls, so_far, written_as}
 use Rattle.st_node.proofs.serving.serve.Goals as goal
 
 pub pieces-init : goal.pieces-init
@@ -92,3 +92,8 @@ returns-in-Err-clause-breaks g c =
     c.pieces.reader c.receive.ensures.written c.pieces.invariant.streams)
     (subst (λ x. Consumes (g.L.Source.left c.pieces.link) x (take c.in-Ok.n c.receive.new.room)) (sym c.in-Err.ensures.left) c.in-Ok.ensures.bytes.0)
     c.in-Err.ensures.piece
+
+pub returns-then-n-eq0-clause-breaks : goal.returns-then-n-eq0-clause-breaks
+returns-then-n-eq0-clause-breaks g c =
+    end_breaks c.finish.result (g.L.Source.left c.args.link.now) (g.L.Source.left c.receive.new.self) (g.L.Sink.written c.args.link.now) (g.L.Sink.written c.receive.new.self)
+    (g.C.Clock.readings c.args.clock.now) c.args.node.now c.pieces.node c.pieces.reader.offset c.pieces.reader.rest c.finish.ensures
