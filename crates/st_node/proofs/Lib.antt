@@ -1,5 +1,6 @@
 pub mod Reading
 pub mod Runs
+pub mod ClientRoom
 mod Clients
 mod Growing
 mod Stables

@@ -1,16 +1,18 @@
 // What a client does with a message that came over a link.
-ghost use Rattle.std.specs.Prelude.{◌≡◌, ◌≤◌, ◌++◌, ◌^◌, true, OnOk, IfSome};
+ghost use Rattle.std.specs.Prelude.{◌≡◌, ◌≤◌, ◌+◌, ◌++◌, ◌^◌, ℕ, true, OnOk, IfSome};
 ghost use Rattle.std.specs.List.{list_all, flat_map};
 ghost use Rattle.st_client.specs.Inputs.{comes_fit, is_sent};
 ghost use Rattle.st_codec.specs.Stream.{message_frame};
 ghost use Rattle.st_messages.specs.Fits.{fits};
 ghost use Rattle.st_rules.specs.Client as machine;
+ghost use Rattle.st_node.specs.Room.{ClientHasRoom};
 ghost use Rattle.st_node.specs.Runs as runs;
 ghost use Rattle.st_node.specs.declared.node.Node.TheVariants as nodes;
 
 use crate::frames::put_frame;
 use st_base::{ClientId, PageBytes, Stamp, Tag};
 use st_client::ClientNode;
+use st_laws_bounds::client_steps_raise_little;
 use st_messages::{Body, DiskResult, Header, Message, Output, Party, StepFault};
 use st_rules::ClientInput;
 use std::alloc::AllocError;
@@ -128,8 +130,7 @@ fn put_outputs(out: &mut Vec<u8>, id: ClientId, outputs: &[Output]) -> Result<()
     Ok(())
 }
 
-/// Takes a step, and appends the frames of its outputs. A client whose counters are at their ends takes none, and says that memory
-/// ran out.
+/// Takes a step, and appends the frames of its outputs.
 fn step(
     client: &mut ClientNode,
     now: Stamp,
@@ -138,12 +139,12 @@ fn step(
 ) -> Result<(), AllocError>
     requires time { now.0 ≤ 2 ^ 62 }
     requires fits { comes_fit input ≡ true }
+    requires room { ClientHasRoom 1 client.old }
+    ensures room { (k : ℕ) → ClientHasRoom (k + 1) client.old → OnOk result (ClientHasRoom k client.new) }
     ensures node { OnOk result (nodes.Client client.new ≡ (runs.client_stepped client.old (machine.node_step client.old now input)).node) }
     ensures out { OnOk result (out.new.items ≡ out.old.items ++ (runs.client_stepped client.old (machine.node_step client.old now input)).out) }
 {
-    if !client.has_room() {
-        return Err(AllocError);
-    }
+    client_steps_raise_little();
     let id = client.id();
     match client.step(now, input) {
         Ok(outputs) => put_outputs(out, id, outputs.as_slice()),
@@ -162,6 +163,8 @@ pub(crate) fn handle_client(
 ) -> Result<(), AllocError>
     requires time { now.0 ≤ 2 ^ 62 }
     requires fits { fits message ≡ true }
+    requires room { ClientHasRoom 1 client.old }
+    ensures room { (k : ℕ) → ClientHasRoom (k + 1) client.old → OnOk result (ClientHasRoom k client.new) }
     ensures node { OnOk result (nodes.Client client.new ≡ (runs.handle (nodes.Client client.old) now message).node) }
     ensures out { OnOk result (out.new.items ≡ out.old.items ++ (runs.handle (nodes.Client client.old) now message).out) }
 {

@@ -13,6 +13,7 @@ use crate::client::handle_client;
 use crate::server::handle_server;
 use st_base::{ClientId, Config, ServerId, Stamp};
 use st_client::ClientNode;
+use st_laws_bounds::client_steps_raise_little;
 use st_messages::Message;
 use st_server::ServerNode;
 use std::alloc::{AllocError, Global};
@@ -44,7 +45,8 @@ impl Node {
         Ok(Node::Server(server))
     }
 
-    /// A client that was never started before. `id` is from 1 to 16, and there are at most four servers.
+    /// A client that was never started before: it has room for all the steps that a node takes. `id` is from 1 to 16, and there are
+    /// at most four servers.
     pub fn client(
         alloc: Global,
         id: ClientId,
@@ -58,12 +60,13 @@ impl Node {
         ensures fresh { IfOk result (λ n. n ≡ nodes.Client (clients.fresh_node id config.now servers)) }
         ensures room { IfOk result (λ n. HasRoomFor MOST n) }
     {
+        client_steps_raise_little();
         let client = ClientNode::fresh(alloc, id, config, servers)?;
         Ok(Node::Client(client))
     }
 
     /// Takes a message at this moment: one step where it is an input of the node, and nothing else. Appends the frames of
-    /// what goes out. Where memory runs out, the node may be crashed; a client also says so where one of its counters is at its end.
+    /// what goes out. Where memory runs out, the node may be crashed.
     pub(crate) fn handle(
         &mut self,
         now: Stamp,
@@ -79,10 +82,7 @@ impl Node {
     {
         match self {
             Node::Server(server) => handle_server(server, now, message, out),
-            Node::Client(client) => {
-                handle_client(client, now, message, out)?;
-                Ok(())
-            }
+            Node::Client(client) => handle_client(client, now, message, out),
         }
     }
 }
