@@ -1,9 +1,7 @@
 // The checks of events.
-ghost use Rattle.std.specs.Prelude.{◌≡◌, ◌≤◌, ◌&&◌, ◌||◌, not, length};
-ghost use Rattle.std.specs.Option.{option_copied, option_or};
+ghost use Rattle.std.specs.Prelude.{◌≡◌, ◌≤◌, length};
+ghost use Rattle.std.specs.Option.{option_copied};
 ghost use Rattle.st_rules.specs.Admissible as admissible;
-ghost use Rattle.st_rules.specs.Admissible.{stands};
-ghost use Rattle.st_rules.specs.declared.observation.WorldRefusal.TheVariants as refusals;
 ghost use Rattle.st_rules.specs.Disks as disks;
 ghost use Rattle.st_rules.specs.World as world;
 ghost use Rattle.st_rules.specs.World.{World};
@@ -13,17 +11,9 @@ use crate::client::WorldClient;
 use crate::events::node_of_number;
 use crate::machine::{WorldMachine, node_at, site_at};
 use st_base::{ClientId, Life, NodeId, ServerId, Stamp};
-use st_rules::{IssuedCommand, Report, WorldRefusal};
+use st_rules::{IssuedCommand, WorldRefusal};
 use st_server::ServerNode;
-use st_world_parts::{CommandState, MessageEnds};
-
-/// The refusal, where the test stands.
-#[tactic(auto, unfolding(st_rules::specs::Admissible::stands))]
-pub(crate) fn stands(test: bool, refusal: WorldRefusal) -> Option<WorldRefusal>
-    ensures { result ≡ stands test refusal }
-{
-    if test { Some(refusal) } else { None }
-}
+use st_world_parts::{CommandState, MessageEnds, is_done, is_told, late_at, stands};
 
 fn site_runs(site: Option<&WorldClient>) -> bool
     ensures { result ≡ world.site_runs (option_copied site.entry) }
@@ -50,37 +40,6 @@ fn end_at(site: Option<&WorldClient>, server: ServerId) -> Option<Stamp>
         None => None,
         Some(site) => site.lease_end(server),
     }
-}
-
-fn late_at(clock: Stamp, end: Option<Stamp>) -> Option<WorldRefusal>
-    ensures { result ≡ admissible.late_at clock end }
-{
-    match end {
-        None => None,
-        Some(end) => stands(end.0 <= clock.0, WorldRefusal::LateDisk(clock, end)),
-    }
-}
-
-fn is_open(report: Report) -> bool
-    ensures { result ≡ admissible.is_open report }
-{
-    match report {
-        Report::Open => true,
-        Report::Succeeded => false,
-        Report::Failed => false,
-    }
-}
-
-fn is_done(standing: CommandState) -> bool
-    ensures { result ≡ (standing.effected || not (admissible.is_open standing.report)) }
-{
-    standing.effected || !is_open(standing.report)
-}
-
-fn is_told(ok: bool, standing: CommandState) -> bool
-    ensures { result ≡ (not (admissible.is_open standing.report) || (ok && not standing.effected)) }
-{
-    !is_open(standing.report) || (ok && !standing.effected)
 }
 
 impl WorldMachine {

@@ -6,11 +6,11 @@ ghost use Rattle.st_rules.specs.Leases as leases;
 ghost use Rattle.st_rules.specs.World as world;
 ghost use Rattle.st_world.specs.Timed.{IsPair, IsTimed, excess_in};
 
-use crate::checks::stands;
 use crate::machine::WorldMachine;
 use st_base::{ClientId, Config, NodeId, ServerId};
 use st_clock::{Drift, rate_ok};
 use st_rules::{Excess, WorldRefusal};
+use st_world_parts::stands;
 
 fn greatest(steps: &[u64]) -> u64
     requires { 0 < length steps.now }

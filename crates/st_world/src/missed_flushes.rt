@@ -8,11 +8,11 @@ ghost use Rattle.st_rules.specs.Client as client_rules;
 ghost use Rattle.st_rules.specs.World as world;
 ghost use Rattle.st_world.specs.Timed.{IsTimed};
 
-use crate::checks::stands;
 use crate::client::WorldClient;
 use crate::machine::{WorldMachine, site_at};
 use st_base::{ClientId, NodeId, ServerId, Stamp};
 use st_rules::{FlushStep, WorldRefusal};
+use st_world_parts::stands;
 
 fn reaches(clock: Stamp, step: u64, end: Option<Stamp>) -> bool
     requires clock { clock.0 ≤ 2 ^ 62 }

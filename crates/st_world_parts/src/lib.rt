@@ -12,6 +12,7 @@ mod open;
 mod owners;
 mod places;
 mod reached_ends;
+mod refusals;
 mod spares;
 
 pub use commands::Commands;
@@ -20,4 +21,5 @@ pub use lives::Lives;
 pub use network::Network;
 pub use owners::OwnerKey;
 pub use places::{MessageEnds, SentPlace};
+pub use refusals::{is_done, is_told, late_at, stands};
 pub use st_disk::CommandState;
