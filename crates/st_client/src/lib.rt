@@ -16,4 +16,5 @@ mod step;
 pub use ends::LeaseEnds;
 pub use machine::ClientMachine;
 pub use node::ClientNode;
+pub use st_messages::{AppAnswer, Ask, NameOp, Note, Output, Outputs, StepFault};
 pub use st_rules::{ClientInput, Phase};

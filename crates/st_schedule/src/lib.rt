@@ -19,3 +19,4 @@ pub use law::{
 };
 pub use printer::print;
 pub use reader::{Line, Progress, ScheduleReader};
+pub use st_messages::{Counts, Event, Steps};

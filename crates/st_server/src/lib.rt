@@ -16,4 +16,6 @@ mod step;
 mod suspicion;
 
 pub use node::{ServerNode, answers_are_named};
+pub use st_messages::{Note, Output, Outputs, StepFault};
+pub use st_rules::ServerInput;
 pub use stable::ServerStable;

@@ -32,4 +32,5 @@ mod world;
 
 pub use fault::WorldFault;
 pub use growth::{events_keep_the_shape, server_steps_grow_little};
+pub use st_rules::{Observation, Summary, WorldRefusal};
 pub use world::World;
