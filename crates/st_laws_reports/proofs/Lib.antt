@@ -1,0 +1,4 @@
+pub mod Telling
+pub mod Owing
+pub mod Losses
+pub mod Numbering
