@@ -1,6 +1,6 @@
 pub mod Changes
 pub mod Images
-pub mod Script
 pub mod Slots
+pub mod Script
 pub mod Versions
 pub mod Volumes

@@ -77,10 +77,10 @@ pub record IsAfter (blocks : ℕ) (changes : List Change) (h : Held) : Type 0 wh
   pub each : (k : VersionKey) → has_version h.versions k ≡ true → IsSeen h k
   pub rises : (f p s t : ℕ) → s < t → has_version h.versions (key_of f p s) ≡ true → has_version h.versions (key_of f p t) ≡ true → number f p s < number f p t
 
--- What a call answers and leaves: what the definition gives. Where it is refused, or runs out of memory, nothing is changed.
+-- What a call answers and leaves: what the definition gives. Where it is refused nothing is changed; where memory runs out nothing is promised.
 abbrev pub Ends : {T : Type 0} → ℕ → Held → Held → Result T SnapRefusal → Result (T × List Change) SnapRefusal → Type 0
 Ends blocks old new (Ok x) rule = (changes : List Change) × ((rule ≡ Ok (x, changes)) × IsAfter blocks changes new)
-Ends blocks old new (Err refusals.Memory) rule = new ≡ old
+Ends blocks old new (Err refusals.Memory) rule = ⊤
 Ends blocks old new (Err e) rule = (rule ≡ Err e) × (new ≡ old)
 
 -- the versions that are seen in a view are those that there were, and each that is left is seen
@@ -115,8 +115,8 @@ pub record Puts (old new : Held) (k : VersionKey) (bytes : List ℕ) : Type 0 wh
   pub kept : new.kept ≡ old.kept
   pub next : new.next ≡ old.next
 
--- why a version is not begun: each block has one, or memory runs out
-abbrev pub HasNoRoom : Held → SnapRefusal → Type 0
-HasNoRoom h (refusals.NoSpace free asked) = (free ≡ 0) × ((asked ≡ 1) × (h.versions.blocks ≤ length h.versions.slots))
-HasNoRoom h refusals.Memory = ⊤
-HasNoRoom h e = ⊥
+-- why a version is not begun: each block has one, and nothing is changed; or memory runs out
+abbrev pub HasNoRoom : Held → Held → SnapRefusal → Type 0
+HasNoRoom old new (refusals.NoSpace free asked) = (free ≡ 0) × ((asked ≡ 1) × ((old.versions.blocks ≤ length old.versions.slots) × (new ≡ old)))
+HasNoRoom old new refusals.Memory = ⊤
+HasNoRoom old new e = ⊥

@@ -5,7 +5,7 @@
 mod refusal;
 mod slots;
 mod versions;
+mod volume;
 
 pub use refusal::SnapRefusal;
-pub use slots::Slots;
-pub use versions::{VersionKey, Versions};
+pub use volume::Volume;
