@@ -1,5 +1,6 @@
 // The updates of a container.
 ghost use Rattle.std.specs.Prelude.{◌≡◌, ◌≤◌, ◌<◌, ◌++◌, ◌∷◌, [], IfOk, Some, length, slice_get, true};
+ghost use Rattle.std.specs.List.{list_all};
 ghost use Rattle.st_move.specs.Updates as updates;
 ghost use Rattle.st_move.specs.Calls.{Adds};
 
@@ -83,6 +84,15 @@ impl Updates {
         }
     }
 
+    /// Makes updates of these, which have at most 60,000 bytes together. It takes no memory, and time for a look at each.
+    pub fn from_vec(items: Vec<Update>) -> Updates
+        requires { updates.bytes_of items.items ≤ updates.most_bytes }
+        ensures { result ≡ items.items }
+    {
+        let bytes = total(items.as_slice());
+        Updates { items, bytes }
+    }
+
     /// Returns the number of updates, at most 60,000.
     pub fn len(&self) -> usize
         ensures len { result ≡ length self.now }
@@ -148,4 +158,17 @@ fn copies(alloc: Global, items: &[Update]) -> Result<Vec<Update>, AllocError>
         copies.push(item.copy()?)?;
     }
     Ok(copies)
+}
+
+/// The number of bytes of these updates.
+fn total(items: &[Update]) -> u32
+    requires { updates.bytes_of items.now ≤ updates.most_bytes }
+    ensures total { result ≡ updates.bytes_of items.now }
+    ensures each { list_all updates.is_update items.now ≡ true }
+{
+    let mut total = 0;
+    for item in items {
+        total += item.as_slice().len() as u32;
+    }
+    total
 }
