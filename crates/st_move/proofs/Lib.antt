@@ -1,5 +1,6 @@
 mod Bytes
 mod Lifts
+mod Locked
 mod Loops
 mod Moved
 mod Runs

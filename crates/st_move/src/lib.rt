@@ -5,6 +5,7 @@
 mod mover;
 mod record;
 mod refusal;
+mod ticks;
 mod updates;
 mod world;
 

@@ -1,5 +1,6 @@
 // The containers of one server, and the calls on them.
 ghost use Rattle.std.specs.Prelude.{◌≡◌, ◌≤◌, ◌<◌, ◌^◌, ◌+◌, IfOk, IfErr, OnOk, OnErr, Ok, Err, Some, length, slice_get, true};
+ghost use Rattle.std.specs.List.{list_all};
 ghost use Rattle.st_move.specs.Calls.{Answers, Counts, IsPlace, count_at};
 ghost use Rattle.st_move.specs.Containers as containers;
 ghost use Rattle.st_move.specs.Updates.{is_update};
@@ -8,8 +9,10 @@ use crate::record::{
     ContainerRecord, MoveMessage, Standing, order_in, put_in, take_answer, take_image,
 };
 use crate::refusal::MoveRefusal;
+use crate::ticks::{images, leaving, send};
 use crate::updates::Updates;
 use st_base::ServerId;
+use st_locks::LockTable;
 use std::alloc::{AllocError, Global};
 use std::marker::Model;
 
@@ -166,6 +169,23 @@ impl Mover {
         let server = self.server;
         let place = self.place_of(c)?;
         order_in(&mut self.records[place], server, to)
+    }
+
+    /// Sends the containers that are to leave and of which nobody has a lock row, and sends again those that were sent and are
+    /// not known to be taken, by rising container: each image with the server that it is for. It looks at every container,
+    /// and copies the updates of those that it sends. No version is the last that a `u64` holds. Where memory runs out nothing
+    /// changed.
+    pub fn tick(&mut self, locks: &LockTable) -> Result<Vec<(ServerId, MoveMessage)>, AllocError>
+        requires { list_all containers.has_next self.old.records ≡ true }
+        ensures ok { OnOk result (self.new ≡ containers.after_tick self.old locks.now) }
+        ensures sent { IfOk result (λ v. v.items ≡ containers.images self.new) }
+        ensures err { OnErr result (self.new ≡ self.old) }
+    {
+        let alloc = *self.records.allocator();
+        let leaving = leaving(alloc, locks, self.records.as_slice())?;
+        let images = images(alloc, self.records.as_slice(), leaving.as_slice())?;
+        send(self.records.as_mut_slice(), leaving.as_slice());
+        Ok(images)
     }
 
     /// Takes a message on a container from 1 to the number of containers, and returns the answer to an image. It copies the
