@@ -1,3 +1,4 @@
+mod Bounds
 mod Bytes
 mod Lifts
 mod Locked

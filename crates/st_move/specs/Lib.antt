@@ -1,4 +1,5 @@
 pub mod Calls
+pub mod Conditions
 pub mod Containers
 pub mod Law
 pub mod Script

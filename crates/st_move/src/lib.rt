@@ -9,6 +9,7 @@ mod ticks;
 mod updates;
 mod world;
 
+ghost use Rattle.st_move.specs.Conditions.{MovesGoOn};
 ghost use Rattle.st_move.specs.Law.{NoUpdateIsLost};
 
 pub use mover::Mover;
@@ -22,4 +23,10 @@ pub use world::{MoveEvent, SentMove};
 /// has the accepted updates.
 pub fn no_update_is_lost()
     ensures { NoUpdateIsLost }
+{}
+
+/// After every list of events what the calls of each server need stands: no version is above the number of events and one more,
+/// and every message that was sent is of a container that is there, for a server that is there.
+pub fn moves_can_go_on()
+    ensures { MovesGoOn }
 {}

@@ -1,0 +1,26 @@
+-- What the calls of a server need stands after every list of events.
+use Rattle.std.specs.Prelude.{◌≡◌, ◌≤◌, ◌<◌, ◌+◌, ℕ, true, List, length, Some}
+use Rattle.std.specs.List.{list_all}
+use Rattle.st_rules.specs.World.{numbered}
+use Rattle.st_move.specs.declared.record.ContainerRecord.{ContainerRecord}
+use Rattle.st_move.specs.declared.world.MoveEvent.{MoveEvent}
+use Rattle.st_move.specs.declared.world.SentMove.{SentMove}
+use Rattle.st_move.specs.Containers.{container_of, has_next}
+use Rattle.st_move.specs.Law.{fresh_history, record_at, run_moves}
+use Rattle.st_move.specs.World.{MoveSite, MoveWorld}
+
+-- After so many events.
+pub record CanGoOn (servers containers events : ℕ) (w : MoveWorld) : Type 0 where
+  -- there are these servers, and each knows these containers
+  pub servers_are : length w.sites ≡ servers
+  pub whole : (s : ℕ) (x : MoveSite) → numbered w.sites s ≡ Some x → length x.containers.records ≡ containers
+  -- a version is at most one more than the number of events, so a tick may come
+  pub versions : (c s : ℕ) (r : ContainerRecord) → record_at w c s ≡ Some r → r.version ≤ events + 1
+  pub ticks : (s : ℕ) (x : MoveSite) → numbered w.sites s ≡ Some x → events + 2 < 18446744073709551616 → list_all has_next x.containers.records ≡ true
+  -- a message that was sent is of one of the containers, and for one of the servers
+  pub known : (k : ℕ) (m : SentMove) → numbered w.sent k ≡ Some m → (1 ≤ container_of m.message) × (container_of m.message ≤ containers)
+  pub there : (k : ℕ) (m : SentMove) → numbered w.sent k ≡ Some m → (1 ≤ m.to.0) × (m.to.0 ≤ servers)
+
+-- over every list of events
+abbrev pub MovesGoOn : Type 0
+MovesGoOn = (servers containers : ℕ) (es : List MoveEvent) → CanGoOn servers containers (length es) (run_moves (fresh_history servers containers) es).world
