@@ -7,3 +7,6 @@ pub mod Exact
 pub mod Read
 pub mod Unique
 pub mod Removed
+pub mod Counters
+pub mod Scanning
+pub mod Reached

@@ -9,3 +9,4 @@ pub mod Reading
 pub mod Stable
 pub mod Parts
 pub mod Journal
+pub mod Scan

@@ -10,6 +10,7 @@ mod laws;
 mod memory;
 mod plan;
 mod reading;
+mod scan;
 mod stable;
 mod store;
 mod writing;
