@@ -10,4 +10,3 @@ pub mod InOrder
 pub mod FirstPlaces
 pub mod Puts
 pub mod Passing
-pub mod Indexes
