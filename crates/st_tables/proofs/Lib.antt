@@ -10,3 +10,4 @@ pub mod InOrder
 pub mod FirstPlaces
 pub mod Puts
 pub mod Passing
+pub mod Indexes

@@ -5,11 +5,13 @@
 mod arrival_order;
 mod clients;
 mod keys;
+mod owned;
+mod queues;
 mod rising_keys;
 mod table;
 
 pub use arrival_order::Ordered;
 pub use clients::ClientTable;
 pub use keys::{Every, Key, Row, Test};
-pub use rising_keys::put_key;
+pub use rising_keys::{put_key, rising};
 pub use table::Table;

@@ -1,19 +1,16 @@
-use Rattle.std.proofs.Common.{◌≡◌, ◌∙◌, sym, ap, arith}
+use Rattle.std.proofs.Common.{◌≡◌, ◌∙◌, [], drop, sym, ap}
 use Rattle.std.specs.Prelude.{◌||◌}
 use Rattle.std.specs.List.{list_any}
+use Rattle.std.proofs.lemmas.List.{drop_all}
 use Rattle.st_tables.specs.Tables.{is_among}
-use Rattle.st_tables.proofs.RisingKeys.{numbers, any_more}
-use Rattle.st_tables.proofs.ClientRows.{looked, any_looked}
+use Rattle.st_tables.proofs.Indexes.{any_seen, or_none, seen}
 use Rattle.st_tables.proofs.clients.ClientTable.any_on.Goals as goal
-
-pub loop-i-preserved : goal.loop-i-preserved
-loop-i-preserved g c =
-    c.either-found.ensures ∙ (λ j. c.loop-i.invariant j || c.has.ensures j)
-    ∙ sym (any_more (looked g.V.Row.key_of c.args.second (g.T.Test.passes c.args.test.now) c.self.inside.table) c.loop-i.i)
 
 pub returns : goal.returns
 returns g c =
-    let end : c.loop-i.i ≡ 16 = omega arith in
-    c.loop-i.invariant ∙ ap (λ n. list_any (looked g.V.Row.key_of c.args.second (g.T.Test.passes c.args.test.now) c.self.inside.table) (numbers 1 n)) end
-    ∙ sym (any_looked g.V.Row.key_of c.args.second (g.T.Test.passes c.args.test.now) c.self.inside.table c.self.invariant.clients)
+    let look = seen g.V.Row.key_of c.args.second (g.T.Test.passes c.args.test.now) c.self.inside.table in
+    let all : drop c.loop-first.first-index c.queue-waiting.result.now ≡ [] = drop_all c.loop-first.first-index c.queue-waiting.result.now c.loop-first-test.false in
+    sym (or_none c.loop-first.found) ∙ ap (λ l. c.loop-first.found || list_any look l) (sym all) ∙ c.loop-first.invariant
+    ∙ ap (list_any look) (c.queue-waiting.ensures ∙ c.self.invariant.queued c.args.second)
+    ∙ any_seen g.V.Row.key_of c.args.second (g.T.Test.passes c.args.test.now) c.self.inside.table
     ∙ ap (list_any (is_among g.V.Row.key_of c.args.second (g.T.Test.passes c.args.test.now))) c.self.view_is
