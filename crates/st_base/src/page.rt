@@ -1,4 +1,4 @@
-ghost use Rattle.std.specs.Prelude.{◌≡◌, ◌<◌, IfOk, IfSome, OnOk, None, Some, ◌++◌, ◌==◌, length, slice_get};
+ghost use Rattle.std.specs.Prelude.{◌≡◌, ◌<◌, IfOk, IfSome, OnErr, OnOk, None, Some, ◌++◌, ◌==◌, length, slice_get};
 ghost use Rattle.std.specs.List.{list_all};
 ghost use Rattle.st_base.specs.Page as pages;
 
@@ -64,7 +64,8 @@ fn repeated_byte(bytes: &[u8]) -> Option<u8>
 
 #[tactic(auto, unfolding(crate::specs::Page::filled))]
 fn put_filled(out: &mut Vec<u8>, byte: u8) -> Result<(), AllocError>
-    ensures { OnOk result (out.new.items ≡ out.old.items ++ pages.filled byte) }
+    ensures added { OnOk result (out.new.items ≡ out.old.items ++ pages.filled byte) }
+    ensures kept { OnErr result (out.new.items ≡ out.old.items) }
 {
     let bytes = [byte; 4096];
     out.extend_from_slice(&bytes)
@@ -105,6 +106,20 @@ impl PageBytes {
         })
     }
 
+    /// Makes a page of these 4,096 bytes, which it keeps unless they are all equal.
+    pub fn from_vec(bytes: Vec<u8>) -> Result<PageBytes, AllocError>
+        requires { length bytes.items ≡ 4096 }
+        ensures { IfOk result (λ p. p ≡ bytes.items) }
+    {
+        if let Some(byte) = repeated_byte(bytes.as_slice()) {
+            return Ok(PageBytes::filled(byte));
+        }
+        let alloc = *bytes.allocator();
+        Ok(PageBytes {
+            content: Content::Mixed(Rc::new(alloc, bytes)?),
+        })
+    }
+
     /// Returns the number of bytes, which is 4,096.
     pub fn len(&self) -> usize
         ensures whole { result ≡ 4096 }
@@ -126,7 +141,7 @@ impl PageBytes {
         }
     }
 
-    /// Returns the byte that all bytes equal, or `None` if they are not all equal. It takes constant time.
+    /// Returns the byte that all bytes equal, or `None` if they are not all equal.
     pub fn repeated(&self) -> Option<u8>
         ensures exact { result ≡ pages.repeated_of self.now }
         ensures page { IfSome result (λ byte. self.now ≡ pages.filled byte) }
@@ -160,9 +175,10 @@ impl PageBytes {
         }
     }
 
-    /// Appends the 4,096 bytes to `out`.
+    /// Appends the 4,096 bytes to `out`. Where memory runs out `out` has the bytes that it had.
     pub fn put(&self, out: &mut Vec<u8>) -> Result<(), AllocError>
-        ensures { OnOk result (out.new.items ≡ out.old.items ++ self.now) }
+        ensures added { OnOk result (out.new.items ≡ out.old.items ++ self.now) }
+        ensures kept { OnErr result (out.new.items ≡ out.old.items) }
     {
         match &self.content {
             Content::Filled(byte) => put_filled(out, *byte),
