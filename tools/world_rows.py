@@ -313,9 +313,9 @@ USES = [
     ("st_messages.specs.declared.message.NameOp.TheVariants as ops", "ops."),
     ("st_messages.specs.declared.message.NameReply.TheVariants as replies", "replies."),
     ("st_messages.specs.declared.message.Why.TheVariants as why", "why."),
+    ("st_promises.specs.Safe.{IsSafeRun}", "IsSafeRun "),
     ("st_rules.specs.FlatLog.{overlay}", "overlay "),
     ("st_rules.specs.Run.{run}", "run "),
-    ("st_rules.specs.Safety.{IsSafeRun}", "IsSafeRun "),
     ("st_rules.specs.declared.observation.Observation.TheVariants as seen", "seen."),
     ("st_rules.specs.declared.observation.WorldRefusal.TheVariants as refusals", "refusals."),
 ]

@@ -3,22 +3,22 @@
 pub struct ClientId(pub u16);
 
 /// The number of a metadata server, from 1.
-#[derive(Clone, Copy, Debug, PartialEq, Eq)]
+#[derive(Clone, Copy, Debug, PartialEq, Eq, PartialOrd, Ord)]
 pub struct ServerId(pub u16);
 
 /// The number of a shared disk, from 1.
-#[derive(Clone, Copy, Debug, PartialEq, Eq)]
+#[derive(Clone, Copy, Debug, PartialEq, Eq, PartialOrd, Ord)]
 pub struct DiskId(pub u16);
 
 /// A file: its server, and its inode number on that server.
-#[derive(Clone, Copy, Debug, PartialEq, Eq)]
+#[derive(Clone, Copy, Debug, PartialEq, Eq, PartialOrd, Ord)]
 pub struct FileId {
     pub server: ServerId,
     pub ino: u32,
 }
 
 /// The number of a page in its file, from 0 to 1,048,575.
-#[derive(Clone, Copy, Debug, PartialEq, Eq)]
+#[derive(Clone, Copy, Debug, PartialEq, Eq, PartialOrd, Ord)]
 pub struct PageNo(pub u32);
 
 /// The number of a client's life at one server, from 1. A life ends when the lease expires or the client crashes.

@@ -1,7 +1,7 @@
 //! Clients know where pages lie as their servers have it; so reads return the last writes, and the pages hold, in every run.
 #![tactic(auto)]
 
-ghost use Rattle.st_laws_lines.specs.Held.{DisksHoldWhatIsHard};
+ghost use Rattle.st_promises.specs.Held.{DisksHoldWhatIsHard};
 ghost use Rattle.st_laws_extents.specs.CutRequests.EndedLives.{GoesBetween};
 ghost use Rattle.st_laws_extents.specs.CutRequests.Fresh.{FreshAreOutstanding};
 ghost use Rattle.st_laws_extents.specs.CutRequests.Law.{CutsAreAsked};

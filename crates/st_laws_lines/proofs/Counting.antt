@@ -45,7 +45,7 @@ use Rattle.st_rules.specs.Server as server
 use Rattle.st_rules.specs.Server.{ServerNode}
 use Rattle.st_rules.specs.World as world
 use Rattle.st_rules.specs.World.{World, ClientSite, clock_of, issued_of, node_of, numbered, site_of}
-use Rattle.st_laws_lines.specs.Counted.{command_in, command_told, count_lines, is_read_line, is_theft_line, message_in, message_told, what_in, what_told}
+use Rattle.st_promises.specs.Counts.{command_in, command_told, count_lines, is_read_line, is_theft_line, message_in, message_told, what_in, what_told}
 use Rattle.st_laws_lines.proofs.Growing.{Adds, Grows, adds_none, adds_then, count_more, grows_none, grows_then, map_set}
 
 -- What lines tell of two worlds: the messages, the commands and the counts of the second one are those of the first and theirs.
@@ -113,7 +113,7 @@ map_length f (y ∷ xs) = ap suc (map_length f xs)
 
 -- one more member, and its line
 one_grows : {A B : Type 0} (line : Observation → Option (ℕ × A)) (f : B → A) (xs : List B) (x : B) (o : Observation) → line o ≡ Some (length xs + 1, f x) → Grows line (map f xs) (o ∷ []) (map f (xs ++ x ∷ []))
-unfolding Rattle.st_laws_lines.specs.Counted.under_numbers
+unfolding Rattle.st_promises.specs.Counts.under_numbers
 one_grows line f xs x o e =
     record {
       new = f x ∷ [];

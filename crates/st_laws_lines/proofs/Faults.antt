@@ -34,7 +34,7 @@ use Rattle.st_rules.specs.Events as ev
 use Rattle.st_rules.specs.Events.{WorldTurn, world_step}
 use Rattle.st_rules.specs.History.{Traced, traced}
 use Rattle.st_rules.specs.Safety.{Step, step}
-use Rattle.st_laws_lines.specs.Caused.{fails_command, FaultsHaveACause, is_fault_caused}
+use Rattle.st_promises.specs.Faults.{fails_command, FaultsHaveACause, is_fault_caused}
 use Rattle.st_rules.specs.Server as server
 use Rattle.st_rules.specs.Server.{ServerNode}
 use Rattle.st_rules.specs.World as world
@@ -209,7 +209,7 @@ module _ (Failed : ClientId → ℕ → Type 0) where
 
 -- What is reported as failed is what the promise asks for.
 caused : (w : World) (e : Event) → Reports_so (λ c number. fails_command w c number e ≡ true) (ev.counted w) e
-caused w (events.Report k ok) = λ x is no. and_both (not ok) _ (ap not no) (ap (Rattle.st_laws_lines.specs.Caused.is_own_command x.client x.number) is ∙ and_both _ _ (eq-eqb x.client.0 x.client.0 refl) (eq-eqb x.number x.number refl))
+caused w (events.Report k ok) = λ x is no. and_both (not ok) _ (ap not no) (ap (Rattle.st_promises.specs.Faults.is_own_command x.client x.number) is ∙ and_both _ _ (eq-eqb x.client.0 x.client.0 refl) (eq-eqb x.number x.number refl))
 caused w (events.Tick n) = tt
 caused w (events.App c ask) = tt
 caused w (events.Deliver k) = tt

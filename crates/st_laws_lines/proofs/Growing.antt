@@ -4,7 +4,7 @@ use Rattle.std.proofs.lemmas.List.{append-nil}
 use Rattle.std.proofs.lemmas.List.Elements.{filter_map-append, filter-append}
 use Rattle.std.specs.Prelude.{length, filter, filter_map, map, set, slice_get, suc, zero}
 use Rattle.st_rules.specs.declared.observation.Observation.{Observation}
-use Rattle.st_laws_lines.specs.Counted.{count_lines, under_numbers}
+use Rattle.st_promises.specs.Counts.{count_lines, under_numbers}
 
 -- the numbers go on
 numbers_more : {A : Type 0} (n : ℕ) (xs ys : List A) → under_numbers n (xs ++ ys) ≡ under_numbers n xs ++ under_numbers (n + length xs) ys

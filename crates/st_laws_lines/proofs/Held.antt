@@ -4,9 +4,9 @@ use Rattle.st_base.specs.declared.ids.FileId.{FileId}
 use Rattle.st_base.specs.declared.ids.PageNo.{PageNo}
 use Rattle.st_rules.specs.declared.extents.Extent.{Extent}
 use Rattle.st_rules.specs.declared.log.LogEntry.{LogEntry}
-use Rattle.st_laws_lines.specs.Held.{all_pages, AreHeld, extent_at, hard_after, hard_from, held_at, IsHeld}
+use Rattle.st_promises.specs.Held.{all_pages, AreHeld, extent_at, hard_after, hard_from, held_at, IsHeld}
 use Rattle.st_rules.specs.Safety.{Step, Throughout}
-use Rattle.st_laws_lines.specs.Held.{DisksHoldWhatIsHard}
+use Rattle.st_promises.specs.Held.{DisksHoldWhatIsHard}
 use Rattle.st_rules.specs.Server.{ServerNode}
 use Rattle.st_rules.specs.World.{World, node_of}
 use Rattle.st_laws_pages.specs.Disks.Folds as folds

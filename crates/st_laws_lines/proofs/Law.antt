@@ -10,9 +10,9 @@ use Rattle.st_rules.specs.Events as ev
 use Rattle.st_rules.specs.Events.{WorldTurn, is_change, is_gone, is_hard, summary, world_step}
 use Rattle.st_rules.specs.History.{Traced, traced, traced_after}
 use Rattle.st_rules.specs.Lines.{IsLogTold}
-use Rattle.st_laws_lines.specs.Counted.{IsCounted, command_in, command_told, count_lines, is_command_line, is_message_line, message_in, message_told, under_numbers}
+use Rattle.st_promises.specs.Counts.{IsCounted, command_in, command_told, count_lines, is_command_line, is_message_line, message_in, message_told, under_numbers}
 use Rattle.st_rules.specs.Safety.{Step, step}
-use Rattle.st_laws_lines.specs.Counted.{TheCountsAreTrue}
+use Rattle.st_promises.specs.Counts.{TheCountsAreTrue}
 use Rattle.st_rules.specs.World.{World, fresh_world}
 use Rattle.st_lemmas.proofs.Steps.{step_happens, throughout}
 use Rattle.st_laws_pages.specs.Asks.Law.{InEveryRun}

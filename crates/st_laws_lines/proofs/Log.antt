@@ -12,7 +12,7 @@ use Rattle.st_rules.specs.FlatLog as log
 use Rattle.st_rules.specs.Lines as lines
 use Rattle.st_rules.specs.World.{World}
 use Rattle.st_lemmas.proofs.Tables.{and_true}
-use Rattle.st_laws_lines.specs.Counted.{count_lines, is_change_line, is_drop_line, is_hard_line}
+use Rattle.st_promises.specs.Counts.{count_lines, is_change_line, is_drop_line, is_hard_line}
 
 -- 1 where a test passes
 abbrev pub one : Bool → ℕ

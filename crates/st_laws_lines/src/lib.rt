@@ -5,9 +5,9 @@ ghost use Rattle.std.specs.Prelude.{List};
 ghost use Rattle.st_laws_pages.specs.Asks.Law.{InEveryRun};
 ghost use Rattle.st_laws_pages.specs.Disks.Runs.{PagesAfter};
 ghost use Rattle.st_rules.specs.Safety.{Step, Throughout};
-ghost use Rattle.st_laws_lines.specs.Counted.{TheCountsAreTrue};
-ghost use Rattle.st_laws_lines.specs.Held.{DisksHoldWhatIsHard};
-ghost use Rattle.st_laws_lines.specs.Caused.{FaultsHaveACause};
+ghost use Rattle.st_promises.specs.Counts.{TheCountsAreTrue};
+ghost use Rattle.st_promises.specs.Held.{DisksHoldWhatIsHard};
+ghost use Rattle.st_promises.specs.Faults.{FaultsHaveACause};
 
 /// In every run the counts are true: each message and each command has its line, and the last line counts what the lines before it have.
 pub fn counts_are_true()

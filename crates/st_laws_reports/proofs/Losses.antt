@@ -48,7 +48,7 @@ use Rattle.st_rules.specs.Events.{WorldTurn, world_step}
 use Rattle.st_rules.specs.Extents as extents
 use Rattle.st_rules.specs.History.{Traced, association_of, traced, traced_after}
 use Rattle.st_rules.specs.Keys.{same_client, same_server}
-use Rattle.st_laws_reports.specs.Losses.{AreLossesTold, IsLossTold, LossesAreTold, owed, owed_after, owed_along, owed_behind, owed_from, with_dirty}
+use Rattle.st_promises.specs.Losses.{AreLossesTold, IsLossTold, LossesAreTold, owed, owed_after, owed_along, owed_behind, owed_from, with_dirty}
 use Rattle.st_rules.specs.Safety.{Step, ask_in, ask_of, ask_of_client, is_crash_of, step}
 use Rattle.st_rules.specs.Server as server
 use Rattle.st_rules.specs.Server.{ServerNode}
@@ -105,7 +105,7 @@ along_others asked w c s P f (o ∷ os) h rows = ap (λ z. owed_along asked w c 
   where
     one : (o : Observation) → LineOf P o → owed_behind asked w c s rows o ≡ rows
     one (seen.Lost d t life) p = ap (λ b. if b && same_server t s then with_dirty (association_of w c s) rows else rows) (f d p)
-    one (seen.Answered d op (answers.Lost told)) p = ap (λ b. if b then Rattle.st_laws_reports.specs.Losses.told_by (asked op) s rows else rows) (f d p)
+    one (seen.Answered d op (answers.Lost told)) p = ap (λ b. if b then Rattle.st_promises.specs.Losses.told_by (asked op) s rows else rows) (f d p)
     one (seen.Answered d op a) p = refl
     one o p = refl
 
@@ -212,7 +212,7 @@ module _ (past : List Step) (x : Step) (c : ClientId) where
   client_one before now (outputs.Answer op a) sc f k = line now (outputs.Answer op a) sc.seen (seen.Answered c op a) (same a) (told_same (asked op) now _ a k.rows f) refl k
     where
       same : (a : AppAnswer) (r : ServerId) (rows : List LostPage) → owed_behind asked x.before.world c r rows (seen.Answered c op a) ≡ behind asked had r rows (outputs.Answer op a)
-      same (answers.Lost told) r rows = ap (λ b. if b then Rattle.st_laws_reports.specs.Losses.told_by (asked op) r rows else rows) self
+      same (answers.Lost told) r rows = ap (λ b. if b then Rattle.st_promises.specs.Losses.told_by (asked op) r rows else rows) self
       same a r rows = refl
   client_one before now (outputs.Submit number at what) sc f k = go (site_of sc.world c)
     where

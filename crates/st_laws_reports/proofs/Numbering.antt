@@ -11,7 +11,7 @@ use Rattle.st_rules.specs.declared.observation.Observation.TheVariants as seen
 use Rattle.st_rules.specs.declared.observation.Summary.{Summary}
 use Rattle.st_rules.specs.declared.world.IssuedCommand.{IssuedCommand}
 use Rattle.st_rules.specs.declared.world.SentMessage.{SentMessage}
-use Rattle.st_laws_reports.specs.Counting.{AreNumbered, LinesGiveTheNextNumbers, command_number, follow_from, is_sent_as, is_told_right, message_number, same_header, same_summary}
+use Rattle.st_promises.specs.Numbers.{AreNumbered, LinesGiveTheNextNumbers, command_number, follow_from, is_sent_as, is_told_right, message_number, same_header, same_summary}
 use Rattle.st_rules.specs.Events.{summary}
 use Rattle.st_rules.specs.History.{traced}
 use Rattle.st_rules.specs.Safety.{Step, Throughout, steps}
@@ -19,8 +19,8 @@ use Rattle.st_rules.specs.World.{World, fresh_world, issued_of, message_of, numb
 use Rattle.st_lemmas.specs.Lists.{Has}
 use Rattle.st_lemmas.proofs.Numbers.{get_last, get_map}
 use Rattle.st_lemmas.proofs.Tables.{all_pass, and_both}
-use Rattle.st_laws_lines.specs.Caused.{is_own_command}
-use Rattle.st_laws_lines.specs.Counted.{IsCounted, TheCountsAreTrue, command_in, command_told, message_in, message_told, under_numbers}
+use Rattle.st_promises.specs.Faults.{is_own_command}
+use Rattle.st_promises.specs.Counts.{IsCounted, TheCountsAreTrue, command_in, command_told, message_in, message_told, under_numbers}
 use Rattle.st_laws_lines.proofs.Growing.{Grows}
 use Rattle.st_laws_lines.proofs.Law.{counts_law}
 use Rattle.st_laws_pages.specs.Asks.Law.{InEveryRun}

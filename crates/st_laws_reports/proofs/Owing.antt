@@ -18,7 +18,7 @@ use Rattle.st_rules.specs.ClientPasses as cp
 use Rattle.st_rules.specs.ClientReplies as cr
 use Rattle.st_rules.specs.ClientState as cs
 use Rattle.st_rules.specs.ClientState.{Association, ClientState, ClientTurn, Turn, at_each, at_these, client_turn, enter, leave, server_of, with_associations}
-use Rattle.st_laws_reports.specs.Losses.{IsToldBy, IsToldTo}
+use Rattle.st_promises.specs.Losses.{IsToldBy, IsToldTo}
 use Rattle.st_lemmas.specs.Lists.{Has}
 use Rattle.st_lemmas.proofs.Tables.{has_append, has_map_in}
 use Rattle.st_laws_steps.specs.Lives.Lives.{Once, server_number}

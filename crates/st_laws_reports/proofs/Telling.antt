@@ -57,7 +57,7 @@ use Rattle.st_rules.specs.ClientState as cs
 use Rattle.st_rules.specs.ClientState.{Association, ClientSession, Turn, answer_to, leave, only_at, say}
 use Rattle.st_lemmas.specs.Lists.{Has}
 use Rattle.st_rules.specs.Keys.{page_no, rising, same_server}
-use Rattle.st_laws_reports.specs.Losses.{IsToldBy, IsToldTo, told_by, with_dirty}
+use Rattle.st_promises.specs.Losses.{IsToldBy, IsToldTo, told_by, with_dirty}
 use Rattle.st_lemmas.proofs.Lookups.{some_is}
 use Rattle.st_lemmas.proofs.Tables.{and_true, found_at, has_append, has_filter, has_map, none_passes, not_true}
 

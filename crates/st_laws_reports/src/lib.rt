@@ -2,8 +2,8 @@
 #![tactic(auto)]
 
 ghost use Rattle.st_laws_pages.specs.Asks.Law.{InEveryRun};
-ghost use Rattle.st_laws_reports.specs.Counting.{LinesGiveTheNextNumbers};
-ghost use Rattle.st_laws_reports.specs.Losses.{LossesAreTold};
+ghost use Rattle.st_promises.specs.Numbers.{LinesGiveTheNextNumbers};
+ghost use Rattle.st_promises.specs.Losses.{LossesAreTold};
 
 /// In every run losses are told: while pages of a file that were dirty at a lease's end are owed, a sync of the file is answered `lost` with
 /// exactly these, or that 16 operations are pending; and no other answer tells of lost pages. An application whose sync was answered so

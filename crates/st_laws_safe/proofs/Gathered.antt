@@ -1,5 +1,5 @@
 -- The promises over every run, gathered from the crates that prove them.
-use Rattle.st_rules.specs.Safety.{EveryRunIsSafe, IsAllPromised}
+use Rattle.st_promises.specs.Safe.{EveryRunIsSafe, IsAllPromised}
 use Rattle.st_laws_leases.proofs.Sides.Kept.{most_promised}
 use Rattle.st_laws_requests.proofs.Cuts.Law as cuts
 use Rattle.st_laws_leases.proofs.Order.Grants.{order_law}

@@ -1,7 +1,7 @@
 //! Safety over whole runs: every promise of every run, in one record.
 #![tactic(auto)]
 
-ghost use Rattle.st_rules.specs.Safety.{EveryRunIsSafe, IsAllPromised};
+ghost use Rattle.st_promises.specs.Safe.{EveryRunIsSafe, IsAllPromised};
 
 /// Every run is safe: from the world of every head and over every list of events in their ranges, up to the first that is refused, each
 /// step keeps all sixteen promises. Restarts and several servers are included.

@@ -3,7 +3,7 @@ ghost use Rattle.std.specs.Prelude.{◌∷◌, [], false, true};
 ghost use Rattle.st_base.specs.Page.{filled};
 ghost use Rattle.st_messages.specs.declared.ask.Ask.TheVariants as asks;
 ghost use Rattle.st_messages.specs.declared.event.Event.TheVariants as events;
-ghost use Rattle.st_rules.specs.Safety.{IsSafeRun};
+ghost use Rattle.st_promises.specs.Safe.{IsSafeRun};
 ghost use Rattle.st_rows.specs.ClientWords.{on};
 ghost use Rattle.st_rows.specs.Words.{page};
 ghost use Rattle.st_rows.specs.WorldWords.{ask, client_node, server_node, world_of};

@@ -56,12 +56,12 @@ use Rattle.st_rules.specs.Locks as locks
 use Rattle.st_rules.specs.Server as server
 use Rattle.st_rules.specs.Server.{ServerNode}
 use Rattle.st_rules.specs.Sessions as sessions
-use Rattle.st_rules.specs.World.{World, ClientSite, site_of, node_of, same_node, all_clients, all_servers, clock_of, message_of, receiver_of, issued_of, server_of_disk, numbered, present_end, lease_end_of, fresh_world}
+use Rattle.st_rules.specs.World.{World, ClientSite, site_of, node_of, same_node, all_clients, all_servers, clock_of, message_of, receiver_of, issued_of, server_of_disk, numbered, present_end, lease_end_of}
 use Rattle.st_rules.specs.Events.{WorldTurn, world_step, present_life, present_lives, is_same_instance, is_hard_fate, last_write}
 use Rattle.st_rules.specs.Run.{run}
 use Rattle.st_rules.specs.Lines.{AtEach, IsLogTold, lines_open}
 use Rattle.st_rules.specs.Dating.{dates_it, dating_open}
-use Rattle.st_rules.specs.History.{Traced, History, LeaseDate, EntryGrant, association_of, locks_at, is_timer_of, is_exclusive_on, is_exclusive_row, rows_at, traced, traced_after}
+use Rattle.st_rules.specs.History.{Traced, History, LeaseDate, EntryGrant, association_of, locks_at, is_timer_of, is_exclusive_on, is_exclusive_row, rows_at, traced_after}
 
 -- The steps of a run: what stood before an event, the event, what was observed, and what it left.
 pub record Step : Type 0 where
@@ -774,43 +774,6 @@ abbrev pub is_event : ℕ → Event → Bool
 is_event count (events.App c ask) = is_ask ask
 is_event count (events.Advance steps) = (length steps == count) && list_all is_increment steps
 is_event count e = true
-
--- Safe: every promise is kept at every step of the run.
-pub record IsSafe (xs : List Step) : Type 0 where
-  pub alone : Throughout DirtyPagesStandAlone [] xs
-  pub reads : Throughout ReadsReturnLastWrites [] xs
-  pub causes : Throughout DropsHaveACause [] xs
-  pub stays : Throughout HardStaysHard [] xs
-  pub hard : Throughout HardIsHard [] xs
-  pub thefts : Throughout TheftsComeLate [] xs
-  pub dates : Throughout LeasesAreDatedFromRequests [] xs
-  pub waits : Throughout GraceWaits [] xs
-  pub conflicts : Throughout NoConflictIsSent [] xs
-  pub told : Throughout TheReportTellsTheLog [] xs
-  pub logged : Throughout AnswersAreLogged [] xs
-  pub once : Throughout AsksAreAnsweredOnce [] xs
-  pub locked : Throughout ChangesAreLocked [] xs
-  pub order : Throughout ChangesGoInTheOrderOfLocks [] xs
-  pub emptied : Throughout ExpiredLeasesEmptyClients [] xs
-  pub history : Throughout TheHistoryIsTheWorlds [] xs
-
--- a run from the world of a head
-abbrev pub IsSafeRun : World → List Event → Type 0
-IsSafeRun w es = IsSafe (steps es (traced w))
-
--- Every run is safe, from the world of every head and over every list of events, up to the first that is refused
-abbrev pub EveryRunIsSafe : Type 0
-EveryRunIsSafe =
-    (k : Config) (clients servers disks blocks form : ℕ) (es : List Event)
-    → IsHead k clients servers disks blocks form
-    → list_all (is_event (clients + servers)) es ≡ true
-    → IsSafeRun (fresh_world k clients servers disks blocks form) es
-
--- All that is promised: every run is safe, and old messages change nothing.
-pub record IsAllPromised : Type 0 where
-  pub runs : EveryRunIsSafe
-  pub clients : OldMessagesChangeNoClient
-  pub servers : OldMessagesChangeNoServer
 
 -- opens all of this file and of the two that it stands on
 unfoldable pub safety_open : ⊤

@@ -4,7 +4,8 @@ use Rattle.std.specs.List.{list_all}
 use Rattle.st_base.specs.declared.config.Config.{Config}
 use Rattle.st_messages.specs.declared.event.Counts.{Counts}
 use Rattle.st_rules.specs.Report.{opening}
-use Rattle.st_rules.specs.Safety.{IsHead, IsSafeRun, is_event}
+use Rattle.st_promises.specs.Safe.{IsSafeRun}
+use Rattle.st_rules.specs.Safety.{IsHead, is_event}
 use Rattle.st_rules.specs.World.{World, fresh_world}
 use Rattle.st_schedule.specs.declared.reader.Line.TheVariants as said
 use Rattle.st_schedule.specs.declared.reader.Progress.{Progress}

@@ -7,7 +7,7 @@ ghost use Rattle.st_replay.specs.Ends.{IsCutOff};
 ghost use Rattle.st_runs.specs.Replay.{replay_of, report_of};
 ghost use Rattle.st_runs.specs.Safe.{RunsSafely};
 ghost use Rattle.st_runs.specs.Schedule.{lines_of};
-ghost use Rattle.st_rules.specs.Safety.{IsAllPromised};
+ghost use Rattle.st_promises.specs.Safe.{IsAllPromised};
 ghost use Rattle.st_tank.specs.NodeEnds.{Completes, IsAttached, IsServed};
 ghost use Rattle.st_tank.specs.NodeWords as services;
 ghost use Rattle.st_tank.specs.NodeWords.{starts_node};

@@ -1,7 +1,8 @@
 -- Runs to a world are safe, by the law of every run.
 use Rattle.std.proofs.Common.{◌≡◌, ◌+◌, true, [], ◌∷◌, ◌++◌, length, sym, ap, ◌∙◌}
 use Rattle.st_messages.specs.declared.event.Event.{Event}
-use Rattle.st_rules.specs.Safety.{EveryRunIsSafe, is_event}
+use Rattle.st_promises.specs.Safe.{EveryRunIsSafe}
+use Rattle.st_rules.specs.Safety.{is_event}
 use Rattle.st_rules.specs.World.{World}
 use Rattle.st_world.specs.Reached.{IsReached}
 use Rattle.st_world.specs.Safe.{AreSafe, GoesOnSafely, IsLedSafely}

@@ -2,7 +2,7 @@
 use Rattle.std.specs.Prelude.{ℕ, List, [], ◌∷◌, ◌++◌}
 use Rattle.st_base.specs.declared.config.Config.{Config}
 use Rattle.st_messages.specs.declared.event.Event.{Event}
-use Rattle.st_rules.specs.Safety.{IsSafeRun}
+use Rattle.st_promises.specs.Safe.{IsSafeRun}
 use Rattle.st_rules.specs.World.{World, fresh_world}
 use Rattle.st_world.specs.Reached.{IsReached, IsReachedBy}
 

@@ -11,7 +11,7 @@ use Rattle.st_laws_reads.specs.Copies.World.{Taking, taken}
 use Rattle.st_laws_extents.specs.Known.Law.{IsTold}
 use Rattle.st_laws_extents.specs.DiskReads.Law.{InputMaps, TakenMaps}
 use Rattle.st_laws_extents.proofs.LockedRequests.Law as going
-use Rattle.st_laws_lines.specs.Held.{DisksHoldWhatIsHard}
+use Rattle.st_promises.specs.Held.{DisksHoldWhatIsHard}
 use Rattle.st_laws_lines.proofs.Held.{held_throughout}
 use Rattle.st_laws_pages.specs.Disks.Runs.{PagesAfter}
 use Rattle.st_laws_extents.specs.Samples.Law.{IsToldRight}

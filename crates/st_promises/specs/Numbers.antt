@@ -9,8 +9,8 @@ use Rattle.st_rules.specs.declared.world.SentMessage.{SentMessage}
 use Rattle.st_rules.specs.Events.{summary}
 use Rattle.st_rules.specs.Safety.{Promise}
 use Rattle.st_rules.specs.World.{World, message_of, issued_of}
-use Rattle.st_laws_lines.specs.Caused.{is_own_command}
-use Rattle.st_laws_lines.specs.Counted.{with_lines}
+use Rattle.st_promises.specs.Faults.{is_own_command}
+use Rattle.st_promises.specs.Counts.{with_lines}
 
 -- both count the same
 abbrev pub same_summary : Summary → Summary → Bool

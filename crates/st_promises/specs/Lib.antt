@@ -1,0 +1,6 @@
+pub mod Counts
+pub mod Faults
+pub mod Held
+pub mod Numbers
+pub mod Losses
+pub mod Safe

@@ -1,0 +1,69 @@
+-- Safe: all that is promised of a run, in one record, and that every run is so.
+use Rattle.std.specs.Prelude.{◌≡◌, ℕ, ◌+◌, true, List, []}
+use Rattle.std.specs.List.{list_all}
+use Rattle.st_base.specs.declared.config.Config.{Config}
+use Rattle.st_messages.specs.declared.event.Event.{Event}
+use Rattle.st_rules.specs.Safety.{
+  Step,
+  Throughout,
+  steps,
+  is_event,
+  IsHead,
+  DirtyPagesStandAlone,
+  ReadsReturnLastWrites,
+  DropsHaveACause,
+  HardStaysHard,
+  HardIsHard,
+  TheftsComeLate,
+  LeasesAreDatedFromRequests,
+  GraceWaits,
+  NoConflictIsSent,
+  TheReportTellsTheLog,
+  AnswersAreLogged,
+  AsksAreAnsweredOnce,
+  ChangesAreLocked,
+  ChangesGoInTheOrderOfLocks,
+  ExpiredLeasesEmptyClients,
+  TheHistoryIsTheWorlds,
+  OldMessagesChangeNoClient,
+  OldMessagesChangeNoServer,
+}
+use Rattle.st_rules.specs.History.{traced}
+use Rattle.st_rules.specs.World.{World, fresh_world}
+
+-- Safe: every promise is kept at every step of the run.
+pub record IsSafe (xs : List Step) : Type 0 where
+  pub alone : Throughout DirtyPagesStandAlone [] xs
+  pub reads : Throughout ReadsReturnLastWrites [] xs
+  pub causes : Throughout DropsHaveACause [] xs
+  pub stays : Throughout HardStaysHard [] xs
+  pub hard : Throughout HardIsHard [] xs
+  pub thefts : Throughout TheftsComeLate [] xs
+  pub dates : Throughout LeasesAreDatedFromRequests [] xs
+  pub waits : Throughout GraceWaits [] xs
+  pub conflicts : Throughout NoConflictIsSent [] xs
+  pub told : Throughout TheReportTellsTheLog [] xs
+  pub logged : Throughout AnswersAreLogged [] xs
+  pub once : Throughout AsksAreAnsweredOnce [] xs
+  pub locked : Throughout ChangesAreLocked [] xs
+  pub order : Throughout ChangesGoInTheOrderOfLocks [] xs
+  pub emptied : Throughout ExpiredLeasesEmptyClients [] xs
+  pub history : Throughout TheHistoryIsTheWorlds [] xs
+
+-- a run from the world of a head
+abbrev pub IsSafeRun : World → List Event → Type 0
+IsSafeRun w es = IsSafe (steps es (traced w))
+
+-- Every run is safe, from the world of every head and over every list of events, up to the first that is refused
+abbrev pub EveryRunIsSafe : Type 0
+EveryRunIsSafe =
+    (k : Config) (clients servers disks blocks form : ℕ) (es : List Event)
+    → IsHead k clients servers disks blocks form
+    → list_all (is_event (clients + servers)) es ≡ true
+    → IsSafeRun (fresh_world k clients servers disks blocks form) es
+
+-- All that is promised: every run is safe, and old messages change nothing.
+pub record IsAllPromised : Type 0 where
+  pub runs : EveryRunIsSafe
+  pub clients : OldMessagesChangeNoClient
+  pub servers : OldMessagesChangeNoServer
