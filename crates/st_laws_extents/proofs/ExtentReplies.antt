@@ -6,4 +6,5 @@ pub mod Rule
 pub mod Serving
 pub mod Sessions
 pub mod Step
+pub mod Thefts
 pub mod Walk

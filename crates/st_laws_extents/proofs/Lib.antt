@@ -5,6 +5,5 @@ pub mod ExtentReplies
 pub mod FrozenCuts
 pub mod Known
 pub mod LockedRequests
-pub mod ReadPlaces
 pub mod Samples
 pub mod Submits

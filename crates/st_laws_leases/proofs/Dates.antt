@@ -3,6 +3,7 @@ pub mod Calm
 pub mod Hearing
 pub mod Known
 pub mod Law
+pub mod Leaving
 pub mod Said
 pub mod Serving
 pub mod Steps

@@ -5,6 +5,7 @@ pub mod Folds
 pub mod Found
 pub mod Law
 pub mod Moves
+pub mod Opens
 pub mod Servers
 pub mod Steps
 pub mod Told

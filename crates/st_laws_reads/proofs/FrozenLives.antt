@@ -1,6 +1,5 @@
 pub mod AllRuns
 pub mod Aloneness
-pub mod Calm
 pub mod Crashing
 pub mod Falling
 pub mod Frozen

@@ -1,6 +1,5 @@
 pub mod Alone
 pub mod Cases
-pub mod Events
 pub mod Falling
 pub mod Growing
 pub mod Lasting

@@ -1,5 +1,5 @@
 -- The rule of each request leaves the sessions; so it keeps a fact of turns that other states with the same sessions, and notes, keep.
-use Rattle.std.proofs.Common.{◌≡◌, ℕ, ◌+◌, ◌⊎◌, Bool, true, false, List, [], ◌∷◌, ◌++◌, ◌==◌, refl, ◌∙◌, if◌then◌else◌}
+use Rattle.std.proofs.Common.{◌≡◌, ℕ, Bool, true, false, List, [], ◌==◌, refl, if◌then◌else◌}
 use Rattle.std.specs.Prelude.{Result as Res, Ok, Err, length, nat_le}
 use Rattle.st_base.specs.declared.ids.GrantNo.{GrantNo}
 use Rattle.st_base.specs.declared.ids.PageNo.{PageNo}

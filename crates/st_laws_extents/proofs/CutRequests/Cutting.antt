@@ -1,7 +1,7 @@
 -- Why a server cuts a file: the rules of a server, walked for the cuts that they note.
 use Rattle.std.proofs.Common.{◌≡◌, ℕ, ◌⊎◌, Bool, true, false, List, [], ◌∷◌, ◌==◌, refl, sym, ap, ◌∙◌, subst, inl, inr, if◌then◌else◌}
-use Rattle.std.specs.Prelude.{not, Option, Some, None, Result as Res, Ok, Err, option_map}
-use Rattle.std.proofs.lemmas.Bool.{eq-eqb, eqb-true}
+use Rattle.std.specs.Prelude.{Option, Some, None, Result as Res, Ok, Err}
+use Rattle.std.proofs.lemmas.Bool.{eqb-true}
 use Rattle.st_base.specs.declared.ids.ClientId.{ClientId}
 use Rattle.st_base.specs.declared.ids.Epoch.{Epoch}
 use Rattle.st_base.specs.declared.ids.GrantNo.{GrantNo}
@@ -33,7 +33,6 @@ use Rattle.st_rules.specs.declared.sessions.Taken.TheVariants as takes
 use Rattle.st_rules.specs.Extents as extents
 use Rattle.st_rules.specs.Names as names
 use Rattle.st_rules.specs.Locks as locks
-use Rattle.st_rules.specs.Locks.{Locks}
 use Rattle.st_rules.specs.Sessions as sessions
 use Rattle.st_rules.specs.Authority as authority
 use Rattle.st_rules.specs.Grace as grace
@@ -41,8 +40,7 @@ use Rattle.st_rules.specs.Keys.{server_node}
 use Rattle.st_rules.specs.Server as sv
 use Rattle.st_rules.specs.Server.{ServerState, Turn, Replied, turn, sender, life_in, reply, say, tell, steal_at, steal_from, steal, steal_each, thefts, suspect_client, greet_as, greet_by, greet, refuse_in_grace, hello, demand_seen, see_demand, refuse_epoch, reassert_by, reassert_new, reassert_again, reassert, rule, keep_and_reply, keep, serve, request_by, request, of_epoch, by_body, refuse_suspect, by_suspicion, receive_from, receive, take_input, suspect_unless, suspect_each, suspecting, suspecting_on, tell_granted, grant_by, grant_waiting, granting, tell_demanded, demand_by, demanding, server_step}
 use Rattle.st_lemmas.specs.Lists.{Has}
-use Rattle.st_lemmas.proofs.Lookups.{some_is}
-use Rattle.st_lemmas.proofs.Tables.{and_true, find_gone, find_kept, find_map, has_append}
+use Rattle.st_lemmas.proofs.Tables.{and_true, has_append}
 use Rattle.st_laws_steps.proofs.Server.Taking.{FreshState, Found, found_for, fresh_state}
 use Rattle.st_laws_extents.specs.CutRequests.Cut.{AsksCut, CutBy}
 use Rattle.st_base.specs.declared.ids.FileId.{FileId}
@@ -50,74 +48,13 @@ use Rattle.st_base.specs.Mode.{covers}
 use Rattle.st_rules.specs.declared.locks.LockRow.{LockRow}
 use Rattle.st_rules.specs.Keys.{page_no}
 use Rattle.st_laws_steps.proofs.Server.Taking.{if_either, if_cases}
+use Rattle.st_laws_extents.proofs.ExtentReplies.Thefts.{From, f_thefts}
 
 no_some : {A B : Type 0} (x : A) → ◌≡◌ {A = Option A} None (Some x) → B
 no_some x e = cc
 
 clash : {A : Type 0} {b : Bool} → b ≡ true → b ≡ false → A
 clash x y = cc
-
--- What the thefts at the beginning of a step leave: each session that lives and each row was there before.
-record From (x : ServerState) (t : Turn) : Type 0 where
-  id : t.state.id ≡ x.id
-  epoch : t.state.stable.epoch ≡ x.stable.epoch
-  sessions : (c : ClientId) (y : Session) → sessions.session_of t.state.sessions c ≡ Some y → sessions.is_live y ≡ true → sessions.session_of x.sessions c ≡ Some y
-  rows : (c : ClientId) (i : ℕ) (r : LockRow) → locks.row_of t.state.locks c i ≡ Some r → locks.row_of x.locks c i ≡ Some r
-
-end_client : (c : ClientId) (x : Session) → (sessions.end_of c x).client ≡ x.client
-unfolding sessions.ended
-end_client c x = at (sessions.is_session_of c x)
-  where
-    at : (z : Bool) → (if z then sessions.ended x else x).client ≡ x.client
-    at true = refl
-    at false = refl
-
-ended_from : (t : sessions.Sessions) (c d : ClientId) (y : Session) → sessions.session_of (sessions.end t c) d ≡ Some y → sessions.is_live y ≡ true → sessions.session_of t d ≡ Some y
-unfolding sessions.end sessions.ended
-ended_from t c d y e l = go (sessions.session_of t d) refl (sym (find_map (sessions.is_session_of d) (sessions.end_of c) (λ x. ap (λ (z : ClientId). z.0 == d.0) (end_client c x)) t.rows) ∙ e)
-  where
-    at : (x : Session) (b : Bool) → Some (if b then sessions.ended x else x) ≡ Some y → x ≡ y
-    at x true q = clash (subst (λ (z : Session). sessions.is_live z ≡ true) (sym (some_is q)) l) refl
-    at x false q = some_is q
-
-    go : (o : Option Session) → sessions.session_of t d ≡ o → option_map (sessions.end_of c) o ≡ Some y → o ≡ Some y
-    go None f q = no_some y q
-    go (Some x) f q = ap Some (at x (sessions.is_session_of c x) q)
-
-forget_from : (l : Locks) (c d : ClientId) (i : ℕ) (r : LockRow) → locks.row_of (locks.forget l c) d i ≡ Some r → locks.row_of l d i ≡ Some r
-unfolding locks.forget
-forget_from l c d i r e = go (d.0 == c.0) refl
-  where
-    of : (x : LockRow) → locks.is_row_of d i x ≡ true → x.client.0 ≡ d.0
-    of x h = eqb-true _ _ (and_true (x.client.0 == d.0) (x.ino == i) h).0
-
-    pick : (x : LockRow) → (d.0 == c.0) ≡ false → locks.is_row_of d i x ≡ true → (b : Bool) → (x.client.0 == c.0) ≡ b → not b ≡ true
-    pick x f h true q = clash (eq-eqb d.0 c.0 (sym (of x h) ∙ eqb-true _ _ q)) f
-    pick x f h false q = refl
-
-    go : (b : Bool) → (d.0 == c.0) ≡ b → locks.row_of l d i ≡ Some r
-    go true f = no_some r (sym (find_gone (locks.is_row_of d i) (λ r. not (locks.is_row_by c r)) (λ x h. ap not (eq-eqb x.client.0 c.0 (of x h ∙ eqb-true _ _ f))) l.rows) ∙ e)
-    go false f = sym (find_kept (locks.is_row_of d i) (λ r. not (locks.is_row_by c r)) (λ x h. pick x f h (x.client.0 == c.0) refl) l.rows) ∙ e
-
-f_steal : (x : ServerState) (t : Turn) (c : ClientId) (o : Option Session) → From x t → From x (steal_at t c o)
-unfolding steal_at steal_from
-f_steal x t c None f = f
-f_steal x t c (Some s) f =
-    record {
-      id = f.id;
-      epoch = f.epoch;
-      sessions = λ d y e l. f.sessions d y (ended_from t.state.sessions c d y e l) l;
-      rows = λ d i r e. f.rows d i r (forget_from t.state.locks c d i r e);
-    }
-
-f_steals : (x : ServerState) (cs : List ClientId) (t : Turn) → From x t → From x (steal_each cs t)
-unfolding steal_each steal
-f_steals x [] t f = f
-f_steals x (c ∷ cs) t f = f_steals x cs _ (f_steal x t c (sessions.session_of t.state.sessions c) f)
-
-f_thefts : (x : ServerState) (now : Stamp) → From x (thefts (turn x []) now)
-unfolding thefts
-f_thefts x now = f_steals x _ _ (record { id = refl; epoch = refl; sessions = λ c y e l. e; rows = λ c i r e. e })
 
 -- What was cut behind the thefts was cut by the state before them.
 cut_from : (x : ServerState) (t : Turn) (m : Message) (f : FileId) (p : PageNo) → From x t → CutBy t.state m f p → CutBy x m f p

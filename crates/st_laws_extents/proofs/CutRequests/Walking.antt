@@ -1,5 +1,5 @@
 -- The rules of a client that leave the requests of a session: a fact of them stands again.
-use Rattle.std.proofs.Common.{◌≡◌, ℕ, Bool, true, false, List, [], ◌∷◌, Option, Some, None, sym, subst, if◌then◌else◌}
+use Rattle.std.proofs.Common.{◌≡◌, ℕ, Bool, true, false, List, [], Option, Some, None, sym, subst, if◌then◌else◌}
 use Rattle.st_base.specs.declared.disk.Tag.{Tag}
 use Rattle.st_base.specs.declared.ids.GrantNo.{GrantNo}
 use Rattle.st_base.specs.declared.ids.ServerId.{ServerId}
@@ -10,7 +10,7 @@ use Rattle.st_rules.specs.declared.client.KnownExtent.{KnownExtent}
 use Rattle.st_rules.specs.Client as cl
 use Rattle.st_rules.specs.ClientPasses as cp
 use Rattle.st_rules.specs.ClientReplies as cr
-use Rattle.st_rules.specs.ClientState.{ClientSession, Turn, only_at, with_session}
+use Rattle.st_rules.specs.ClientState.{ClientSession, Turn, only_at}
 use Rattle.st_laws_steps.specs.Client.Session.{AsksNothing}
 use Rattle.st_laws_steps.proofs.Client.Sessions as sessions
 use Rattle.st_laws_extents.specs.CutRequests.Asks.{Fact, Of}
@@ -25,16 +25,9 @@ module _ (F : Fact) where
   pub k_none : (t : Turn) → K t t
   k_none t h = h
 
-  pub k_then : (t u v : Turn) → K t u → K u v → K t v
-  k_then t u v f g h = g (f h)
-
   pub k_if : (t : Turn) (b : Bool) (u v : Turn) → K t u → K t v → K t (if b then u else v)
   k_if t true u v f g = f
   k_if t false u v f g = g
-
-  -- another session, with the same fact
-  pub k_session : (t : Turn) (s r : ClientSession) → t.here.session ≡ Some s → (Of F t.here.server t.here.life.0 (Some s) → Of F t.here.server t.here.life.0 (Some r)) → K t (with_session r t)
-  k_session t s r e f h = f (subst (Of F t.here.server t.here.life.0) e h)
 
   alike : (xs : List KnownExtent) (server : ServerId) (life : ℕ) (s r : ClientSession) → AsksNothing xs s r → Of F server life (Some s) → Of F server life (Some r)
   alike xs server life s r a h =

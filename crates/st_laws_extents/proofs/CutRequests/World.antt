@@ -1,43 +1,33 @@
 -- Every event keeps what stands of the requests of all sessions.
-use Rattle.std.proofs.Common.{◌≡◌, ◌≢◌, ℕ, ◌+◌, ◌≤◌, ◌⊎◌, Bool, true, false, List, [], Option, Some, None, Ok, Err, refl, sym, ap, ◌∙◌, subst, inl, inr, arith, if◌then◌else◌}
+use Rattle.std.proofs.Common.{◌≡◌, ◌≢◌, ℕ, ◌+◌, ◌≤◌, ◌⊎◌, Bool, true, false, List, [], Option, Some, None, Ok, refl, sym, ap, ◌∙◌, subst, inl, inr, arith}
 use Rattle.std.specs.Prelude.{map}
 use Rattle.st_base.specs.declared.ids.ClientId.{ClientId}
 use Rattle.st_base.specs.declared.ids.ServerId.{ServerId}
 use Rattle.st_base.specs.declared.ids.Stamp.{Stamp}
-use Rattle.st_base.specs.declared.ids.NodeId.{NodeId}
 use Rattle.st_base.specs.declared.ids.NodeId.TheVariants as nodes
-use Rattle.st_messages.specs.declared.ask.Ask.{Ask}
 use Rattle.st_messages.specs.declared.message.Message.{Message}
 use Rattle.st_messages.specs.declared.event.Event.{Event}
-use Rattle.st_messages.specs.declared.event.Event.TheVariants as events
 use Rattle.st_rules.specs.declared.client.ClientInput.{ClientInput}
 use Rattle.st_rules.specs.declared.client.ClientInput.TheVariants as inputs
 use Rattle.st_rules.specs.declared.input.ServerInput.{ServerInput}
-use Rattle.st_rules.specs.declared.input.ServerInput.TheVariants as serving
-use Rattle.st_rules.specs.declared.node.StepRefusal.TheVariants.{Crashed}
-use Rattle.st_rules.specs.declared.world.IssuedCommand.{IssuedCommand}
-use Rattle.st_rules.specs.declared.world.SentMessage.{SentMessage}
 use Rattle.st_rules.specs.Keys.{client, server_node}
 use Rattle.st_rules.specs.Client as cl
 use Rattle.st_rules.specs.ClientState.{ClientTurn}
 use Rattle.st_rules.specs.Events as ev
-use Rattle.st_rules.specs.Events.{WorldTurn, world_step, client_says_all, server_says_all}
+use Rattle.st_rules.specs.Events.{WorldTurn, world_step}
 use Rattle.st_rules.specs.History.{Traced}
 use Rattle.st_rules.specs.Sessions as sessions
 use Rattle.st_rules.specs.Server as server
 use Rattle.st_rules.specs.Server.{ServerNode}
 use Rattle.st_rules.specs.World as world
 use Rattle.st_rules.specs.World.{World, ClientSite, site_of, node_of, numbered, with_numbered, clock_of}
-use Rattle.st_rules.specs.Safety.{Step, steps}
+use Rattle.st_rules.specs.Safety.{Step}
 use Rattle.st_lemmas.specs.Lists.{Has}
-use Rattle.st_lemmas.proofs.Lookups.{some_is}
-use Rattle.st_lemmas.proofs.Numbers.{numbered_below, numbered_has, numbered_other, numbered_own}
-use Rattle.st_lemmas.proofs.Tables.{has_map, has_map_in, same_or_not}
-use Rattle.st_laws_leases.specs.Dates.Dates.{message_in, messages}
-use Rattle.st_laws_leases.proofs.Dates.Said.{Alike, Said, client_said, flushed, server_said}
-use Rattle.st_lemmas.proofs.Steps.{step_happens}
-use Rattle.st_laws_requests.specs.Replies.Reached.{AtMessage, AtReceiver, AtServer, Ends, InputNew, IsBehind, NewOwed, Refusal, Says}
-use Rattle.st_laws_requests.proofs.Replies.EachEvent.{Comes, event_leaves}
+use Rattle.st_lemmas.proofs.Tables.{has_map}
+use Rattle.st_laws_leases.specs.Dates.Dates.{messages}
+use Rattle.st_laws_requests.specs.Replies.Reached.{Ends, InputNew, IsBehind, NewOwed, Refusal, Says}
+use Rattle.st_laws_leases.proofs.Dates.Leaving.{Leaves, set_cases}
+use Rattle.st_laws_requests.proofs.Replies.EachEvent.{ClientTook, Comes, NodeAfter, ServerLeft, ServerTook, SiteAfter, event_leaves}
 use Rattle.st_laws_requests.proofs.Replies.Replies.{RepliesHold}
 use Rattle.st_laws_requests.specs.Cuts.Cuts.{CutsHold, Numbers, Numbered, SameBody, view}
 use Rattle.st_laws_extents.specs.CutRequests.Asks.{AsksBehind, AsksStand, Of, Tells}
@@ -52,13 +42,6 @@ use Rattle.std.proofs.lemmas.Bool.{eqb-true}
 use Rattle.st_lemmas.proofs.Tables.{and_both, and_true}
 use Rattle.st_base.specs.declared.ids.GrantNo.{GrantNo}
 use Rattle.st_laws_requests.proofs.Replies.Served.{Served, served}
-
-set_cases : {A : Type 0} (xs : List A) (n m : ℕ) (y z x : A) → numbered xs n ≡ Some y → numbered (with_numbered n z xs) m ≡ Some x → ((m ≡ n) × (x ≡ z)) ⊎ ((m ≢ n) × (numbered xs m ≡ Some x))
-set_cases {A} xs n m y z x at h = go (same_or_not m n)
-  where
-    go : (m ≡ n) ⊎ (m ≢ n) → ((m ≡ n) × (x ≡ z)) ⊎ ((m ≢ n) × (numbered xs m ≡ Some x))
-    go (inl q) = inl (q, some_is (sym h ∙ ap (numbered (with_numbered n z xs)) q ∙ numbered_own xs n z y at))
-    go (inr q) = inr (q, sym (numbered_other xs n m z (numbered_below xs n y at).0 q) ∙ h)
 
 clash : {A : Type 0} {b : Bool} → b ≡ true → b ≡ false → A
 clash x y = cc
@@ -159,103 +142,64 @@ module _ (past : List Step) (t : Traced) (d : CutsHold past t) (r : RepliesHold 
   start : (v : World) (c : ClientId) (server : ServerId) (life epoch : ℕ) → IsServed v c server life epoch 1
   start v c server life epoch n at k pos e = absurd (omega (arith, pos, e))
 
-  client_step : (v : World) → v.clients ≡ t.world.clients → v.servers ≡ t.world.servers → (c : ClientId) (i : ClientInput) (site old : ClientSite) → site.node ≡ old.node → site_of t.world c ≡ Some old → Comes t.world i →
-      AllAsked G (ev.client_takes v c i site).world
-  unfolding ev.client_takes ev.client_took cl.node_step
-  client_step v ps ss c i site old same at k = go site.node.running refl
+  client_step : (v : World) → v.clients ≡ t.world.clients → v.servers ≡ t.world.servers → (c : ClientId) (i : ClientInput) (site old : ClientSite) → site.node ≡ old.node → site.node.running ≡ true → site_of t.world c ≡ Some old → Comes t.world i →
+      (last : World) → Leaves (messages t.world) (ev.with_site c (SiteAfter v c i site) v) last (ClientTook v c i site).out → AllAsked G last
+  client_step v ps ss c i site old same run at k last l = taken
     where
       now : Stamp
       now = clock_of v (nodes.Client c)
 
       u : ClientTurn
-      u = cl.client_step site.node.state now i
-
-      node : cl.ClientNode
-      node = record site.node { state = u.state }
+      u = ClientTook v c i site
 
       after : ClientSite
-      after = ev.at_node node site
-
-      a : WorldTurn
-      a = ev.quiet (ev.with_site c after v)
-
-      b : WorldTurn
-      b = ev.client_says_all c site.node.state u.out a
-
-      said : Said a b u.out
-      said = client_said c site.node.state u.out a
-
-      last : World
-      last = ev.flushes c node.state (world.all_servers b.world) b.world
-
-      f : Alike b.world last
-      f = flushed c node.state (world.all_servers b.world) b.world
+      after = SiteAfter v c i site
 
       serving_same : last.servers ≡ t.world.servers
-      serving_same = f.servers ∙ said.servers ∙ ss
+      serving_same = l.servers ∙ ss
 
       here : ClientState
       here = site.node.state
 
-      tells_each : site.node.running ≡ true → (i : ClientInput) → Comes t.world i → TellsEach (IsServed t.world c) (G c) (start t.world c) here i
-      tells_each run (inputs.Control m) k = λ e x j. tells c old at (ap (λ (n : cl.ClientNode). n.running) (sym same) ∙ run) m k (e ∙ id) x (subst (λ (n : cl.ClientNode). Has x n.state.associations) same j) x.session refl
+      tells_each : (i : ClientInput) → Comes t.world i → TellsEach (IsServed t.world c) (G c) (start t.world c) here i
+      tells_each (inputs.Control m) k = λ e x j. tells c old at (ap (λ (n : cl.ClientNode). n.running) (sym same) ∙ run) m k (e ∙ id) x (subst (λ (n : cl.ClientNode). Has x n.state.associations) same j) x.session refl
         where
           id : here.id.0 ≡ c.0
           id = ap (λ (n : cl.ClientNode). n.state.id.0) same ∙ ap (λ (y : ClientId). y.0) (r.dated.clients c old at).id
-      tells_each run inputs.Tick k = tt
-      tells_each run (inputs.App op ask) k = tt
-      tells_each run (inputs.Done number result) k = tt
+      tells_each inputs.Tick k = tt
+      tells_each (inputs.App op ask) k = tt
+      tells_each (inputs.Done number result) k = tt
 
-      own : site.node.running ≡ true → (x : Association) → Has x u.state.associations → AsksBehind (IsServed t.world c) (G c) x.server x.life.0 x.session
-      own run = step_stands (IsServed t.world c) (G c) (start t.world c) here now i (tells_each run i k)
+      own : (x : Association) → Has x u.state.associations → AsksBehind (IsServed t.world c) (G c) x.server x.life.0 x.session
+      own = step_stands (IsServed t.world c) (G c) (start t.world c) here now i (tells_each i k)
           (λ x j. asks c old at x (subst (λ (n : cl.ClientNode). Has x n.state.associations) same j))
 
-      taken : site.node.running ≡ true → AllAsked G last
-      taken run e x q y j = it (set_cases v.clients c.0 e.0 old after x (ap (λ xs. numbered xs c.0) ps ∙ at) (ap (λ xs. numbered xs e.0) (sym (f.clients ∙ said.clients)) ∙ q))
+      taken : AllAsked G last
+      taken e x q y j = it (set_cases v.clients c.0 e.0 old after x (ap (λ xs. numbered xs c.0) ps ∙ at) (ap (λ xs. numbered xs e.0) (sym l.clients) ∙ q))
         where
           it : ((e.0 ≡ c.0) × (x ≡ after)) ⊎ ((e.0 ≢ c.0) × (site_of v e ≡ Some x)) → AsksBehind (IsServed last e) (G e) y.server y.life.0 y.session
           it (inl z) =
               subst (λ z. AsksBehind (IsServed last z) (G z) y.server y.life.0 y.session) (ap (λ (n : ℕ). client n) (sym z.0))
-              (behind_more (IsServed t.world c) (IsServed last c) (G c) (served_same last serving_same c) y.server y.life.0 y.session (own run y (subst (λ (s : ClientSite). Has y s.node.state.associations) z.1 j)))
+              (behind_more (IsServed t.world c) (IsServed last c) (G c) (served_same last serving_same c) y.server y.life.0 y.session (own y (subst (λ (s : ClientSite). Has y s.node.state.associations) z.1 j)))
           it (inr z) = more (IsServed last e) e x (ap (λ xs. numbered xs e.0) (sym ps) ∙ z.1) (served_same last serving_same e) y j
-
-      go : (b : Bool) → site.node.running ≡ b → AllAsked G (ev.client_took v c site (if b then Ok (cl.node_turn site.node u) else Err Crashed)).world
-      go true run = taken run
-      go false run = still v ps ss
 
   -- A step of a server.
   server_step : (s : ServerId) (i : ServerInput) (node : ServerNode) → node_of t.world s ≡ Some node →
-      InputNew (server.thefts (server.turn node.state []) (clock_of w (nodes.Server s))) (clock_of w (nodes.Server s)) i → AllAsked G (ev.server_takes w s i node).world
-  unfolding ev.server_takes ev.server_took server.node_step w
-  server_step s i node at owed = go node.running
+      InputNew (server.thefts (server.turn node.state []) (clock_of w (nodes.Server s))) (clock_of w (nodes.Server s)) i →
+      Leaves (messages t.world) (ev.with_node s (NodeAfter t.world s i node) w) (ServerLeft t.world s i node).world (ServerTook t.world s i node).out → AllAsked G (ServerLeft t.world s i node).world
+  unfolding w
+  server_step s i node at owed l =
+      placed s node (NodeAfter t.world s i node) (ServerLeft t.world s i node).world at l.clients l.servers
+      (λ c life epoch n z. record { up_to = let y = z.up_to in omega (arith, y, same); behind = λ run e. k.goes c life n (z.behind run (e ∙ same)) })
     where
-      now : Stamp
-      now = clock_of w (nodes.Server s)
-
       u : server.Turn
-      u = server.server_step node.state now i
-
-      next : ServerNode
-      next = record node { state = u.state }
-
-      a : WorldTurn
-      a = ev.quiet (ev.with_node s next w)
-
-      sc : WorldTurn
-      sc = ev.server_says_all s u.out a
-
-      said : Said a sc u.out
-      said = server_said s u.out a
+      u = ServerTook t.world s i node
 
       k : Served s node.state.stable.epoch i node.state.sessions u
-      k = served s node.state.stable.epoch i node.state.sessions node.state now owed (record { id = (r.dated.servers s node at).id; epoch = refl; goes = λ c life n h. h; sent = λ y h. absurd h })
+      k = served s node.state.stable.epoch i node.state.sessions node.state (clock_of w (nodes.Server s)) owed (record { id = (r.dated.servers s node at).id; epoch = refl; goes = λ c life n h. h; sent = λ y h. absurd h })
 
       same : u.state.stable.epoch.0 ≡ node.state.stable.epoch.0
       same = ap (λ (y : Rattle.st_base.specs.declared.ids.Epoch.Epoch). y.0) k.epoch
-
-      go : (b : Bool) → AllAsked G (ev.server_took w s (if b then Ok (server.node_turn node u) else Err Crashed)).world
-      go true = placed s node next sc.world at said.clients said.servers (λ c life epoch n z. record { up_to = let y = z.up_to in omega (arith, y, same); behind = λ run e. k.goes c life n (z.behind run (e ∙ same)) })
-      go false = still w refl refl
 
   -- Crashes and starts.
   -- a client without sessions
@@ -294,4 +238,4 @@ module _ (past : List Step) (t : Traced) (d : CutsHold past t) (r : RepliesHold 
   -- Every event.
   pub stand_again : (e : Event) (sc : WorldTurn) → NewOwed (ev.counted t.world) e → world_step t.world e ≡ Ok sc → AllAsked G sc.world
   unfolding w
-  stand_again = event_leaves t.world (λ v. AllAsked G v) (λ v cs ss ms. still v cs ss) (λ v cs ss net c i site old q at k. client_step v cs ss c i site old q at k) (λ s i node at k owed. server_step s i node at owed) stopped begun crashed started
+  stand_again = event_leaves t.world (λ v. AllAsked G v) (λ v cs ss ms. still v cs ss) client_step (λ s i node at run k. server_step s i node at) stopped begun crashed started

@@ -1,5 +1,5 @@
 -- The rules of a client: what is known of where pages lie stays known of files that are locked, and writes go there.
-use Rattle.std.proofs.Common.{◌≡◌, ◌⊎◌, ℕ, Bool, true, false, not, ◌==◌, List, [], ◌∷◌, ◌++◌, Option, Some, None, refl, sym, ◌∙◌, subst, inl, inr, arith, if◌then◌else◌}
+use Rattle.std.proofs.Common.{◌≡◌, ◌⊎◌, ℕ, Bool, true, false, ◌==◌, List, [], ◌∷◌, ◌++◌, Option, Some, None, refl, sym, ◌∙◌, subst, inl, inr, if◌then◌else◌}
 use Rattle.std.specs.Prelude.{map}
 use Rattle.std.proofs.lemmas.Bool.{eqb-true}
 use Rattle.st_base.specs.declared.disk.Tag.{Tag}
@@ -33,7 +33,7 @@ use Rattle.st_lemmas.proofs.Tables.{and_true, found_at, has_append, has_filter, 
 use Rattle.st_laws_steps.specs.Client.Client as client
 use Rattle.st_laws_steps.specs.Client.Client.{Change, Plain}
 use Rattle.st_laws_steps.specs.Client.Losses.{Ends, Unknown, Passes, Hardens, Fails}
-use Rattle.st_laws_steps.specs.Client.Session.{AsksNothing, LocksStep, LocksStay, LocksReduced, LocksGranted, LocksDemanded, SessionChange, Keeps, DropsLock, IsReasserted, EndsRequest, NewEpoch, AsksNew, AsksAgain}
+use Rattle.st_laws_steps.specs.Client.Session.{LocksStep, LocksStay, LocksReduced, LocksGranted, LocksDemanded, SessionChange, Keeps, DropsLock, IsReasserted, EndsRequest, NewEpoch, AsksNew, AsksAgain}
 use Rattle.st_laws_steps.proofs.Client.Asking.{p_passes}
 use Rattle.st_laws_steps.proofs.Client.Calm.{IsCalm}
 use Rattle.st_laws_steps.proofs.Client.Losing.{Finished, c_end_each, calm_only, finish_is, is_done}
@@ -94,9 +94,6 @@ module _ (R : Fact) where
 
   pub k_none : (t : Turn) → K t t
   k_none t h = h
-
-  pub k_then : (t u v : Turn) → K t u → K u v → K t v
-  k_then t u v f g h = g (f h)
 
   pub k_if : (t : Turn) (b : Bool) (u v : Turn) → K t u → K t v → K t (if b then u else v)
   k_if t true u v f g = f

@@ -1,5 +1,5 @@
 -- The rules of a server, walked for what replies tell of extents.
-use Rattle.std.proofs.Common.{◌≡◌, ℕ, ◌+◌, ◌⊎◌, Bool, true, false, List, [], ◌∷◌, ◌==◌, refl, sym, ap, ◌∙◌, subst, inl, inr, arith, if◌then◌else◌}
+use Rattle.std.proofs.Common.{◌≡◌, ℕ, ◌⊎◌, Bool, true, false, List, [], ◌∷◌, ◌==◌, refl, sym, ap, ◌∙◌, subst, inl, inr, if◌then◌else◌}
 use Rattle.std.specs.List.{cons_option}
 use Rattle.std.specs.Prelude.{filter_map, Option, Some, None, Result as Res, Ok, Err, find, length, nat_le, nat_lt, option_map}
 use Rattle.std.proofs.lemmas.Bool.{eq-eqb, eqb-true}

@@ -34,6 +34,7 @@ use Rattle.st_lemmas.specs.Lists.{Has}
 use Rattle.st_lemmas.proofs.Lookups.{some_is}
 use Rattle.st_lemmas.proofs.Numbers.{numbered_below, numbered_other, numbered_own}
 use Rattle.st_lemmas.proofs.Tables.{has_map, same_or_not}
+use Rattle.st_laws_leases.proofs.Dates.Leaving.{set_cases}
 use Rattle.st_laws_refine.specs.Views.Halves.{held_in}
 use Rattle.st_laws_refine.specs.Client.Shown.{Lasts}
 use Rattle.st_laws_refine.specs.Client.World.{WorldLeft, site_left, world_left}
@@ -56,14 +57,6 @@ use Rattle.st_laws_extents.specs.Known.Lies.{AllKnow, AllLocked, CutsOwed, Input
 use Rattle.st_laws_extents.proofs.Known.Held.{known_found}
 use Rattle.st_laws_extents.proofs.Known.Moved.{CutNoted, moved}
 use Rattle.st_laws_extents.proofs.Known.Step.{Each, Fine, Told, lost_knows, step_fine}
-
--- One client is another.
-pub set_cases : {A : Type 0} (xs : List A) (n m : ℕ) (y z x : A) → numbered xs n ≡ Some y → numbered (with_numbered n z xs) m ≡ Some x → ((m ≡ n) × (x ≡ z)) ⊎ ((m ≢ n) × (numbered xs m ≡ Some x))
-set_cases {A} xs n m y z x at h = go (same_or_not m n)
-  where
-    go : (m ≡ n) ⊎ (m ≢ n) → ((m ≡ n) × (x ≡ z)) ⊎ ((m ≢ n) × (numbered xs m ≡ Some x))
-    go (inl q) = inl (q, some_is (sym h ∙ ap (numbered (with_numbered n z xs)) q ∙ numbered_own xs n z y at))
-    go (inr q) = inr (q, sym (numbered_other xs n m z (numbered_below xs n y at).0 q) ∙ h)
 
 -- what is known by one fact is known by another
 knows_by : (R S : Fact) (a : Association) → ((ino : ℕ) (p : PageNo) (m : MappedBlock) → Locked a.session ino → R a.server ino p m → S a.server ino p m) → Knows R a → Knows S a

@@ -23,7 +23,7 @@ use Rattle.st_laws_pages.proofs.Lives.Lasting.{flush_parts}
 use Rattle.st_laws_pages.proofs.Causes.Law.{site_is}
 use Rattle.st_rules.specs.ClientState.{Turn}
 use Rattle.std.proofs.Common.{Bool, true, false, if◌then◌else◌}
-use Rattle.st_laws_extents.proofs.Known.World.{set_cases}
+use Rattle.st_laws_leases.proofs.Dates.Leaving.{set_cases}
 use Rattle.st_laws_extents.specs.LockedRequests.RequestsGoOn.{Of}
 use Rattle.st_laws_extents.specs.LockedRequests.Seen.{AllSeen, Seen, any_before, any_free}
 use Rattle.st_laws_extents.proofs.LockedRequests.Step.{Each, each, step_goes}
@@ -79,16 +79,16 @@ all_empty f n xs a i =
     let y = n z.0 in
     subst (λ o. Of any_free any_before a.server a.life.0 o) (sym (ap (λ (y : Association). y.session) z.2 ∙ y)) (λ e n l. tt)
 
-cases : Cases AllSeen
+cases : Cases (λ c. Unit {0}) AllSeen
 unfolding ev.crashes_client ev.marks cl.crash ev.starts_client cl.start ev.advances
 cases =
     record {
-      besides = λ w n s d t h. h;
+      besides = λ w n s d t g h. h;
       cut = λ w f p h. h;
       hard = λ w x h. h;
       client = λ w c input old site there same r h. took w c input old site there same h;
       advance = λ w steps h. h;
-      crash = λ w c site there r h. replaced w (ev.crashes_client w c (Some site)).world c site (ev.stopped_site site) there refl (all_empty cl.crashed_association (λ a. refl) site.node.state.associations) h;
+      crash = λ w c site x there r h. replaced w (ev.crashes_client w c (Some site)).world c site (ev.stopped_site site) there refl (all_empty cl.crashed_association (λ a. refl) site.node.state.associations) h;
       start = λ w c site there r h. replaced w (ev.starts_client w c (Some site)) c site (ev.started_site site) there refl (all_empty cl.started_association (λ a. refl) site.node.state.associations) h;
     }
 
@@ -98,7 +98,7 @@ unfolding adm.refusal adm.refused_delivery adm.clocks_refused adm.flush_missed a
 seen_step w e sc is h = let z = step_happens w e sc is in subst (λ (s : WorldTurn). AllSeen s.world) (sym z.1) (all w e z.0 h)
   where
     all : (w : World) (e : Event) → adm.refusal w e ≡ None → AllSeen w → AllSeen (ev.happens (counted w) e).world
-    all w e r h = each_event AllSeen cases (counted w) e r h
+    all w e r h = each_event (λ c. Unit {0}) AllSeen cases (counted w) e (λ c q. tt) r h
 
 pub fresh_seen : (k : Config) (clients servers d b form : ℕ) → AllSeen (fresh_world k clients servers d b form)
 unfolding fresh_world cl.fresh_client

@@ -32,7 +32,7 @@ use Rattle.st_laws_extents.proofs.CutRequests.Standing.{own_session}
 use Rattle.st_laws_leases.specs.Dates.Dates.{messages}
 use Rattle.st_laws_reads.proofs.AllClients.Behind.{Behind, behind}
 use Rattle.st_laws_reads.proofs.AllClients.Takings.{Takes}
-use Rattle.st_laws_extents.proofs.Known.World.{set_cases}
+use Rattle.st_laws_leases.proofs.Dates.Leaving.{set_cases}
 use Rattle.st_laws_extents.specs.ExtentReplies.Law.{RequestsGo, Untold, WasAsked}
 use Rattle.st_laws_extents.specs.ExtentReplies.Told.{AskedAt}
 use Rattle.st_laws_extents.specs.LockedRequests.RequestsGoOn.{Before, Free, Of, Stand}

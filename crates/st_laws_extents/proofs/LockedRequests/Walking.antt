@@ -1,18 +1,17 @@
 -- The rules of a client that ask nothing: its requests go on.
-use Rattle.std.proofs.Common.{◌≡◌, ℕ, Bool, true, false, List, [], ◌∷◌, Option, Some, sym, subst, arith, if◌then◌else◌}
+use Rattle.std.proofs.Common.{◌≡◌, ℕ, Bool, true, false, List, [], Option, Some, sym, subst, arith, if◌then◌else◌}
 use Rattle.st_base.specs.declared.disk.Tag.{Tag}
 use Rattle.st_base.specs.declared.ids.GrantNo.{GrantNo}
 use Rattle.st_base.specs.declared.ids.ServerId.{ServerId}
 use Rattle.st_base.specs.declared.ids.Stamp.{Stamp}
 use Rattle.st_base.specs.declared.mode.Mode.{Mode}
 use Rattle.st_messages.specs.declared.ask.Ask.{Ask}
-use Rattle.st_messages.specs.declared.ask.Ask.TheVariants as asks
 use Rattle.st_rules.specs.declared.client.KnownExtent.{KnownExtent}
 use Rattle.st_rules.specs.Client as cl
 use Rattle.st_rules.specs.ClientLocks as locks
 use Rattle.st_rules.specs.ClientPasses as cp
 use Rattle.st_rules.specs.ClientReplies as cr
-use Rattle.st_rules.specs.ClientState.{ClientSession, Turn, only_at, with_session}
+use Rattle.st_rules.specs.ClientState.{ClientSession, Turn, only_at}
 use Rattle.st_laws_steps.proofs.Client.Sessions as sessions
 use Rattle.st_laws_steps.specs.Client.Session.{AsksNothing, LocksStep, LocksStay, LocksReduced, LocksGranted, LocksDemanded}
 use Rattle.st_laws_extents.specs.Known.Current.{LockSeen, LocksGoOn}
@@ -63,16 +62,9 @@ module _ (U : Free) (W : Before) where
   pub k_none : (t : Turn) → K t t
   k_none t h = h
 
-  pub k_then : (t u v : Turn) → K t u → K u v → K t v
-  k_then t u v f g h = g (f h)
-
   pub k_if : (t : Turn) (b : Bool) (u v : Turn) → K t u → K t v → K t (if b then u else v)
   k_if t true u v f g = f
   k_if t false u v f g = g
-
-  -- another session, with the same fact
-  pub k_session : (t : Turn) (s r : ClientSession) → t.here.session ≡ Some s → (Of U W t.here.server t.here.life.0 (Some s) → Of U W t.here.server t.here.life.0 (Some r)) → K t (with_session r t)
-  k_session t s r e f h = f (subst (Of U W t.here.server t.here.life.0) e h)
 
   -- a session that asks nothing has locks that go on
   locks_on : (xs : List KnownExtent) (c d : locks.LockCache) → LocksStep xs c d → LockSeen c → LocksGoOn c d

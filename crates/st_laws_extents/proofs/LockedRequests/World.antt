@@ -32,7 +32,7 @@ use Rattle.st_laws_steps.specs.Lives.Lives.{clock_in}
 use Rattle.st_laws_pages.proofs.Disks.Moves.{clock_up}
 use Rattle.st_laws_refine.proofs.Server.Delivery.{all_parts}
 use Rattle.st_laws_reads.specs.Copies.World.{asking, hearing, hearing_of, taken, taking, told_at, told_of}
-use Rattle.st_laws_extents.proofs.Known.World.{set_cases}
+use Rattle.st_laws_leases.proofs.Dates.Leaving.{set_cases}
 use Rattle.st_laws_extents.specs.ExtentReplies.Law.{WasAsked}
 use Rattle.st_laws_extents.specs.ExtentReplies.Told.{AskedAt}
 

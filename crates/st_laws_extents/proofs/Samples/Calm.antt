@@ -1,21 +1,16 @@
 -- Changes by rules of a client that submit nothing.
-use Rattle.std.proofs.Common.{◌≡◌, ◌<◌, ◌⊎◌, Bool, List, [], ◌∷◌, ◌++◌, Option, Some, None, refl, sym, ap, ◌∙◌, subst, inl, inr, arith, if◌then◌else◌}
+use Rattle.std.proofs.Common.{◌≡◌, ◌⊎◌, Bool, List, [], ◌∷◌, ◌++◌, refl, sym, ap, ◌∙◌, subst, inl, inr}
 use Rattle.std.specs.Prelude.{map}
 use Rattle.st_base.specs.declared.ids.Stamp.{Stamp}
 use Rattle.st_messages.specs.declared.answer.AppAnswer.{AppAnswer}
 use Rattle.st_messages.specs.declared.output.Output.{Output}
 use Rattle.st_messages.specs.declared.output.Output.TheVariants as outputs
-use Rattle.st_rules.specs.declared.client.CleanPage.{CleanPage}
-use Rattle.st_rules.specs.declared.client.KnownExtent.{KnownExtent}
-use Rattle.st_rules.specs.declared.client.LostPage.{LostPage}
 use Rattle.st_rules.specs.declared.client.Operation.{Operation}
-use Rattle.st_rules.specs.ClientLease as lease
-use Rattle.st_rules.specs.ClientPages as pages
-use Rattle.st_rules.specs.ClientState.{ClientSession, Turn, answer_to, say, with_lost_rows, with_operations, with_session, with_store}
+use Rattle.st_rules.specs.ClientState.{Turn, answer_to, say}
 use Rattle.st_lemmas.specs.Lists.{Has}
 use Rattle.st_lemmas.proofs.Tables.{has_append}
 use Rattle.st_laws_steps.specs.Client.Client as client
-use Rattle.st_laws_steps.specs.Client.Client.{GoesOn, Plain, Unasked, with_greeted}
+use Rattle.st_laws_steps.specs.Client.Client.{Plain}
 use Rattle.st_laws_steps.proofs.Client.Calm.{IsCalm}
 use Rattle.st_laws_steps.proofs.Client.Nexts.{append_assoc, empty_right}
 use Rattle.st_laws_steps.proofs.Client.Only.{Only, Ends, Goes}

@@ -1,5 +1,5 @@
 -- What each change by a pass of a client leaves of the reads that it submits, and how changes are put together.
-use Rattle.std.proofs.Common.{◌≡◌, ℕ, ◌+◌, ◌≤◌, ◌<◌, ◌⊎◌, Bool, true, false, ◌&&◌, ◌==◌, not, List, [], ◌∷◌, ◌++◌, Option, Some, None, refl, sym, ap, ◌∙◌, subst, inl, inr, arith, if◌then◌else◌}
+use Rattle.std.proofs.Common.{◌≡◌, ℕ, ◌+◌, ◌≤◌, ◌<◌, ◌⊎◌, Bool, true, false, ◌&&◌, ◌==◌, not, List, [], ◌∷◌, ◌++◌, Some, None, refl, sym, ap, ◌∙◌, subst, inl, inr, arith}
 use Rattle.std.specs.Prelude.{nat_le}
 use Rattle.std.proofs.lemmas.Bool.{eq-eqb, eqb-true}
 use Rattle.st_base.specs.declared.disk.BlockAt.{BlockAt}
@@ -11,7 +11,6 @@ use Rattle.st_base.specs.declared.ids.Stamp.{Stamp}
 use Rattle.st_messages.specs.declared.output.Note.{Note}
 use Rattle.st_messages.specs.declared.output.Output.{Output}
 use Rattle.st_messages.specs.declared.output.Output.TheVariants as outputs
-use Rattle.st_rules.specs.declared.client.CleanPage.{CleanPage}
 use Rattle.st_rules.specs.declared.client.IoKind.{IoKind}
 use Rattle.st_rules.specs.declared.client.IoKind.TheVariants as io
 use Rattle.st_rules.specs.declared.client.KnownExtent.{KnownExtent}
@@ -22,12 +21,12 @@ use Rattle.st_rules.specs.declared.pages.DirtyPage.{DirtyPage}
 use Rattle.st_rules.specs.ClientPages as pages
 use Rattle.st_rules.specs.ClientPages.{Store}
 use Rattle.st_rules.specs.ClientPasses as passes
-use Rattle.st_rules.specs.ClientState.{ClientSession, Turn, is_serving, note, say, with_operations, with_session, with_store}
+use Rattle.st_rules.specs.ClientState.{ClientSession, Turn, is_serving, note, say, with_store}
 use Rattle.st_lemmas.specs.Lists.{Has}
 use Rattle.st_lemmas.proofs.Contents.{find_stays, one_place}
 use Rattle.st_lemmas.proofs.Tables.{and_true, has_append, has_filter, not_true, some_passes}
 use Rattle.st_laws_steps.specs.Client.Client as client
-use Rattle.st_laws_steps.specs.Client.Client.{ChangesPage, GoesOn, Plain, with_greeted}
+use Rattle.st_laws_steps.specs.Client.Client.{ChangesPage}
 use Rattle.st_laws_steps.proofs.Clash.{clash}
 use Rattle.st_laws_steps.proofs.Client.Passing.{IsPassing}
 use Rattle.st_laws_steps.proofs.Client.Only.{Only, Ends, Goes}

@@ -1,5 +1,5 @@
 -- Reads return the last writes and the pages hold throughout a run: what they submit goes to where pages lie.
-use Rattle.std.proofs.Common.{◌≡◌, ℕ, zero, suc, ◌+◌, true, List, [], ◌∷◌, ◌++◌, Option, Some, None, Ok, Err, refl, sym, ap, ◌∙◌, subst}
+use Rattle.std.proofs.Common.{◌≡◌, ℕ, zero, suc, ◌+◌, true, List, [], ◌∷◌, ◌++◌, Option, Some, None, Ok, Err, refl, sym, ap, ◌∙◌, subst, ◌==◌}
 use Rattle.std.specs.Prelude.{Result}
 use Rattle.std.specs.List.{list_all}
 use Rattle.st_base.specs.declared.config.Config as base
@@ -11,10 +11,10 @@ use Rattle.st_rules.specs.Events.{WorldTurn, counted, world_step}
 use Rattle.st_rules.specs.History.{Traced, traced, traced_after}
 use Rattle.st_rules.specs.Safety as safety
 use Rattle.st_rules.specs.Safety.{Promise, ReadsReturnLastWrites, Step, Throughout, is_event, step, steps}
-use Rattle.st_rules.specs.World.{fresh_world, numbered}
+use Rattle.st_rules.specs.World.{fresh_world, numbered, World}
 use Rattle.st_protocol.specs.Assoc.{Config}
 use Rattle.st_lemmas.proofs.Steps.{step_happens}
-use Rattle.st_lemmas.proofs.Tables.{and_true}
+use Rattle.st_lemmas.proofs.Tables.{and_true, found_at}
 use Rattle.st_laws_pages.specs.Disks.Runs.{PagesAfter}
 use Rattle.st_laws_pages.specs.Asks.Law.{PlacesAfter}
 use Rattle.st_laws_pages.proofs.Asks.Law.{places_law}
@@ -28,14 +28,50 @@ use Rattle.st_laws_extents.proofs.CutRequests.Law.{Hold, same_all}
 use Rattle.st_laws_extents.specs.FrozenCuts.FrozenFiles.{FrozenFilesUncut}
 use Rattle.st_laws_extents.proofs.FrozenCuts.Stays.{uncut_stays}
 use Rattle.st_laws_extents.proofs.FrozenCuts.Uncut.{frozen_uncut}
-use Rattle.st_laws_extents.specs.Known.Lies.{ExtentsTold}
+use Rattle.st_laws_extents.specs.Known.Lies.{ExtentsTold, AllKnow, LiesAs}
 use Rattle.st_laws_extents.proofs.Known.Law as known
 use Rattle.st_laws_extents.specs.DiskReads.Law.{IsPlaced, TakenReads}
 use Rattle.st_laws_extents.proofs.DiskReads.Run as found
-use Rattle.st_laws_extents.proofs.ReadPlaces.Run.{known_right, submits_left}
 use Rattle.st_laws_extents.proofs.Samples.Lies.{reads_lie}
 use Rattle.st_laws_extents.proofs.DiskReads.Run.{ReadsStand}
 use Rattle.st_laws_extents.specs.Samples.Law.{InRunsToldRight, IsToldRight}
+use Rattle.std.proofs.lemmas.Bool.{eqb-true}
+use Rattle.st_base.specs.declared.ids.PageNo.{PageNo}
+use Rattle.st_rules.specs.declared.client.KnownExtent.{KnownExtent}
+use Rattle.st_rules.specs.declared.client.MappedBlock.{MappedBlock}
+use Rattle.st_rules.specs.declared.extents.Extent.{Extent}
+use Rattle.st_rules.specs.ClientPages as store
+use Rattle.st_rules.specs.Keys.{client, same_page}
+use Rattle.st_laws_pages.specs.Flush.Flush.{file_at}
+use Rattle.st_laws_pages.specs.Disks.Pages.{mapping_of}
+use Rattle.st_laws_pages.specs.Disks.World.{mapped_in}
+use Rattle.st_laws_extents.specs.Known.Law.{SubmitsOf}
+use Rattle.st_laws_extents.specs.Submits.Left.{SubmitsLeft}
+use Rattle.st_laws_extents.specs.DiskReads.Reads.{KnownRight}
+
+-- What clients know, as it is asked for.
+known_right : (w : World) → AllKnow w → KnownRight w
+known_right w h c site run a i l ino p m e = go (store.known_of a.store.extents ino p) refl e
+  where
+    none_some : ◌≡◌ {A = Option MappedBlock} None (Some m) → ⊥
+    none_some z = cc
+
+    of_lies : (server : Rattle.st_base.specs.declared.ids.ServerId.ServerId) → LiesAs (mapped_in w (record { server = a.server; ino = ino }) p) m → (x : Extent) × (mapped_in w (file_at a ino) p ≡ Some x) × (mapping_of x ≡ m)
+    of_lies server z = (z.extent, z.is, (λ j. record { at = z.at j; birth = z.birth j }))
+
+    go : (o : Option KnownExtent) → store.known_of a.store.extents ino p ≡ o → store.mapping_at o ≡ Some m → (x : Extent) × (mapped_in w (file_at a ino) p ≡ Some x) × (mapping_of x ≡ m)
+    go None f q = absurd (none_some q)
+    go (Some k) f q =
+        let z = found_at (store.is_known_of ino p) a.store.extents k f in
+        let b = and_true (k.ino == ino) (same_page k.page p) z.0 in
+        let y = ((h (client c) site run.there).knows run.runs a i l k z.1).is m q in
+        let n = eqb-true k.ino ino b.0 in
+        let g : k.page ≡ p = ap (λ v. record { 0 = v }) (eqb-true k.page.0 p.0 b.1) in
+        of_lies a.server (subst (λ (v : PageNo). LiesAs (mapped_in w (record { server = a.server; ino = ino }) v) m) g (subst (λ (v : ℕ). LiesAs (mapped_in w (record { server = a.server; ino = v }) k.page) m) n y))
+
+submits_left : (o : Option Taking) → SubmitsOf o → SubmitsLeft o
+submits_left None s = tt
+submits_left (Some x) s = λ number at to tag bytes i. let z = s number at to tag bytes i in record { extent = z.extent; is = z.is; at = z.at; birth = z.birth }
 
 -- What stands behind the steps of a run.
 record AllHold (k : Config) (count : ℕ) (past : List Step) (t : Traced) : Type 0 where

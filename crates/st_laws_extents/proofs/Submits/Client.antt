@@ -1,6 +1,6 @@
 -- Where a client that runs takes an input: each write that it submits is right, and behind the latest entries of dirty pages nothing of the
 -- page counts.
-use Rattle.std.proofs.Common.{◌≡◌, ◌≢◌, ℕ, ◌+◌, ◌≤◌, ◌⊎◌, Bool, true, false, ◌&&◌, List, [], ◌∷◌, ◌++◌, Option, Some, None, Ok, Err, refl, sym, ap, ◌∙◌, subst, inl, inr, arith, if◌then◌else◌}
+use Rattle.std.proofs.Common.{◌≡◌, ◌≢◌, ℕ, ◌+◌, ◌⊎◌, Bool, true, false, ◌&&◌, List, [], ◌∷◌, ◌++◌, Option, Some, None, Ok, Err, refl, sym, ap, ◌∙◌, subst, inl, inr, arith, if◌then◌else◌}
 use Rattle.std.specs.Prelude.{length}
 use Rattle.std.proofs.lemmas.Bool.{eqb-true, leb-false, ne_eqb}
 use Rattle.st_base.specs.declared.disk.BlockAt.{BlockAt}
@@ -27,7 +27,7 @@ use Rattle.st_rules.specs.ClientLease as lease
 use Rattle.st_rules.specs.ClientPages as pages
 use Rattle.st_rules.specs.ClientState.{Association, ClientSession, ClientState}
 use Rattle.st_rules.specs.Events as ev
-use Rattle.st_rules.specs.Events.{WorldTurn, client_says, client_says_all, counted, latest, present_life, world_step}
+use Rattle.st_rules.specs.Events.{WorldTurn, client_says, client_says_all, counted, present_life, world_step}
 use Rattle.st_rules.specs.FlatLog as log
 use Rattle.st_rules.specs.FlatLog.{is_of_client, matters, touches}
 use Rattle.st_rules.specs.Keys.{client, same_file, same_page}

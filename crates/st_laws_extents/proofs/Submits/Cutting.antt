@@ -1,5 +1,5 @@
 -- A cut finds no write that may have its effect.
-use Rattle.std.proofs.Common.{◌≡◌, ◌≢◌, ℕ, ◌≤◌, ◌⊎◌, Bool, true, false, ◌&&◌, List, [], ◌∷◌, ◌++◌, Option, Some, None, Ok, Err, refl, sym, ap, ◌∙◌, subst, inl, inr, arith, if◌then◌else◌}
+use Rattle.std.proofs.Common.{◌≡◌, ℕ, ◌⊎◌, Bool, true, false, List, [], ◌∷◌, Option, Some, None, Ok, Err, refl, sym, ap, ◌∙◌, subst, inl, inr}
 use Rattle.std.specs.Prelude.{Result, nat_le}
 use Rattle.std.proofs.lemmas.Bool.{eqb-true}
 use Rattle.st_base.specs.declared.ids.FileId.{FileId}
@@ -18,12 +18,10 @@ use Rattle.st_messages.specs.declared.output.Output.TheVariants as outputs
 use Rattle.st_rules.specs.declared.input.ServerInput.{ServerInput}
 use Rattle.st_rules.specs.declared.input.ServerInput.TheVariants as serving
 use Rattle.st_rules.specs.declared.node.StepRefusal.{StepRefusal}
-use Rattle.st_rules.specs.declared.observation.Observation.{Observation}
-use Rattle.st_rules.specs.declared.observation.Observation.TheVariants as seen
 use Rattle.st_rules.specs.declared.world.SentMessage.{SentMessage}
 use Rattle.st_rules.specs.ClientPages as pages
 use Rattle.st_rules.specs.Events as ev
-use Rattle.st_rules.specs.Events.{WorldTurn, counted, happens}
+use Rattle.st_rules.specs.Events.{counted, happens}
 use Rattle.st_rules.specs.FlatLog.{hard_cut, touches}
 use Rattle.st_rules.specs.Keys.{same_file}
 use Rattle.st_rules.specs.Server as server
@@ -44,6 +42,7 @@ use Rattle.st_laws_reads.specs.AllClients.World.{CopiesHold}
 use Rattle.st_laws_pages.specs.Writes.Writes.{OpenHold}
 use Rattle.st_laws_reads.specs.OpenWrites.Living.{WritesHold}
 use Rattle.st_laws_reads.proofs.OpenWrites.Cases.{CrashedWrite, PresentWrite, living_is}
+use Rattle.st_laws_reads.proofs.AllClients.Cutting.{Seen, seen_all}
 use Rattle.st_laws_extents.specs.Submits.Left.{NoFrozenWrites}
 use Rattle.st_laws_extents.proofs.Submits.Others.{cut_apart}
 use Rattle.st_laws_extents.proofs.Submits.Taking.{MessageGives, ReceiverGives, ServerGives}
@@ -52,43 +51,6 @@ has_cut : (f : FileId) (p : PageNo) (os : List Output) → OneCut f p os → Has
 has_cut f p [] h = absurd h
 has_cut f p (o ∷ os) (inl x) = inl (sym x.here)
 has_cut f p (o ∷ os) (inr x) = inr (has_cut f p os x.rest)
-
--- a cut that is noted is seen
-abbrev Seen : FileId → PageNo → WorldTurn → Type 0
-Seen f p sc = (index : ℕ) × Has (seen.CutAt index f p) sc.seen
-
-has_more : (os : List Observation) (o x : Observation) → Has x os → Has x (os ++ o ∷ [])
-has_more [] o x i = absurd i
-has_more (y ∷ os) o x (inl e) = inl e
-has_more (y ∷ os) o x (inr i) = inr (has_more os o x i)
-
-has_last : (os : List Observation) (o : Observation) → Has o (os ++ o ∷ [])
-has_last [] o = inl refl
-has_last (y ∷ os) o = inr (has_last os o)
-
-seen_one : (f : FileId) (p : PageNo) (s : ServerId) (o : Output) (sc : WorldTurn) → Seen f p sc → Seen f p (ev.server_says sc s o)
-unfolding ev.server_says ev.server_notes ev.cuts ev.sends
-seen_one f p s (outputs.Send m) sc h = (h.0, has_more sc.seen _ _ h.1)
-seen_one f p s (outputs.Note n) sc h = note n
-  where
-    note : (n : Note) → Seen f p (ev.server_notes sc s n)
-    note (notes.Suspected c start) = (h.0, has_more sc.seen _ _ h.1)
-    note (notes.Stolen c life) = (h.0, has_more sc.seen _ _ h.1)
-    note (notes.CutDone g q) = (h.0, has_more sc.seen _ _ h.1)
-    note n = h
-seen_one f p s o sc h = h
-
-seen_new : (f : FileId) (p : PageNo) (s : ServerId) (o : Output) (sc : WorldTurn) → outputs.Note (notes.CutDone f p) ≡ o → Seen f p (ev.server_says sc s o)
-unfolding ev.server_says ev.server_notes ev.cuts
-seen_new f p s o sc e = subst (λ (x : Output). Seen f p (ev.server_says sc s x)) e (_, has_last sc.seen _)
-
-seen_all : (f : FileId) (p : PageNo) (s : ServerId) (os : List Output) (sc : WorldTurn) → Seen f p sc ⊎ Has (outputs.Note (notes.CutDone f p)) os → Seen f p (ev.server_says_all s os sc)
-unfolding ev.server_says_all
-seen_all f p s [] sc (inl h) = h
-seen_all f p s [] sc (inr h) = absurd h
-seen_all f p s (o ∷ os) sc (inl h) = seen_all f p s os (ev.server_says sc s o) (inl (seen_one f p s o sc h))
-seen_all f p s (o ∷ os) sc (inr (inl e)) = seen_all f p s os (ev.server_says sc s o) (inl (seen_new f p s o sc e))
-seen_all f p s (o ∷ os) sc (inr (inr h)) = seen_all f p s os (ev.server_says sc s o) (inr h)
 
 module _ (asks : ℕ → ℕ → Option Ask) (k : Config) (count : ℕ) (w : World) (h : WritesHold k count w) (open_ : OpenHold w) (copies : CopiesHold asks w) (pages_ : PagesHold w) where
   quiet : (f : FileId) (p : PageNo) → CutFree w f p → NoFrozenWrites w f → CutQuiet w f p

@@ -1,5 +1,5 @@
 -- Where a client takes an input: the world in which it does, and what it leaves.
-use Rattle.std.proofs.Common.{◌≡◌, ◌≢◌, ℕ, zero, suc, ◌+◌, ◌≤◌, ◌⊎◌, Bool, true, false, [], ◌∷◌, ◌++◌, Option, Some, None, Ok, Err, refl, sym, ap, ◌∙◌, subst, inl, inr, arith, if◌then◌else◌}
+use Rattle.std.proofs.Common.{◌≡◌, ◌≢◌, ℕ, zero, suc, ◌+◌, ◌⊎◌, Bool, true, false, [], Option, Some, None, Ok, Err, refl, sym, ap, ◌∙◌, subst, inl, inr, if◌then◌else◌}
 use Rattle.std.specs.Prelude.{length}
 use Rattle.st_base.specs.declared.ids.ClientId.{ClientId}
 use Rattle.st_base.specs.declared.ids.NodeId.{NodeId}

@@ -1,5 +1,5 @@
 -- Reads return the last writes, and the pages hold, where clients know where pages lie, and what they submit goes to there.
-use Rattle.std.specs.Prelude.{◌≡◌, ◌+◌, [], Option, Some, None}
+use Rattle.std.specs.Prelude.{[], Option, Some, None}
 use Rattle.st_rules.specs.declared.client.ClientInput.{ClientInput}
 use Rattle.st_rules.specs.declared.client.ClientInput.TheVariants as inputs
 use Rattle.st_rules.specs.Events.{counted}

@@ -1,5 +1,5 @@
 -- Reads return the last writes, and the pages hold, under what is owed of maps, reads, cuts and submitted writes alone.
-use Rattle.std.specs.Prelude.{◌≡◌, ◌+◌, ℕ, true, [], Option, Some, None}
+use Rattle.std.specs.Prelude.{◌≡◌, ℕ, true, [], Option, Some, None}
 use Rattle.st_base.specs.declared.ids.GrantNo.{GrantNo}
 use Rattle.st_base.specs.declared.ids.PageNo.{PageNo}
 use Rattle.st_messages.specs.declared.message.Body.{Body}

@@ -32,7 +32,8 @@ use Rattle.st_lemmas.proofs.Steps.{step_happens, throughout}
 use Rattle.st_laws_leases.specs.Dates.Dates.{message_in, messages, is_dating, is_from_client, Born, Answer, Dates, SessionDated, ClientDated, Runs, ServerKnown, TimerQuiet, Dated}
 use Rattle.st_laws_leases.specs.Dates.Law.{LeasesAreDated, RunsSendNoConflict, ClientsSendNoConflict}
 use Rattle.st_laws_leases.proofs.Dates.Calm.{step_calm}
-use Rattle.st_laws_leases.proofs.Dates.Steps.{Next, next_dated, happens, from_server, has_numbered, length_map}
+use Rattle.st_laws_leases.proofs.Dates.Leaving.{has_numbered}
+use Rattle.st_laws_leases.proofs.Dates.Steps.{Next, next_dated, happens, from_server, length_map}
 
 all_true : {A : Type 0} (p : A → Bool) (xs : List A) → ((x : A) → Has x xs → p x ≡ true) → list_all p xs ≡ true
 all_true p [] h = refl

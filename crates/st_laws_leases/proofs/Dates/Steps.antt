@@ -1,6 +1,6 @@
 -- Every event keeps what stands of messages, nodes and history.
 use Rattle.std.proofs.Common.{◌==◌, ◌≡◌, ◌≢◌, ℕ, ◌+◌, ◌≤◌, ◌⊎◌, Bool, true, false, not, List, [], ◌∷◌, ◌++◌, Option, Some, None, Ok, Err, refl, sym, ap, ◌∙◌, subst, inl, inr, arith, if◌then◌else◌}
-use Rattle.std.specs.Prelude.{map, length, filter, zero, suc, nat_lt, set, slice_get}
+use Rattle.std.specs.Prelude.{map, length, filter, suc, nat_lt}
 use Rattle.std.specs.Option.{option_or}
 use Rattle.std.proofs.lemmas.Bool.{eqb-true, eq-eqb, ltb-true, lt-ltb}
 use Rattle.st_base.specs.declared.ids.ClientId.{ClientId}
@@ -44,25 +44,14 @@ use Rattle.st_rules.specs.Safety.{Step, step}
 use Rattle.st_lemmas.specs.Lists.{Has}
 use Rattle.st_lemmas.proofs.Tables.{same_or_not, and_true, has_append, has_filter, has_filter_in, has_map, has_map_in, not_true}
 use Rattle.st_lemmas.proofs.Lookups.{some_is}
-use Rattle.st_lemmas.proofs.Numbers.{numbered_own, numbered_other, numbered_below, numbered_has, has_get, set_length}
+use Rattle.st_lemmas.proofs.Numbers.{numbered_own, numbered_other, numbered_below, numbered_has, set_length}
 use Rattle.st_laws_leases.specs.Dates.Dates.{message_in, messages, is_dating, is_from_client, is_stamped_by, Born, Answer, SessionDated, AssociationDated, ClientDated, Runs, ServerKnown, TimerOf, Timed, TimerQuiet, Dated}
 use Rattle.st_laws_leases.proofs.Dates.Known.{has_left, has_right}
 use Rattle.st_laws_leases.proofs.Dates.Serving.{timer_noted, timer_said, timers_out, AnswersTo, P, step_good}
 use Rattle.st_laws_leases.proofs.Dates.Asking.{AsksNow}
 use Rattle.st_laws_leases.proofs.Dates.Hearing.{Ever, Held, Comes, ever_on, step_held}
-use Rattle.st_laws_leases.proofs.Dates.Said.{Said, server_said, timers_said, client_said, AllCalm, client_calm, fates_calm, calm_timers, Alike, flushed}
-
--- one place of a list by numbers
-set_cases : {A : Type 0} (xs : List A) (n m : ℕ) (y z x : A) → numbered xs n ≡ Some y → numbered (with_numbered n z xs) m ≡ Some x → ((m ≡ n) × (x ≡ z)) ⊎ ((m ≢ n) × (numbered xs m ≡ Some x))
-set_cases {A} xs n m y z x i e = go (same_or_not m n)
-  where
-    go : (m ≡ n) ⊎ (m ≢ n) → ((m ≡ n) × (x ≡ z)) ⊎ ((m ≢ n) × (numbered xs m ≡ Some x))
-    go (inl q) = inl (q, some_is (sym e ∙ ap (numbered (with_numbered n z xs)) q ∙ numbered_own xs n z y i))
-    go (inr q) = inr (q, sym (numbered_other xs n m z (numbered_below xs n y i).0 q) ∙ e)
-
--- each message has a number
-pub has_numbered : {A : Type 0} (xs : List A) (x : A) → Has x xs → (k : ℕ) × (numbered xs k ≡ Some x)
-has_numbered xs x h = let z = has_get xs x h in (suc z.0, z.1)
+use Rattle.st_laws_leases.proofs.Dates.Leaving.{Leaves, client_leaves, has_numbered, lost_same, server_not_client, set_cases}
+use Rattle.st_laws_leases.proofs.Dates.Said.{Said, server_said, timers_said, client_said, AllCalm, client_calm, fates_calm, calm_timers}
 
 dates_more : (ms ns : List Message) → ((m : Message) → Has m ms → Has m ns) → (c : ClientId) (x : ClientState) → ClientDated ms c x → ClientDated ns c x
 dates_more ms ns f c x p = record { id = p.id; all = λ a h. go a.server a.life a.session (p.all a h) }
@@ -70,10 +59,6 @@ dates_more ms ns f c x p = record { id = p.id; all = λ a h. go a.server a.life 
     go : (s : ServerId) (life : Life) (o : Option Rattle.st_rules.specs.ClientState.ClientSession) → SessionDated ms c s life o → SessionDated ns c s life o
     go s life None d = tt
     go s life (Some y) (d, r) = (record { by = d.by; among = f d.by d.among; from = d.from; to = d.to; of_life = d.of_life; stamp = d.stamp; dating = d.dating }, r)
-
--- servers and clients have other node numbers
-server_not_client : (c s : ℕ) → c ≤ 16 → c ≡ 32768 + s → ⊥
-server_not_client c s l e = omega (arith, l, e)
 
 pub from_server : (m : Message) (s : ServerId) → m.header.from ≡ server_node s → is_from_client m ≡ true → ⊥
 from_server m s e f = let z = ltb-true m.header.from 32768 f in omega (arith, z, e)
@@ -199,27 +184,14 @@ module _ (past : List Step) (t : Traced) (e : Event) (d : Dated past t) (r : (re
       said : Said a b u.out
       said = client_said c site.node.state u.out a
 
-      f : Alike b.world (ev.flushes c node.state (world.all_servers b.world) b.world)
-      f = flushed c node.state (world.all_servers b.world) b.world
-
       last : World
       last = ev.flushes c node.state (world.all_servers b.world) b.world
-
-      msgs : messages last ≡ messages b.world
-      msgs = ap (λ (n : world.Net). map message_in n.messages) f.net
 
       before : messages a.world ≡ messages t.world
       before = ap (λ (n : world.Net). map message_in n.messages) net
 
-      grow : (m : Message) → Has m (messages t.world) → Has m (messages last)
-      grow m h = subst (Has m) (sym msgs) (said.old m (subst (Has m) (sym before) h))
-
-      get : (k : ℕ) (m : Message) → numbered (messages last) k ≡ Some m → (numbered (messages t.world) k ≡ Some m) ⊎ Has (outputs.Send m) u.out
-      get k m q = pick (said.get k m (ap (λ z. numbered z k) (sym msgs) ∙ q))
-        where
-          pick : (numbered (messages a.world) k ≡ Some m) ⊎ Has (outputs.Send m) u.out → (numbered (messages t.world) k ≡ Some m) ⊎ Has (outputs.Send m) u.out
-          pick (inl z) = inl (ap (λ y. numbered y k) (sym before) ∙ z)
-          pick (inr z) = inr z
+      l : Leaves (messages t.world) a.world last u.out
+      l = client_leaves (messages t.world) c site.node.state node.state u.out a before
 
       stamped : (m : Message) → AsksNow (messages t.world) c now Ever m → is_from_client m ≡ true → dating.is_request m.body ≡ true → is_stamped_by t.world m ≡ true
       stamped m z from req = eq-eqb _ _ (ap (λ n. (clock_of t.world (nodes.Client (client n))).0) z.from ∙ ap (λ (y : Stamp). y.0) (sym clock) ∙ sym (z.stamp req))
@@ -229,19 +201,19 @@ module _ (past : List Step) (t : Traced) (e : Event) (d : Dated past t) (r : (re
           record { number = z.0; sent = z.1; client = stamped m (held.outs m h); server = λ g q. absurd (below_client m c (held.outs m h).from few g) }
 
       site_at : (x : ClientId) (y : ClientSite) → site_of last x ≡ Some y → ((x.0 ≡ c.0) × (y ≡ ev.at_node node site)) ⊎ ((x.0 ≢ c.0) × (site_of t.world x ≡ Some y))
-      site_at x y q = set_cases t.world.clients c.0 x.0 old (ev.at_node node site) y at (ap (λ z. numbered (with_numbered c.0 (ev.at_node node site) z) x.0) (sym cs) ∙ ap (λ z. numbered z x.0) (sym (f.clients ∙ said.clients)) ∙ q)
+      site_at x y q = set_cases t.world.clients c.0 x.0 old (ev.at_node node site) y at (ap (λ z. numbered (with_numbered c.0 (ev.at_node node site) z) x.0) (sym cs) ∙ ap (λ z. numbered z x.0) (sym l.clients) ∙ q)
 
       taken : Next t e (Rattle.st_rules.specs.Events.world_turn last b.seen)
       taken =
           record {
-            old = grow;
-            new = λ m h. let z = has_numbered (messages last) m h in pick m z.0 (get z.0 m z.1);
+            old = l.old;
+            new = λ m h. let z = has_numbered (messages last) m h in pick m z.0 (l.get z.0 m z.1);
             clients = λ x y q. dated x y (site_at x y q);
-            servers = λ s n q. d.servers s n (ap (λ z. numbered z s.0) (sym ss) ∙ ap (λ z. numbered z s.0) (sym (f.servers ∙ said.servers)) ∙ q);
+            servers = λ s n q. d.servers s n (ap (λ z. numbered z s.0) (sym ss) ∙ ap (λ z. numbered z s.0) (sym l.servers) ∙ q);
             timers = λ x h. quiet x (d.timers x (stays t e (Rattle.st_rules.specs.Events.world_turn last b.seen) timers x h));
             timed = λ s n q run k z. remains t e (Rattle.st_rules.specs.Events.world_turn last b.seen) timers s k
-                (d.timed s n (ap (λ z. numbered z s.0) (sym ss) ∙ ap (λ z. numbered z s.0) (sym (f.servers ∙ said.servers)) ∙ q) run k z);
-            few = subst (λ z. length z ≤ 16) (sym (f.clients ∙ said.clients)) (let z = set_length v.clients (Rattle.std.specs.Prelude.pred c.0) (ev.at_node node site) in let y = d.few in let q = ap length cs in omega (arith, z, y, q));
+                (d.timed s n (ap (λ z. numbered z s.0) (sym ss) ∙ ap (λ z. numbered z s.0) (sym l.servers) ∙ q) run k z);
+            few = subst (λ z. length z ≤ 16) (sym l.clients) (let z = set_length v.clients (Rattle.std.specs.Prelude.pred c.0) (ev.at_node node site) in let y = d.few in let q = ap length cs in omega (arith, z, y, q));
           }
         where
           timers : (history_after t.world e (Rattle.st_rules.specs.Events.world_turn last b.seen) t.history).timers ≡ t.history.timers
@@ -252,11 +224,11 @@ module _ (past : List Step) (t : Traced) (e : Event) (d : Dated past t) (r : (re
           pick m k (inr z) = inr (new_one m z)
 
           dated : (x : ClientId) (y : ClientSite) → ((x.0 ≡ c.0) × (y ≡ ev.at_node node site)) ⊎ ((x.0 ≢ c.0) × (site_of t.world x ≡ Some y)) → ClientDated (messages last) x y.node.state
-          dated x y (inl z) = subst (λ (k : ClientSite). ClientDated (messages last) x k.node.state) (sym z.1) (subst (λ n. ClientDated (messages last) (record { 0 = n }) u.state) (sym z.0) (dates_more (messages t.world) (messages last) grow c u.state (record { id = held.id_; all = λ a h. (held.all a h).0 })))
-          dated x y (inr z) = dates_more (messages t.world) (messages last) grow x y.node.state (d.clients x y z.1)
+          dated x y (inl z) = subst (λ (k : ClientSite). ClientDated (messages last) x k.node.state) (sym z.1) (subst (λ n. ClientDated (messages last) (record { 0 = n }) u.state) (sym z.0) (dates_more (messages t.world) (messages last) l.old c u.state (record { id = held.id_; all = λ a h. (held.all a h).0 })))
+          dated x y (inr z) = dates_more (messages t.world) (messages last) l.old x y.node.state (d.clients x y z.1)
 
           quiet : (x : TimerStart) → TimerQuiet t.world x → TimerQuiet last x
-          quiet x q = record { node = q.node; is = ap (λ z. numbered z x.server.0) (f.servers ∙ said.servers ∙ ss) ∙ q.is; running = q.running; on = q.on; quiet = λ k m g from to dates. at_most k m from to dates (get k m g) }
+          quiet x q = record { node = q.node; is = ap (λ z. numbered z x.server.0) (l.servers ∙ ss) ∙ q.is; running = q.running; on = q.on; quiet = λ k m g from to dates. at_most k m from to dates (l.get k m g) }
             where
               at_most : (k : ℕ) (m : Message) → m.header.from ≡ server_node x.server → m.header.to ≡ x.client.0 → is_dating m ≡ true → (numbered (messages t.world) k ≡ Some m) ⊎ Has (outputs.Send m) u.out → k ≤ x.sent
               at_most k m from to dates (inl z) = q.quiet k m z from to dates
@@ -483,16 +455,6 @@ module _ (past : List Step) (t : Traced) (e : Event) (d : Dated past t) where
       it : (x : ServerId) (n : ServerNode) → ((x.0 ≡ s.0) × (n ≡ new)) ⊎ ((x.0 ≢ s.0) × (node_of t.world x ≡ Some n)) → ServerKnown x n.state
       it x n (inl z) = subst (λ (y : ServerNode). ServerKnown x y.state) (sym z.1) (subst (λ y. ServerKnown (record { 0 = y }) new.state) (sym z.0) k)
       it x n (inr z) = d.servers x n z.1
-
--- a lost message is the same message
-map_set : {A B : Type 0} (f : A → B) (xs : List A) (n : ℕ) (y z : A) → f z ≡ f y → slice_get xs n ≡ Some y → map f (set xs n z) ≡ map f xs
-map_set f [] n y z e q = cc
-map_set f (x ∷ xs) zero y z e q = ap (λ v. v ∷ map f xs) (e ∙ ap f (sym (some_is q)))
-map_set f (x ∷ xs) (suc n) y z e q = ap (λ v. f x ∷ v) (map_set f xs n y z e q)
-
-lost_same : (w : World) (k : ℕ) (m : SentMessage) → world.message_of w k ≡ Some m → messages (ev.with_lost k m w) ≡ messages w
-lost_same w zero m e = cc
-lost_same w (suc n) m e = map_set message_in w.net.messages n m (record m { lost = true }) refl e
 
 -- the sessions of a client that crashed or started are none
 crashed_dated : (ms : List Message) (c : ClientId) (x : ClientState) → x.id ≡ c → ClientDated ms c (cl.crash x)

@@ -96,17 +96,17 @@ start_all w c site there r h =
       gone = gone_known (Over w) (Over (ev.with_site c (ev.started_site site) w)) w.log (λ o i z. start_over w c site there r h.lives o z) h.gone;
     }
 
-cases : Cases FatesHold
+cases : Cases (λ c. Unit {0}) FatesHold
 cases =
     record {
-      besides = besides_fates;
+      besides = λ w n s d t g h. besides_fates w n s d t h;
       cut = cut_fates;
       hard = hard_fates;
       client = client_all;
       advance = λ w steps h. record { lives = advance_lives w steps h.lives; pending = advance_fates w steps (pending_known (BeforeEnd w) (RowOf w) w.log (row_of w h.lives) h.pending) h.pending; gone = advance_gone w steps h.lives h.gone };
-      crash = λ w c site there r h. record { lives = crash_lives w c site there r h.lives; pending = crash_pending w c site there h; gone = crash_gone w c site there h.lives h.pending h.gone };
+      crash = λ w c site x there r h. record { lives = crash_lives w c site there r h.lives; pending = crash_pending w c site there h; gone = crash_gone w c site there h.lives h.pending h.gone };
       start = start_all;
     }
 
 pub happens_all : (w : World) (e : Event) → adm.refusal w e ≡ None → FatesHold w → FatesHold (ev.happens w e).world
-happens_all w e r h = each_event FatesHold cases w e r h
+happens_all w e r h = each_event (λ c. Unit {0}) FatesHold cases w e (λ c q. tt) r h

@@ -1,5 +1,5 @@
 -- The flush through a step of a client: what stands of all its associations, in the world that its outputs leave.
-use Rattle.std.proofs.Common.{◌≡◌, ℕ, ◌+◌, ◌≤◌, ◌<◌, ◌⊎◌, Bool, true, false, ◌&&◌, List, [], ◌∷◌, ◌++◌, ◌==◌, Option, Some, None, refl, sym, ap, ◌∙◌, subst, inl, inr, arith, if◌then◌else◌}
+use Rattle.std.proofs.Common.{◌≡◌, ℕ, ◌+◌, Bool, true, false, List, [], ◌∷◌, Option, Some, None, refl, sym, ap, ◌∙◌, subst, inl, inr, arith}
 use Rattle.std.specs.Prelude.{find, map, nat_le}
 use Rattle.std.proofs.lemmas.Bool.{leb-false}
 use Rattle.st_base.specs.declared.config.Config.{Config}

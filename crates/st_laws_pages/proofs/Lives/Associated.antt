@@ -182,15 +182,15 @@ module _ (F : Association → Type 0) (empty : (a : Association) → a.session �
   unfolding ev.advances ev.marks
   advanced w steps h = h
 
-  cases : Cases AllHave
+  cases : Cases (λ c. Unit {0}) AllHave
   cases =
       record {
-        besides = λ w n s d t h. h;
+        besides = λ w n s d t g h. h;
         cut = λ w f p h. h;
         hard = λ w x h. h;
         client = λ w c input old site there same r h. took w c input old site there same h;
         advance = advanced;
-        crash = λ w c site there r h. crashed w c site there h;
+        crash = λ w c site x there r h. crashed w c site there h;
         start = λ w c site there r h. started w c site there h;
       }
 
@@ -200,7 +200,7 @@ module _ (F : Association → Type 0) (empty : (a : Association) → a.session �
   event_have w e sc is h = let z = step_happens w e sc is in subst (λ (s : WorldTurn). AllHave s.world) (sym z.1) (all w e z.0 h)
     where
       all : (w : World) (e : Event) → adm.refusal w e ≡ None → AllHave w → AllHave (ev.happens (counted w) e).world
-      all w e r h = each_event AllHave cases (counted w) e r h
+      all w e r h = each_event (λ c. Unit {0}) AllHave cases (counted w) e (λ c q. tt) r h
 
   pub event_keeps : (w : World) (e : Event) (sc : WorldTurn) → world_step w e ≡ Ok sc → ((c : ClientId) (site : ClientSite) → site_of w c ≡ Some site → (a : Association) → Has a site.node.state.associations → Fit a) →
       ((c : ClientId) (site : ClientSite) → site_of w c ≡ Some site → (a : Association) → Has a site.node.state.associations → F a) →

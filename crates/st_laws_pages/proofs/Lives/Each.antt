@@ -32,6 +32,7 @@ use Rattle.st_rules.specs.World.{World, ClientSite, Net, Tally, site_of, node_of
 use Rattle.st_rules.specs.Admissible as adm
 use Rattle.st_rules.specs.Events as ev
 use Rattle.st_rules.specs.Events.{WorldTurn}
+use Rattle.st_laws_pages.proofs.Disks.Opens.{GoesOn, goes_effect, goes_report, goes_same}
 use Rattle.st_laws_pages.proofs.Lives.LifeSteps.{runs_is, stopped_is}
 
 -- a world with another network, other servers, disks and counts
@@ -42,17 +43,17 @@ Besides w n s d t = record w { net = n; servers = s; disks = d; tally = t }
 abbrev pub SteppedNode : World → ClientId → ClientSite → ClientInput → cl.NodeTurn
 SteppedNode w c site input = cl.node_turn site.node (cl.client_step site.node.state (clock_of w (nodes.Client c)) input)
 
--- The cases.
-pub record Cases (I : World → Type 0) : Type 0 where
-  pub besides : (w : World) (n : Net) (s : List ServerNode) (d : Disks) (t : Tally) → I w → I (Besides w n s d t)
+-- The cases: Crash says which crashes of clients there are.
+pub record Cases (Crash : ClientId → Type 0) (I : World → Type 0) : Type 0 where
+  pub besides : (w : World) (n : Net) (s : List ServerNode) (d : Disks) (t : Tally) → GoesOn w.disks.commands d.commands → I w → I (Besides w n s d t)
   pub cut : (w : World) (f : FileId) (p : PageNo) → I w → I (ev.with_log (w.log ++ log.hard_cut f p ∷ []) w)
   pub hard : (w : World) (x : Option Carried) → I w → I (ev.with_log (ev.log_hard w.log x) w)
   pub client : (w : World) (c : ClientId) (input : ClientInput) (old site : ClientSite) → site_of w c ≡ Some old → old.node ≡ site.node → site.node.running ≡ true → I w → I (ev.client_took w c site (Ok (SteppedNode w c site input))).world
   pub advance : (w : World) (steps : List ℕ) → I w → I (ev.advances w steps).world
-  pub crash : (w : World) (c : ClientId) (site : ClientSite) → site_of w c ≡ Some site → site.node.running ≡ true → I w → I (ev.crashes_client w c (Some site)).world
+  pub crash : (w : World) (c : ClientId) (site : ClientSite) → Crash c → site_of w c ≡ Some site → site.node.running ≡ true → I w → I (ev.crashes_client w c (Some site)).world
   pub start : (w : World) (c : ClientId) (site : ClientSite) → site_of w c ≡ Some site → site.node.running ≡ false → I w → I (ev.starts_client w c (Some site))
 
-module _ (I : World → Type 0) (k : Cases I) where
+module _ (Crash : ClientId → Type 0) (I : World → Type 0) (k : Cases Crash I) where
   takes : (w : World) (c : ClientId) (input : ClientInput) (old site : ClientSite) → site_of w c ≡ Some old → old.node ≡ site.node → I w → I (ev.client_takes w c input site).world
   unfolding cl.node_step ev.client_takes ev.client_took
   takes w c input old site there same h = go site.node.running refl
@@ -68,12 +69,12 @@ module _ (I : World → Type 0) (k : Cases I) where
 
   one : (s : ServerId) (o : Output) (sc : WorldTurn) → I sc.world → I (ev.server_says sc s o).world
   unfolding ev.server_says ev.server_notes ev.cuts ev.sends log.cut
-  one s (outputs.Send m) sc h = k.besides sc.world (ev.with_message m sc.world).net sc.world.servers sc.world.disks sc.world.tally h
+  one s (outputs.Send m) sc h = k.besides sc.world (ev.with_message m sc.world).net sc.world.servers sc.world.disks sc.world.tally (goes_same sc.world.disks.commands) h
   one s (outputs.Note n) sc h = noted n
     where
       noted : (n : Note) → I (ev.server_notes sc s n).world
       noted (notes.CutDone f p) = k.cut sc.world f p h
-      noted (notes.Stolen c life) = k.besides sc.world sc.world.net sc.world.servers sc.world.disks (ev.with_theft sc.world).tally h
+      noted (notes.Stolen c life) = k.besides sc.world sc.world.net sc.world.servers sc.world.disks (ev.with_theft sc.world).tally (goes_same sc.world.disks.commands) h
       noted n = h
   one s o sc h = h
 
@@ -89,28 +90,28 @@ module _ (I : World → Type 0) (k : Cases I) where
     where
       go : (r : Result server.NodeTurn StepRefusal) → I (ev.server_took w s r).world
       go (Err e) = h
-      go (Ok t) = says s t.out (ev.quiet (ev.with_node s t.node w)) (k.besides w w.net (ev.with_node s t.node w).servers w.disks w.tally h)
+      go (Ok t) = says s t.out (ev.quiet (ev.with_node s t.node w)) (k.besides w w.net (ev.with_node s t.node w).servers w.disks w.tally (goes_same w.disks.commands) h)
 
   -- with other disks
-  at_disks : (w : World) (d : Disks) → I w → I (ev.with_disks d w)
-  at_disks w d h = k.besides w w.net w.servers d w.tally h
+  at_disks : (w : World) (d : Disks) → GoesOn w.disks.commands d.commands → I w → I (ev.with_disks d w)
+  at_disks w d g h = k.besides w w.net w.servers d w.tally g h
 
   with_net : (w : World) (n : Net) → I w → I (record w { net = n })
-  with_net w n h = k.besides w n w.servers w.disks w.tally h
+  with_net w n h = k.besides w n w.servers w.disks w.tally (goes_same w.disks.commands) h
 
   with_server : (w : World) (s : ServerId) (n : ServerNode) → I w → I (ev.with_node s n w)
-  with_server w s n h = k.besides w w.net (ev.with_node s n w).servers w.disks w.tally h
+  with_server w s n h = k.besides w w.net (ev.with_node s n w).servers w.disks w.tally (goes_same w.disks.commands) h
 
-  pub each_event : (w : World) (e : Event) → adm.refusal w e ≡ None → I w → I (ev.happens w e).world
+  pub each_event : (w : World) (e : Event) → ((c : ClientId) → e ≡ events.Crash (nodes.Client c) → Crash c) → adm.refusal w e ≡ None → I w → I (ev.happens w e).world
   unfolding ev.happens ev.ticks ev.asks_at ev.delivers ev.delivers_to ev.loses_message ev.marks ev.effects ev.reports_of ev.tells ev.tells_client ev.tells_site ev.crashes ev.crashes_client ev.crashes_server ev.starts ev.starts_client ev.starts_server
-  each_event w (events.Tick (nodes.Client c)) r h = at_client w c _ (site_of w c) refl h
-  each_event w (events.Tick (nodes.Server s)) r h = at_server w s _ (node_of w s) h
-  each_event w (events.App c ask) r h = go (site_of w c) refl
+  each_event w (events.Tick (nodes.Client c)) may r h = at_client w c _ (site_of w c) refl h
+  each_event w (events.Tick (nodes.Server s)) may r h = at_server w s _ (node_of w s) h
+  each_event w (events.App c ask) may r h = go (site_of w c) refl
     where
       go : (o : Option ClientSite) → site_of w c ≡ o → I (ev.asks_at w c ask o).world
       go None e = h
       go (Some site) e = takes w c _ site (ev.asked_once_more site) e refl h
-  each_event w (events.Deliver n) r h = go (world.message_of w n)
+  each_event w (events.Deliver n) may r h = go (world.message_of w n)
     where
       to : (m : Message) (x : NodeId) → I (ev.delivers_to w m x).world
       to m (nodes.Client c) = at_client w c _ (site_of w c) refl h
@@ -119,22 +120,22 @@ module _ (I : World → Type 0) (k : Cases I) where
       go : (m : Option SentMessage) → I (ev.delivers w m).world
       go None = h
       go (Some m) = to m.message (world.receiver_of m)
-  each_event w (events.Lose n) r h = go (world.message_of w n)
+  each_event w (events.Lose n) may r h = go (world.message_of w n)
     where
       go : (m : Option SentMessage) → I (ev.loses_message w n m)
       go None = h
       go (Some m) = with_net w (ev.with_lost n m w).net h
-  each_event w (events.Cut from to) r h = with_net w (ev.with_cut from to w).net h
-  each_event w (events.Heal from to) r h = with_net w (ev.without_cut from to w).net h
-  each_event w (events.Advance steps) r h = k.advance w steps h
-  each_event w (events.Effect n) r h = k.hard (ev.with_disks (ev.disks_after w.disks (disks.effect w.disks n)) w) (ev.carried_by (issued_of w n)) (at_disks w (ev.disks_after w.disks (disks.effect w.disks n)) h)
-  each_event w (events.Report n ok) r h = go (issued_of w n)
+  each_event w (events.Cut from to) may r h = with_net w (ev.with_cut from to w).net h
+  each_event w (events.Heal from to) may r h = with_net w (ev.without_cut from to w).net h
+  each_event w (events.Advance steps) may r h = k.advance w steps h
+  each_event w (events.Effect n) may r h = k.hard (ev.with_disks (ev.disks_after w.disks (disks.effect w.disks n)) w) (ev.carried_by (issued_of w n)) (at_disks w (ev.disks_after w.disks (disks.effect w.disks n)) (goes_effect w.disks n) h)
+  each_event w (events.Report n ok) may r h = go (issued_of w n)
     where
       v : World
       v = ev.with_disks (ev.disks_after w.disks (disks.done w.disks n ok)) w
 
       g : I v
-      g = at_disks w (ev.disks_after w.disks (disks.done w.disks n ok)) h
+      g = at_disks w (ev.disks_after w.disks (disks.done w.disks n ok)) (goes_report w.disks n ok) h
 
       same : (x : IssuedCommand) (site : ClientSite) → site_of v x.client ≡ Some site → (b : Bool) → I (if b then ev.client_takes v x.client (ev.end_told v n ok x) site else ev.quiet v).world
       same x site e true = takes v x.client (ev.end_told v n ok x) site site e refl g
@@ -147,22 +148,22 @@ module _ (I : World → Type 0) (k : Cases I) where
       go : (o : Option IssuedCommand) → I (ev.tells v n ok o).world
       go None = g
       go (Some x) = told x (site_of v x.client) refl
-  each_event w (events.Crash (nodes.Client c)) r h = go (site_of w c) refl
+  each_event w (events.Crash (nodes.Client c)) may r h = go (site_of w c) refl
     where
       go : (o : Option ClientSite) → site_of w c ≡ o → I (ev.crashes_client w c o).world
       go None e = h
-      go (Some site) e = k.crash w c site e (runs_is w c site e r) h
-  each_event w (events.Crash (nodes.Server s)) r h = go (node_of w s)
+      go (Some site) e = k.crash w c site (may c refl) e (runs_is w c site e r) h
+  each_event w (events.Crash (nodes.Server s)) may r h = go (node_of w s)
     where
       go : (o : Option ServerNode) → I (ev.crashes_server w s o)
       go None = h
       go (Some node) = with_server w s (server.crash_node node) h
-  each_event w (events.Start (nodes.Client c)) r h = go (site_of w c) refl
+  each_event w (events.Start (nodes.Client c)) may r h = go (site_of w c) refl
     where
       go : (o : Option ClientSite) → site_of w c ≡ o → I (ev.starts_client w c o)
       go None e = h
       go (Some site) e = k.start w c site e (stopped_is w c site e r) h
-  each_event w (events.Start (nodes.Server s)) r h = go (node_of w s)
+  each_event w (events.Start (nodes.Server s)) may r h = go (node_of w s)
     where
       go : (o : Option ServerNode) → I (ev.starts_server w s o)
       go None = h

@@ -1,9 +1,8 @@
 -- Open writes of present lives are outstanding at their clients: behind every event, and in every run.
 use Rattle.std.proofs.Common.{◌≡◌, ◌≢◌, ℕ, zero, suc, ◌+◌, ◌⊎◌, Bool, true, false, ◌==◌, List, [], ◌∷◌, ◌++◌, Option, Some, None, Ok, Err, refl, sym, ap, ◌∙◌, subst, inl, inr, arith, if◌then◌else◌}
-use Rattle.std.specs.Prelude.{Result, length, set}
+use Rattle.std.specs.Prelude.{Result, length}
 use Rattle.std.proofs.lemmas.Bool.{eqb-true}
 use Rattle.st_base.specs.declared.config.Config.{Config}
-use Rattle.st_base.specs.declared.disk.Command.{Command}
 use Rattle.st_base.specs.declared.disk.Command.TheVariants as commands
 use Rattle.st_base.specs.declared.ids.ClientId.{ClientId}
 use Rattle.st_base.specs.declared.ids.Life.{Life}
@@ -18,7 +17,6 @@ use Rattle.st_messages.specs.declared.output.Output.{Output}
 use Rattle.st_messages.specs.declared.output.Output.TheVariants as outputs
 use Rattle.st_rules.specs.declared.client.ClientInput.{ClientInput}
 use Rattle.st_rules.specs.declared.client.ClientInput.TheVariants as inputs
-use Rattle.st_rules.specs.declared.disks.CommandRefusal.{CommandRefusal}
 use Rattle.st_rules.specs.declared.disks.DiskCommand.{DiskCommand}
 use Rattle.st_rules.specs.declared.disks.Report.{Report}
 use Rattle.st_rules.specs.declared.disks.Report.TheVariants as reports
@@ -33,7 +31,6 @@ use Rattle.st_rules.specs.Admissible as adm
 use Rattle.st_rules.specs.Client as cl
 use Rattle.st_rules.specs.ClientState.{Association}
 use Rattle.st_rules.specs.Disks as disks
-use Rattle.st_rules.specs.Disks.{Disks}
 use Rattle.st_rules.specs.Events as ev
 use Rattle.st_rules.specs.Events.{WorldTurn, counted, world_step}
 use Rattle.st_rules.specs.FlatLog as log
@@ -54,7 +51,7 @@ use Rattle.st_laws_steps.specs.Lives.Lives.{LivesHold}
 use Rattle.st_laws_steps.specs.Client.Losses.{Fit}
 use Rattle.st_laws_pages.proofs.Disks.Effects.{report_finds, report_is, reported_world}
 use Rattle.st_laws_pages.proofs.Disks.Steps.{counted_fates}
-use Rattle.st_laws_pages.proofs.Disks.World.{at_set}
+use Rattle.st_laws_pages.proofs.Disks.Opens.{OpensFrom, goes_effect, opens_set}
 use Rattle.st_laws_pages.specs.Asks.Law.{InEveryRun, PlacesAfter, PlacesHold}
 use Rattle.st_laws_pages.proofs.Asks.Law.{places_law}
 use Rattle.st_laws_pages.proofs.Asks.Places.{Knows}
@@ -66,47 +63,10 @@ use Rattle.st_laws_pages.specs.Writes.Writes.{OpenAfter, OpenHold, WritesOnce}
 use Rattle.st_laws_pages.proofs.Writes.Joining.{EndsReported, client_open, life_low}
 use Rattle.st_laws_pages.proofs.Writes.Walking.{EndedBy}
 
--- Each command that is open was open before, and the same.
-abbrev pub OpensFrom : List DiskCommand → List DiskCommand → Type 0
-OpensFrom ds es = (k : ℕ) (d : DiskCommand) → disks.command_at es k ≡ Some d → d.report ≡ reports.Open → (e : DiskCommand) × (disks.command_at ds k ≡ Some e) × (e.report ≡ reports.Open) × (d.what ≡ e.what)
-
-pub opens_same : (ds : List DiskCommand) → OpensFrom ds ds
-opens_same ds k d e r = (d, e, r, refl)
-
-pub opens_set : (ds : List DiskCommand) (n : ℕ) (c d : DiskCommand) → disks.command_at ds (suc n) ≡ Some c → (d.report ≡ reports.Open → c.report ≡ reports.Open) → d.what ≡ c.what → OpensFrom ds (set ds n d)
-opens_set ds n c d is r w k y e o = go (at_set ds n k d y e)
-  where
-    go : ((k ≡ suc n) × (y ≡ d)) ⊎ ((k ≢ suc n) × (disks.command_at ds k ≡ Some y)) → (x : DiskCommand) × (disks.command_at ds k ≡ Some x) × (x.report ≡ reports.Open) × (y.what ≡ x.what)
-    go (inl q) = (c, ap (disks.command_at ds) q.0 ∙ is, r (ap (λ (z : DiskCommand). z.report) (sym q.1) ∙ o), ap (λ (z : DiskCommand). z.what) q.1 ∙ w)
-    go (inr q) = (y, q.1, o, refl)
-
 moved : (w v : World) → v.clients ≡ w.clients → v.commands ≡ w.commands → OpensFrom w.disks.commands v.disks.commands → OpenHold w → OpenHold v
 moved w v cs xs f h c site e r a i k x d at tag bytes is js wh op cx sx lx =
     let z = f k d js op in
     h c site (ap (λ zs. numbered zs c.0) (sym cs) ∙ e) r a i k x z.0 at tag bytes (ap (λ zs. numbered zs k) (sym xs) ∙ is) z.1 (sym z.3 ∙ wh) z.2 cx sx lx
-
--- an effect
-pub effect_opens : (d : Disks) (n : ℕ) → OpensFrom d.commands (ev.disks_after d (disks.effect d n)).commands
-unfolding disks.effect disks.effect_at disks.effect_reported disks.effect_once disks.effect_of
-effect_opens d zero = opens_same d.commands
-effect_opens d (suc n) = at (disks.command d (suc n)) refl
-  where
-    what : (c : DiskCommand) (w : Command) → disks.command d (suc n) ≡ Some c → OpensFrom d.commands (disks.effect_of d (suc n) c w).commands
-    what c (commands.Read b) e = opens_set d.commands n c (disks.sampled (disks.block d b) c) e (λ z. z) refl
-    what c (commands.Write b tag bytes) e = opens_set d.commands n c (disks.effected c) e (λ z. z) refl
-
-    once : (c : DiskCommand) (b : Bool) → disks.command d (suc n) ≡ Some c → OpensFrom d.commands (ev.disks_after d (if b then Err (Rattle.st_rules.specs.declared.disks.CommandRefusal.TheVariants.Twice (suc n)) else Ok (disks.effect_of d (suc n) c c.what))).commands
-    once c true e = opens_same d.commands
-    once c false e = what c c.what e
-
-    reported : (c : DiskCommand) (r : Report) → disks.command d (suc n) ≡ Some c → OpensFrom d.commands (ev.disks_after d (disks.effect_reported d (suc n) c r)).commands
-    reported c reports.Open e = once c c.effected e
-    reported c reports.Succeeded e = opens_same d.commands
-    reported c reports.Failed e = opens_same d.commands
-
-    at : (o : Option DiskCommand) → disks.command d (suc n) ≡ o → OpensFrom d.commands (ev.disks_after d (disks.effect_at d (suc n) o)).commands
-    at None e = opens_same d.commands
-    at (Some c) e = reported c c.report e
 
 -- A client that takes an input.
 takes : (past : List Step) (w : World) (c : ClientId) (input : ClientInput) (old site : ClientSite) → site_of w c ≡ Some old → old.node ≡ site.node → old.starts ≡ site.starts → LivesHold w → PlacesAt (length w.servers) w → length w.commands ≡ length w.disks.commands →
@@ -284,7 +244,7 @@ module _ (past : List Step) (w : World) (l : LivesHold w) (pl : PlacesAt (length
   happens_open (events.Cut from to) r = h
   happens_open (events.Heal from to) r = h
   happens_open (events.Advance steps) r = h
-  happens_open (events.Effect k) r = moved w (ev.effects w k).world refl refl (effect_opens w.disks k) h
+  happens_open (events.Effect k) r = moved w (ev.effects w k).world refl refl (goes_effect w.disks k).opens h
   happens_open (events.Report k ok) r = report_open k ok r
   happens_open (events.Crash (nodes.Client c)) r = go (site_of w c) refl
     where

@@ -142,7 +142,7 @@ said_all w s [] sc h = h
 said_all w s (o ∷ os) sc h = said_all w s os (ev.server_says sc s o) (said_one w s o sc h)
 
 -- a cut that is noted is seen
-abbrev Seen : FileId → PageNo → WorldTurn → Type 0
+abbrev pub Seen : FileId → PageNo → WorldTurn → Type 0
 Seen f p sc = (index : ℕ) × Has (seen.CutAt index f p) sc.seen
 
 has_more : (os : List Observation) (o x : Observation) → Has x os → Has x (os ++ o ∷ [])
@@ -170,7 +170,7 @@ seen_new : (f : FileId) (p : PageNo) (s : ServerId) (o : Output) (sc : WorldTurn
 unfolding ev.server_says ev.server_notes ev.cuts
 seen_new f p s o sc e = subst (λ (x : Output). Seen f p (ev.server_says sc s x)) e (_, has_last sc.seen _)
 
-seen_all : (f : FileId) (p : PageNo) (s : ServerId) (os : List Output) (sc : WorldTurn) → Seen f p sc ⊎ Has (outputs.Note (notes.CutDone f p)) os → Seen f p (ev.server_says_all s os sc)
+pub seen_all : (f : FileId) (p : PageNo) (s : ServerId) (os : List Output) (sc : WorldTurn) → Seen f p sc ⊎ Has (outputs.Note (notes.CutDone f p)) os → Seen f p (ev.server_says_all s os sc)
 unfolding ev.server_says_all
 seen_all f p s [] sc (inl h) = h
 seen_all f p s [] sc (inr h) = absurd h

@@ -37,7 +37,7 @@ use Rattle.st_laws_steps.specs.Client.Losses.{Fit}
 use Rattle.st_laws_steps.specs.Client.Notes.{IsChangedAt, NotesAll}
 use Rattle.st_laws_steps.proofs.Lives.Associations.{own_found}
 use Rattle.st_laws_steps.proofs.Client.Dirtying.{notes_map}
-use Rattle.st_laws_pages.proofs.Lives.Each.{Besides, SteppedNode}
+use Rattle.st_laws_pages.proofs.Lives.Each.{Besides, SteppedNode, each_event}
 use Rattle.st_laws_pages.proofs.Fates.FateLaw.{pending_fewer, pending_hard}
 use Rattle.st_laws_pages.proofs.Fates.Fates.{pending_map}
 use Rattle.st_laws_pages.proofs.Fates.FateSteps.{pending_more, says_pending}
@@ -48,7 +48,6 @@ use Rattle.st_laws_pages.proofs.Lives.Living.{row_is}
 use Rattle.st_laws_steps.proofs.Client.Noting.{step_notes}
 use Rattle.st_laws_pages.proofs.Lives.Turning.{Said, client_lives, known_owner, owners_more, says_lives}
 use Rattle.st_laws_reads.specs.FrozenLives.PendingEntries.{OfCrashed, Tracked}
-use Rattle.st_laws_reads.proofs.FrozenLives.Calm.{each_event}
 
 -- a lease that is lost is no crash
 uncrashed : (c : ClientId) (s : ClientState) (os : List Output) (row : LeaseLife) → Has row (ended_rows c s os) → row.crashed ≡ false
@@ -188,4 +187,4 @@ module _ (P : LeaseLife → LogOwner → Type 0) where
   started w c site there r h = record { lives = start_lives w c site there r h.lives; pending = h.pending }
 
   pub tracked : (w : World) (e : Event) → ((c : ClientId) → e ≡ events.Crash (nodes.Client c) → ⊥) → adm.refusal w e ≡ None → Tracked P w → Tracked P (ev.happens w e).world
-  tracked w e never r h = each_event (Tracked P) (record { besides = besides; cut = cut; hard = hard; client = stepped; advance = advanced; start = started }) w e never r h
+  tracked w e never r h = each_event (λ c. ⊥) (Tracked P) (record { besides = λ w n s d t g h. besides w n s d t h; cut = cut; hard = hard; client = stepped; advance = advanced; crash = λ w c site no. absurd no; start = started }) w e never r h

@@ -19,7 +19,7 @@ use Rattle.st_rules.specs.World as world
 use Rattle.st_rules.specs.World.{World, ClientSite, clock_of, ended_of, node_of, numbered, server, site_of}
 use Rattle.st_protocol.specs.Assoc.{Config}
 use Rattle.st_lemmas.proofs.Steps.{step_happens}
-use Rattle.st_laws_pages.proofs.Lives.Each.{SteppedNode}
+use Rattle.st_laws_pages.proofs.Lives.Each.{SteppedNode, each_event}
 use Rattle.st_laws_pages.proofs.Lives.Lasting.{flush_parts}
 use Rattle.st_laws_pages.proofs.Disks.Moves.{clock_up}
 use Rattle.st_laws_pages.proofs.Lives.Turning.{says_lives}
@@ -29,7 +29,6 @@ use Rattle.st_laws_reads.specs.FrozenLives.PendingEntries.{StoodLife}
 use Rattle.st_laws_reads.specs.FrozenLives.Frozen.{FrozenLife, IsOver}
 use Rattle.st_laws_leases.specs.Sides.Paths.{CameFrom, Followed, pairs_of}
 use Rattle.st_laws_leases.proofs.Sides.Paths.{follows}
-use Rattle.st_laws_reads.proofs.FrozenLives.Calm.{each_event}
 use Rattle.st_laws_reads.proofs.FrozenLives.Stepping.{clock_there, site_there}
 use Rattle.st_laws_reads.proofs.FrozenLives.Walks.{paths_keep}
 use Rattle.st_laws_reads.specs.OpenWrites.Living.{OpenTracked, OverOrStill, WritesHold, writer}
@@ -72,7 +71,7 @@ module _ (d : ClientId) (n : ℕ) where
 
   reads_on : (w : World) (e : Event) → ((c : ClientId) → e ≡ events.Crash (nodes.Client c) → ⊥) → adm.refusal w e ≡ None → Reads w → Reads (ev.happens w e).world
   reads_on w e never r h =
-      each_event Reads (record { besides = λ w n s d t g. g; cut = λ w f p g. g; hard = λ w x g. g; client = reads_step; advance = reads_advance; start = reads_start }) w e never r h
+      each_event (λ c. ⊥) Reads (record { besides = λ w n s d t g h. h; cut = λ w f p g. g; hard = λ w x g. g; client = reads_step; advance = reads_advance; crash = λ w c site no. absurd no; start = reads_start }) w e never r h
 
 same_refusal : (w : World) (e : Event) → adm.refusal w e ≡ None → adm.refusal (counted w) e ≡ None
 unfolding adm.refusal adm.refused_delivery adm.clocks_refused adm.flush_missed adm.refused_effect adm.refused_report world.node_of_place adm.missed_by

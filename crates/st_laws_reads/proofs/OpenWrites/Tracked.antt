@@ -33,7 +33,7 @@ use Rattle.st_lemmas.proofs.Numbers.{length_more, numbered_below, numbered_own}
 use Rattle.st_laws_leases.proofs.Sides.Everywhere.{numbered_is}
 use Rattle.st_laws_leases.proofs.Sides.Pairs.{length_set}
 use Rattle.st_laws_steps.specs.Lives.Lives.{AllKnown, ended_rows, LivesHold, NodeHolds, owner_of, Stepped}
-use Rattle.st_laws_pages.proofs.Lives.Each.{Besides, SteppedNode}
+use Rattle.st_laws_pages.proofs.Lives.Each.{Besides, SteppedNode, each_event}
 use Rattle.st_laws_pages.proofs.Lives.Lasting.{Flushed, flush_parts}
 use Rattle.st_laws_pages.proofs.Lives.LifeSteps.{advance_lives, owners_hard, same_owners, start_lives, steps_so}
 use Rattle.st_laws_pages.proofs.Lives.Lives.{find_back, find_front}
@@ -45,7 +45,7 @@ use Rattle.st_rules.specs.Disks as disks
 use Rattle.st_laws_reads.specs.FrozenLives.PendingEntries.{OfCrashed}
 use Rattle.st_laws_pages.proofs.Writes.Joining.{IsNew, all_say, flushes_disks}
 use Rattle.st_laws_reads.specs.OpenWrites.Living.{OpenTracked, OpenWrite, writer}
-use Rattle.st_laws_reads.proofs.OpenWrites.Events.{GoesOn, each_event}
+use Rattle.st_laws_pages.proofs.Disks.Opens.{GoesOn}
 
 -- a lease that is lost is no crash
 uncrashed : (c : ClientId) (s : ClientState) (os : List Output) (row : LeaseLife) → Has row (ended_rows c s os) → row.crashed ≡ false
@@ -255,4 +255,4 @@ module _ (P : LeaseLife → LogOwner → Type 0) where
   started w c site there r h = record { lives = start_lives w c site there r h.lives; counts = h.counts; there = λ k x at tag bytes o. (let z = h.there k x at tag bytes (same_open w (ev.starts_client w c (Some site)) refl refl k x at tag bytes o) in site_kept w.clients c.0 x.client.0 (ev.started_site site) z.0 z.1); open_ = λ k x at tag bytes o. h.open_ k x at tag bytes (same_open w (ev.starts_client w c (Some site)) refl refl k x at tag bytes o) }
 
   pub tracked : (w : World) (e : Event) → ((c : ClientId) → e ≡ events.Crash (nodes.Client c) → ⊥) → adm.refusal w e ≡ None → OpenTracked P w → OpenTracked P (ev.happens w e).world
-  tracked w e never r h = each_event (OpenTracked P) (record { besides = besides; cut = cut; hard = hard; client = stepped; advance = advanced; start = started }) w e never r h
+  tracked w e never r h = each_event (λ c. ⊥) (OpenTracked P) (record { besides = besides; cut = cut; hard = hard; client = stepped; advance = advanced; crash = λ w c site no. absurd no; start = started }) w e never r h

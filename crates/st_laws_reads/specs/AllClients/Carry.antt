@@ -1,5 +1,5 @@
 -- Every write of a page that is submitted carries the content that the log gives at that line.
-use Rattle.std.specs.Prelude.{◌≡◌, ◌+◌, List, []}
+use Rattle.std.specs.Prelude.{◌≡◌, List, []}
 use Rattle.st_base.specs.declared.disk.Command.{Command}
 use Rattle.st_base.specs.declared.disk.Command.TheVariants as commands
 use Rattle.st_rules.specs.declared.log.LogEntry.{LogEntry}

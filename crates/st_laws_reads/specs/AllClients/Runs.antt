@@ -1,5 +1,5 @@
 -- Reads return the last writes in every run, under what other laws owe at each of its steps.
-use Rattle.std.specs.Prelude.{◌≡◌, ◌+◌, [], Option, Some, None}
+use Rattle.std.specs.Prelude.{[], Option, Some, None}
 use Rattle.st_messages.specs.declared.event.Event.{Event}
 use Rattle.st_rules.specs.declared.client.ClientInput.{ClientInput}
 use Rattle.st_rules.specs.declared.client.ClientInput.TheVariants as inputs

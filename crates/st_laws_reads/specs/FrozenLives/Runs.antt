@@ -1,5 +1,5 @@
 -- Reads return the last writes in every run, and writes carry the content, under what is owed at its steps without the frozen lives.
-use Rattle.std.specs.Prelude.{◌≡◌, ◌+◌, [], Option, Some, None}
+use Rattle.std.specs.Prelude.{[], Option, Some, None}
 use Rattle.st_rules.specs.Events.{counted}
 use Rattle.st_rules.specs.Safety.{Promise}
 use Rattle.st_laws_reads.specs.Copies.World.{Taking, taken}

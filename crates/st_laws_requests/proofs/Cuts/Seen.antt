@@ -1,5 +1,5 @@
 -- What is observed of the outputs of clients and servers: which lines answer, and which tell a cut.
-use Rattle.std.proofs.Common.{◌≡◌, ◌≢◌, ℕ, ◌+◌, ◌≤◌, ◌⊎◌, List, [], ◌∷◌, ◌++◌, Option, Some, None, refl, sym, ap, ◌∙◌, subst, inl, inr, arith}
+use Rattle.std.proofs.Common.{◌≡◌, ℕ, ◌+◌, ◌⊎◌, List, [], ◌∷◌, ◌++◌, Option, Some, None, refl, sym, subst, inl, inr}
 use Rattle.std.specs.Prelude.{length}
 use Rattle.st_base.specs.declared.ids.ClientId.{ClientId}
 use Rattle.st_base.specs.declared.ids.ServerId.{ServerId}
@@ -18,24 +18,11 @@ use Rattle.st_rules.specs.declared.observation.Observation.TheVariants as seen
 use Rattle.st_rules.specs.ClientState.{ClientState}
 use Rattle.st_rules.specs.Events as ev
 use Rattle.st_rules.specs.Events.{WorldTurn, client_says, client_says_all, server_says, server_says_all}
-use Rattle.st_rules.specs.World.{ClientSite, site_of, numbered, with_numbered}
+use Rattle.st_rules.specs.World.{ClientSite, site_of}
 use Rattle.st_lemmas.specs.Lists.{Has}
-use Rattle.st_lemmas.proofs.Lookups.{some_is}
-use Rattle.st_lemmas.proofs.Numbers.{numbered_below, numbered_other, numbered_own}
-use Rattle.st_lemmas.proofs.Tables.{has_append, same_or_not}
+use Rattle.st_lemmas.proofs.Tables.{has_append}
 use Rattle.st_laws_leases.proofs.Dates.Known.{has_right}
 use Rattle.st_laws_leases.proofs.Dates.Said.{server_said}
-
--- Lists.
-pub set_cases : {A : Type 0} (xs : List A) (n m : ℕ) (y z x : A) → numbered xs n ≡ Some y → numbered (with_numbered n z xs) m ≡ Some x → ((m ≡ n) × (x ≡ z)) ⊎ ((m ≢ n) × (numbered xs m ≡ Some x))
-set_cases {A} xs n m y z x at h = go (same_or_not m n)
-  where
-    go : (m ≡ n) ⊎ (m ≢ n) → ((m ≡ n) × (x ≡ z)) ⊎ ((m ≢ n) × (numbered xs m ≡ Some x))
-    go (inl q) = inl (q, some_is (sym h ∙ ap (numbered (with_numbered n z xs)) q ∙ numbered_own xs n z y at))
-    go (inr q) = inr (q, sym (numbered_other xs n m z (numbered_below xs n y at).0 q) ∙ h)
-
-pub server_not_client : (c s : ℕ) → c ≤ 16 → c ≡ 32768 + s → ⊥
-server_not_client c s l e = omega (arith, l, e)
 
 -- Observations.
 -- it answers nothing

@@ -1,6 +1,6 @@
 -- Every event keeps what stands of requests and their replies.
 use Rattle.std.proofs.Common.{◌==◌, ◌≡◌, ◌≢◌, ℕ, ◌+◌, ◌≤◌, ◌⊎◌, Bool, true, false, not, List, [], ◌∷◌, ◌++◌, Option, Some, None, Ok, Err, refl, sym, ap, ◌∙◌, subst, inl, inr, arith, if◌then◌else◌}
-use Rattle.std.specs.Prelude.{map, length, zero, suc, nat_le, pred, set, slice_get}
+use Rattle.std.specs.Prelude.{map, length, suc, nat_le, pred}
 use Rattle.std.specs.List.{cons_option}
 use Rattle.std.proofs.lemmas.Bool.{eqb-true, eq-eqb, le-leb}
 use Rattle.st_base.specs.declared.ids.ClientId.{ClientId}
@@ -47,13 +47,11 @@ use Rattle.st_rules.specs.World.{World, ClientSite, site_of, node_of, numbered, 
 use Rattle.st_rules.specs.Safety as safety
 use Rattle.st_rules.specs.Safety.{Step, ask_in, ask_of_client, cuts_after, is_after_ask, is_cut_at, step, was_cut}
 use Rattle.st_lemmas.specs.Lists.{Has}
-use Rattle.st_lemmas.proofs.Lookups.{some_is}
 use Rattle.st_lemmas.proofs.Numbers.{get_last, length_more, numbered_below, numbered_has, numbered_old, set_length}
 use Rattle.st_lemmas.proofs.Tables.{and_both, has_append, has_map, has_map_in, some_passes}
 use Rattle.st_laws_leases.specs.Dates.Dates.{message_in, messages}
 use Rattle.st_laws_leases.proofs.Dates.Known.{has_left, has_right}
-use Rattle.st_laws_leases.proofs.Dates.Said.{Alike, Said, client_said, flushed, server_said}
-use Rattle.st_laws_leases.proofs.Dates.Steps.{has_numbered}
+use Rattle.st_laws_leases.proofs.Dates.Leaving.{Leaves, client_leaves, leaves_from, lost_same, server_leaves, server_not_client, set_cases}
 use Rattle.st_laws_pages.proofs.Asks.World.{asks_more}
 use Rattle.st_laws_steps.specs.Lives.Lives.{NodeHolds}
 use Rattle.st_laws_requests.specs.Cuts.Cuts.{Acked, AsksFor, Between, ClientOk, IsCutDone, CutsHold, Early, Fulfilled, KeptState, Keyed, Numbers, ServerOk, Waits, WaitsAt, asks_of, view}
@@ -61,7 +59,7 @@ use Rattle.st_laws_requests.specs.Cuts.Law.{CutsAreLogged}
 use Rattle.st_laws_requests.proofs.Cuts.Keeping.{Sent}
 use Rattle.st_laws_requests.proofs.Cuts.Step.{Held, onces, stepped}
 use Rattle.st_laws_requests.proofs.Cuts.Server.{Acks, CutNoted, Good, New, served}
-use Rattle.st_laws_requests.proofs.Cuts.Seen.{set_cases, server_not_client, NoAnswers, none_answered, fates_none, server_none, cut_said, AnswerOf, answered_said}
+use Rattle.st_laws_requests.proofs.Cuts.Seen.{NoAnswers, none_answered, fates_none, server_none, cut_said, AnswerOf, answered_said}
 
 -- What stands for fewer steps and messages stands for more.
 module _ (past : List Step) (x : Step) (ms ns : List Message) (f : (m : Message) → Has m ms → Has m ns) where
@@ -256,14 +254,8 @@ module _ (past : List Step) (t : Traced) (e : Event) (d : CutsHold past t) where
       b : WorldTurn
       b = ev.client_says_all c site.node.state u.out a
 
-      said : Said a b u.out
-      said = client_said c site.node.state u.out a
-
       last : World
       last = ev.flushes c node.state (world.all_servers b.world) b.world
-
-      f : Alike b.world last
-      f = flushed c node.state (world.all_servers b.world) b.world
 
       sc : WorldTurn
       sc = ev.world_turn last b.seen
@@ -277,24 +269,11 @@ module _ (past : List Step) (t : Traced) (e : Event) (d : CutsHold past t) where
       M : List Message
       M = messages t.world
 
-      msgs : messages last ≡ messages b.world
-      msgs = ap (λ (n : world.Net). map message_in n.messages) f.net
-
       before : messages a.world ≡ M
       before = ap (λ (n : world.Net). map message_in n.messages) net
 
-      grow : (m : Message) → Has m M → Has m (messages last)
-      grow m h = subst (Has m) (sym msgs) (said.old m (subst (Has m) (sym before) h))
-
-      from : (m : Message) → Has m (messages last) → Has m M ⊎ Has (outputs.Send m) u.out
-      from m h = pick (has_numbered (messages b.world) m (subst (Has m) msgs h))
-        where
-          which : (k : ℕ) → (numbered (messages a.world) k ≡ Some m) ⊎ Has (outputs.Send m) u.out → Has m M ⊎ Has (outputs.Send m) u.out
-          which k (inl q) = inl (subst (Has m) before (numbered_has (messages a.world) k m q))
-          which k (inr q) = inr q
-
-          pick : (k : ℕ) × (numbered (messages b.world) k ≡ Some m) → Has m M ⊎ Has (outputs.Send m) u.out
-          pick k = which k.0 (said.get k.0 m k.1)
+      l : Leaves M a.world last u.out
+      l = client_leaves M c site.node.state node.state u.out a before
 
       -- what the walk speaks of
       Known : ℕ → Ask → Type 0
@@ -382,11 +361,11 @@ module _ (past : List Step) (t : Traced) (e : Event) (d : CutsHold past t) where
       taken : site.node.running ≡ true → Next sc
       taken run =
           record {
-            old = grow;
-            new = λ m h. mine m (from m h);
-            clients = λ y r q. it y r (set_cases t.world.clients c.0 y.0 old (ev.at_node node site) r z.there (ap (λ w. numbered (with_numbered c.0 (ev.at_node node site) w) y.0) (sym ps) ∙ ap (λ w. numbered w y.0) (sym (f.clients ∙ said.clients)) ∙ q));
-            servers = λ s n q. server_more sc s n grow (d.servers s n (ap (λ w. numbered w s.0) (sym ss) ∙ ap (λ w. numbered w s.0) (sym (f.servers ∙ said.servers)) ∙ q));
-            few = subst (λ w. length w ≤ 16) (sym (f.clients ∙ said.clients)) (let y = set_length v.clients (pred c.0) (ev.at_node node site) in let w = d.few in let q = ap length ps in omega (arith, w, y, q));
+            old = l.old;
+            new = λ m h. mine m (leaves_from M a.world last u.out l m h);
+            clients = λ y r q. it y r (set_cases t.world.clients c.0 y.0 old (ev.at_node node site) r z.there (ap (λ w. numbered (with_numbered c.0 (ev.at_node node site) w) y.0) (sym ps) ∙ ap (λ w. numbered w y.0) (sym l.clients) ∙ q));
+            servers = λ s n q. server_more sc s n l.old (d.servers s n (ap (λ w. numbered w s.0) (sym ss) ∙ ap (λ w. numbered w s.0) (sym l.servers) ∙ q));
+            few = subst (λ w. length w ≤ 16) (sym l.clients) (let y = set_length v.clients (pred c.0) (ev.at_node node site) in let w = d.few in let q = ap length ps in omega (arith, w, y, q));
             cuts = λ y op h. cut y op (answered_said c site.node.state u.out a y op answers.Cut h);
           }
         where
@@ -398,7 +377,7 @@ module _ (past : List Step) (t : Traced) (e : Event) (d : CutsHold past t) where
           mine m (inr h) = inr (λ ack s r. absurd (server_not_client c.0 s.0 few (sym (k.from m h) ∙ r)))
 
           sent : (m : Message) → Has m (messages last) → Sent M c Known (Early past2 c) Done u.out m
-          sent m h = from m h
+          sent m h = leaves_from M a.world last u.out l m h
 
           own : ClientOk past2 (messages last) c (ev.at_node node site)
           own =
@@ -416,7 +395,7 @@ module _ (past : List Step) (t : Traced) (e : Event) (d : CutsHold past t) where
 
           it : (y : ClientId) (r : ClientSite) → ((y.0 ≡ c.0) × (r ≡ ev.at_node node site)) ⊎ ((y.0 ≢ c.0) × (site_of t.world y ≡ Some r)) → ClientOk past2 (messages last) y r
           it y r (inl q) = subst (ClientOk past2 (messages last) y) (sym q.1) (subst (λ n. ClientOk past2 (messages last) (record { 0 = n }) (ev.at_node node site)) (sym q.0) own)
-          it y r (inr q) = client_more sc y r (λ m h. other y q.0 m (from m h)) (z.others y q.0) q.1 (d.clients y r q.1)
+          it y r (inr q) = client_more sc y r (λ m h. other y q.0 m (leaves_from M a.world last u.out l m h)) (z.others y q.0) q.1 (d.clients y r q.1)
 
           cut : (y : ClientId) (op : ℕ) → Has (seen.Answered y op answers.Cut) [] ⊎ AnswerOf c y op answers.Cut u.out → was_cut past y op (numbered (asks_of past2 y) op) ≡ true
           cut y op (inl h) = absurd h
@@ -456,8 +435,8 @@ module _ (past : List Step) (t : Traced) (e : Event) (d : CutsHold past t) where
       sc : WorldTurn
       sc = ev.server_says_all s u.out a
 
-      said : Said a sc u.out
-      said = server_said s u.out a
+      l : Leaves (messages t.world) a.world sc.world u.out
+      l = server_leaves s u.out a
 
       x : Step
       x = step t e sc
@@ -470,16 +449,6 @@ module _ (past : List Step) (t : Traced) (e : Event) (d : CutsHold past t) where
 
       ok : ServerOk past M s node
       ok = d.servers s node at
-
-      from : (m : Message) → Has m (messages sc.world) → Has m M ⊎ Has (outputs.Send m) u.out
-      from m h = pick (has_numbered (messages sc.world) m h)
-        where
-          which : (k : ℕ) → (numbered M k ≡ Some m) ⊎ Has (outputs.Send m) u.out → Has m M ⊎ Has (outputs.Send m) u.out
-          which k (inl r) = inl (numbered_has M k m r)
-          which k (inr r) = inr r
-
-          pick : (k : ℕ) × (numbered (messages sc.world) k ≡ Some m) → Has m M ⊎ Has (outputs.Send m) u.out
-          pick k = which k.0 (said.get k.0 m k.1)
 
       epoch : ℕ
       epoch = node.state.stable.epoch.0
@@ -497,8 +466,8 @@ module _ (past : List Step) (t : Traced) (e : Event) (d : CutsHold past t) where
       done c life number by is key b r h = tt
 
       good : (c : ClientId) (life number : ℕ) → Good s node.state.stable.epoch i Old u.out c life number → Acked past2 (messages sc.world) c s life epoch number
-      good c life number (inl o) = acked_more past x M (messages sc.world) said.old c s life epoch number o
-      good c life number (inr n) = record { by = n.by; among = said.old n.by (subst Brings n.is brings); is = key n; done = done c life number n.by n.is (key n) n.by.body refl n.noted }
+      good c life number (inl o) = acked_more past x M (messages sc.world) l.old c s life epoch number o
+      good c life number (inr n) = record { by = n.by; among = l.old n.by (subst Brings n.is brings); is = key n; done = done c life number n.by n.is (key n) n.by.body refl n.noted }
         where
           key : (n : New s node.state.stable.epoch i Old u.out c life number) → Keyed c s life epoch number n.by
           key n = record { between = (n.from, n.there); of_life = n.of_life; of_epoch = n.of_epoch; under = n.under }
@@ -528,32 +497,22 @@ module _ (past : List Step) (t : Traced) (e : Event) (d : CutsHold past t) where
 
       it : (y : ServerId) (n : ServerNode) → ((y.0 ≡ s.0) × (n ≡ next)) ⊎ ((y.0 ≢ s.0) × (node_of t.world y ≡ Some n)) → ServerOk past2 (messages sc.world) y n
       it y n (inl z) = subst (ServerOk past2 (messages sc.world) y) (sym z.1) (subst (λ n. ServerOk past2 (messages sc.world) (record { 0 = n }) next) (sym z.0) own)
-      it y n (inr z) = server_more sc y n said.old (d.servers y n z.1)
+      it y n (inr z) = server_more sc y n l.old (d.servers y n z.1)
 
       taken : Next sc
       taken =
           record {
-            old = said.old;
-            new = λ m h. mine m (from m h);
-            clients = λ c site r. let there = ap (λ z. numbered z c.0) (sym said.clients) ∙ r in client_more sc c site (λ m h. of_server m c site there (from m h)) (q c) there (d.clients c site there);
-            servers = λ y n r. it y n (set_cases t.world.servers s.0 y.0 node next n at (ap (λ z. numbered z y.0) (sym said.servers) ∙ r));
-            few = subst (λ z. length z ≤ 16) (sym said.clients) d.few;
+            old = l.old;
+            new = λ m h. mine m (leaves_from M a.world sc.world u.out l m h);
+            clients = λ c site r. let there = ap (λ z. numbered z c.0) (sym l.clients) ∙ r in client_more sc c site (λ m h. of_server m c site there (leaves_from M a.world sc.world u.out l m h)) (q c) there (d.clients c site there);
+            servers = λ y n r. it y n (set_cases t.world.servers s.0 y.0 node next n at (ap (λ z. numbered z y.0) (sym l.servers) ∙ r));
+            few = subst (λ z. length z ≤ 16) (sym l.clients) d.few;
             cuts = no_cuts sc (server_none s u.out a none_answered);
           }
 
       go : (b : Bool) → Next (ev.server_took w s (if b then Ok (server.node_turn node u) else Err Crashed))
       go true = taken
       go false = still (ev.quiet w) q refl refl refl none_answered
-
--- a lost message is the same message
-map_set : {A B : Type 0} (f : A → B) (xs : List A) (n : ℕ) (y z : A) → f z ≡ f y → slice_get xs n ≡ Some y → map f (set xs n z) ≡ map f xs
-map_set f [] n y z e q = cc
-map_set f (x ∷ xs) zero y z e q = ap (λ v. v ∷ map f xs) (e ∙ ap f (sym (some_is q)))
-map_set f (x ∷ xs) (suc n) y z e q = ap (λ v. f x ∷ v) (map_set f xs n y z e q)
-
-lost_same : (w : World) (k : ℕ) (m : SentMessage) → world.message_of w k ≡ Some m → messages (ev.with_lost k m w) ≡ messages w
-lost_same w zero m e = cc
-lost_same w (suc n) m e = map_set message_in w.net.messages n m (record m { lost = true }) refl e
 
 -- a client that crashed or started
 crashed_ok : (past past2 : List Step) (ms : List Message) (c : ClientId) (site : ClientSite) → asks_of past2 c ≡ asks_of past c → ClientOk past ms c site → ClientOk past2 ms c (ev.stopped_site site)

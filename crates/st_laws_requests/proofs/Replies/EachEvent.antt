@@ -1,17 +1,15 @@
 -- An event of the world, walked once for what it leaves: from what a step of a client and of a server, a crash and a start leave, and from every
 -- world with the same clients, servers and messages.
-use Rattle.std.proofs.Common.{◌≡◌, ◌≢◌, ℕ, ◌+◌, ◌≤◌, ◌⊎◌, Bool, true, false, List, [], ◌∷◌, ◌++◌, Option, Some, None, Result, Ok, Err, refl, sym, ap, ◌∙◌, subst, inl, inr, arith, if◌then◌else◌}
-use Rattle.std.specs.Prelude.{map, zero, suc, set, slice_get}
+use Rattle.std.proofs.Common.{◌≡◌, ℕ, ◌+◌, Bool, true, false, [], Option, Some, None, Ok, Err, refl, sym, ap, subst, if◌then◌else◌}
+use Rattle.std.specs.Prelude.{map}
 use Rattle.st_base.specs.declared.ids.ClientId.{ClientId}
 use Rattle.st_base.specs.declared.ids.ServerId.{ServerId}
-use Rattle.st_base.specs.declared.ids.Stamp.{Stamp}
 use Rattle.st_base.specs.declared.ids.NodeId.{NodeId}
 use Rattle.st_base.specs.declared.ids.NodeId.TheVariants as nodes
 use Rattle.st_messages.specs.declared.ask.Ask.{Ask}
 use Rattle.st_messages.specs.declared.message.Message.{Message}
 use Rattle.st_messages.specs.declared.event.Event.{Event}
 use Rattle.st_messages.specs.declared.event.Event.TheVariants as events
-use Rattle.st_messages.specs.declared.output.Output.TheVariants as outputs
 use Rattle.st_rules.specs.declared.client.ClientInput.{ClientInput}
 use Rattle.st_rules.specs.declared.client.ClientInput.TheVariants as inputs
 use Rattle.st_rules.specs.declared.input.ServerInput.{ServerInput}
@@ -19,42 +17,23 @@ use Rattle.st_rules.specs.declared.input.ServerInput.TheVariants as serving
 use Rattle.st_rules.specs.declared.node.StepRefusal.TheVariants.{Crashed}
 use Rattle.st_rules.specs.declared.world.IssuedCommand.{IssuedCommand}
 use Rattle.st_rules.specs.declared.world.SentMessage.{SentMessage}
-use Rattle.st_rules.specs.Keys.{client, server_node}
+use Rattle.st_rules.specs.Keys.{client}
 use Rattle.st_rules.specs.Client as cl
 use Rattle.st_rules.specs.ClientState.{ClientTurn}
 use Rattle.st_rules.specs.Events as ev
-use Rattle.st_rules.specs.Events.{WorldTurn, world_step, client_says_all, server_says_all}
-use Rattle.st_rules.specs.History.{Traced, traced, traced_after}
-use Rattle.st_rules.specs.declared.observation.WorldRefusal.{WorldRefusal}
-use Rattle.st_rules.specs.Sessions as sessions
+use Rattle.st_rules.specs.Events.{WorldTurn, world_step, server_says_all}
 use Rattle.st_rules.specs.Server as server
 use Rattle.st_rules.specs.Server.{ServerNode}
 use Rattle.st_rules.specs.World as world
-use Rattle.st_rules.specs.World.{World, ClientSite, fresh_world, site_of, node_of, numbered, with_numbered, clock_of}
-use Rattle.st_rules.specs.Safety as safety
-use Rattle.st_rules.specs.Safety.{Step, Throughout, step, steps}
+use Rattle.st_rules.specs.World.{World, ClientSite, site_of, node_of, clock_of}
+use Rattle.st_rules.specs.Safety.{steps}
 use Rattle.st_lemmas.specs.Lists.{Has}
-use Rattle.st_lemmas.proofs.Lookups.{some_is}
-use Rattle.st_lemmas.proofs.Numbers.{numbered_below, numbered_has, numbered_other, numbered_own}
-use Rattle.st_lemmas.proofs.Tables.{has_map_in, same_or_not}
-use Rattle.st_laws_leases.specs.Dates.Dates.{Dated, message_in, messages}
-use Rattle.st_laws_leases.proofs.Dates.Said.{Alike, Said, client_said, flushed, server_said}
-use Rattle.st_laws_leases.proofs.Dates.Steps.{has_numbered}
+use Rattle.st_lemmas.proofs.Numbers.{numbered_has}
+use Rattle.st_lemmas.proofs.Tables.{has_map_in}
+use Rattle.st_laws_leases.specs.Dates.Dates.{message_in, messages}
+use Rattle.st_laws_leases.proofs.Dates.Leaving.{Leaves, client_leaves, lost_same, server_leaves}
 use Rattle.st_lemmas.proofs.Steps.{step_happens}
-use Rattle.st_laws_leases.proofs.Dates.Hearing.{Ever, Held, ever_on, step_held}
-use Rattle.st_laws_leases.proofs.Dates.Law as dates
-use Rattle.st_laws_requests.specs.Replies.Reached.{AtMessage, AtReceiver, AtServer, InputNew, IsBehind, NewOwed, ReassertionsNew, Refusal, RepliesAfter, RepliesAreReached, RepliesSay, Says}
-use Rattle.st_laws_requests.proofs.Replies.Served.{Refused, Served, served}
-
--- a lost message is the same message
-map_set : {A B : Type 0} (f : A → B) (xs : List A) (n : ℕ) (y z : A) → f z ≡ f y → slice_get xs n ≡ Some y → map f (set xs n z) ≡ map f xs
-map_set f [] n y z e q = cc
-map_set f (x ∷ xs) zero y z e q = ap (λ v. v ∷ map f xs) (e ∙ ap f (sym (some_is q)))
-map_set f (x ∷ xs) (suc n) y z e q = ap (λ v. f x ∷ v) (map_set f xs n y z e q)
-
-lost_same : (w : World) (k : ℕ) (m : SentMessage) → world.message_of w k ≡ Some m → messages (ev.with_lost k m w) ≡ messages w
-lost_same w zero m e = cc
-lost_same w (suc n) m e = map_set message_in w.net.messages n m (record m { lost = true }) refl e
+use Rattle.st_laws_requests.specs.Replies.Reached.{AtMessage, AtReceiver, AtServer, InputNew, NewOwed}
 
 -- a message that comes to a client, or to a server, was sent
 abbrev pub Comes : World → ClientInput → Type 0
@@ -65,12 +44,30 @@ abbrev pub Brings : World → ServerInput → Type 0
 Brings t serving.Tick = Unit {0}
 Brings t (serving.Control m) = Has m (messages t)
 
+-- the step of a client, and its place behind it
+abbrev pub ClientTook : World → ClientId → ClientInput → ClientSite → ClientTurn
+ClientTook v c i site = cl.client_step site.node.state (clock_of v (nodes.Client c)) i
+
+abbrev pub SiteAfter : World → ClientId → ClientInput → ClientSite → ClientSite
+SiteAfter v c i site = ev.at_node (record site.node { state = (ClientTook v c i site).state }) site
+
+-- the step of a server, its node behind it, and the world that it leaves
+abbrev pub ServerTook : World → ServerId → ServerInput → ServerNode → server.Turn
+ServerTook t s i node = server.server_step node.state (clock_of (ev.counted t) (nodes.Server s)) i
+
+abbrev pub NodeAfter : World → ServerId → ServerInput → ServerNode → ServerNode
+NodeAfter t s i node = record node { state = (ServerTook t s i node).state }
+
+abbrev pub ServerLeft : World → ServerId → ServerInput → ServerNode → WorldTurn
+ServerLeft t s i node = server_says_all s (ServerTook t s i node).out (ev.quiet (ev.with_node s (NodeAfter t s i node) (ev.counted t)))
+
 module _ (t : World) (R : World → Type 0)
     (alike : (v : World) → v.clients ≡ t.clients → v.servers ≡ t.servers → messages v ≡ messages t → R v)
-    (client_step : (v : World) → v.clients ≡ t.clients → v.servers ≡ t.servers → v.net ≡ t.net → (c : ClientId) (i : ClientInput) (site old : ClientSite) → site.node ≡ old.node → site_of t c ≡ Some old → Comes t i →
-    R (ev.client_takes v c i site).world)
-    (server_step : (s : ServerId) (i : ServerInput) (node : ServerNode) → node_of t s ≡ Some node → Brings t i →
-    InputNew (server.thefts (server.turn node.state []) (clock_of (ev.counted t) (nodes.Server s))) (clock_of (ev.counted t) (nodes.Server s)) i → R (ev.server_takes (ev.counted t) s i node).world)
+    (client_step : (v : World) → v.clients ≡ t.clients → v.servers ≡ t.servers → (c : ClientId) (i : ClientInput) (site old : ClientSite) → site.node ≡ old.node → site.node.running ≡ true → site_of t c ≡ Some old → Comes t i →
+    (last : World) → Leaves (messages t) (ev.with_site c (SiteAfter v c i site) v) last (ClientTook v c i site).out → R last)
+    (server_step : (s : ServerId) (i : ServerInput) (node : ServerNode) → node_of t s ≡ Some node → node.running ≡ true → Brings t i →
+    InputNew (server.thefts (server.turn node.state []) (clock_of (ev.counted t) (nodes.Server s))) (clock_of (ev.counted t) (nodes.Server s)) i →
+    Leaves (messages t) (ev.with_node s (NodeAfter t s i node) (ev.counted t)) (ServerLeft t s i node).world (ServerTook t s i node).out → R (ServerLeft t s i node).world)
     (stopped : (c : ClientId) (site : ClientSite) → site_of t c ≡ Some site → R (ev.crashes_client (ev.counted t) c (Some site)).world)
     (begun : (c : ClientId) (site : ClientSite) → site_of t c ≡ Some site → R (ev.starts_client (ev.counted t) c (Some site)))
     (crashed : (s : ServerId) (node : ServerNode) → node_of t s ≡ Some node → R (ev.crashes_server (ev.counted t) s (Some node)))
@@ -78,13 +75,40 @@ module _ (t : World) (R : World → Type 0)
   w : World
   w = ev.counted t
 
+  takes : (v : World) → v.clients ≡ t.clients → v.servers ≡ t.servers → v.net ≡ t.net → (c : ClientId) (i : ClientInput) (site old : ClientSite) → site.node ≡ old.node → site_of t c ≡ Some old → Comes t i →
+      R (ev.client_takes v c i site).world
+  unfolding ev.client_takes ev.client_took cl.node_step
+  takes v cs ss net c i site old same at k = go site.node.running refl
+    where
+      u : ClientTurn
+      u = ClientTook v c i site
+
+      before : messages v ≡ messages t
+      before = ap (λ (n : world.Net). map message_in n.messages) net
+
+      a : WorldTurn
+      a = ev.quiet (ev.with_site c (SiteAfter v c i site) v)
+
+      go : (b : Bool) → site.node.running ≡ b → R (ev.client_took v c site (if b then Ok (cl.node_turn site.node u) else Err Crashed)).world
+      go true run = client_step v cs ss c i site old same run at k _ (client_leaves (messages t) c site.node.state u.state u.out a before)
+      go false run = alike v cs ss before
+
+  serves : (s : ServerId) (i : ServerInput) (node : ServerNode) → node_of t s ≡ Some node → Brings t i → InputNew (server.thefts (server.turn node.state []) (clock_of w (nodes.Server s))) (clock_of w (nodes.Server s)) i →
+      R (ev.server_takes w s i node).world
+  unfolding ev.server_takes ev.server_took server.node_step w
+  serves s i node at k owed = go node.running refl
+    where
+      go : (b : Bool) → node.running ≡ b → R (ev.server_took w s (if b then Ok (server.node_turn node (ServerTook t s i node)) else Err Crashed)).world
+      go true run = server_step s i node at run k owed (server_leaves s (ServerTook t s i node).out (ev.quiet (ev.with_node s (NodeAfter t s i node) w)))
+      go false run = alike w refl refl refl
+
   at_client : (c : ClientId) (i : ClientInput) → Comes t i → R (ev.at_client w c i (site_of w c)).world
   unfolding ev.at_client w
   at_client c i k = go (site_of w c) refl
     where
       go : (o : Option ClientSite) → site_of w c ≡ o → R (ev.at_client w c i o).world
       go None r = alike w refl refl refl
-      go (Some site) r = client_step w refl refl refl c i site site refl r k
+      go (Some site) r = takes w refl refl refl c i site site refl r k
 
   at_server : (s : ServerId) (i : ServerInput) → Brings t i → ((node : ServerNode) → node_of w s ≡ Some node → InputNew (server.thefts (server.turn node.state []) (clock_of w (nodes.Server s))) (clock_of w (nodes.Server s)) i) → R (ev.at_server w s i (node_of w s)).world
   unfolding ev.at_server w
@@ -92,7 +116,7 @@ module _ (t : World) (R : World → Type 0)
     where
       go : (o : Option ServerNode) → node_of w s ≡ o → R (ev.at_server w s i o).world
       go None r = alike w refl refl refl
-      go (Some node) r = server_step s i node r k (owed node r)
+      go (Some node) r = serves s i node r k (owed node r)
 
   asks_happen : (c : ClientId) (ask : Ask) → R (ev.asks_at w c ask (site_of w c)).world
   unfolding ev.asks_at w
@@ -100,7 +124,7 @@ module _ (t : World) (R : World → Type 0)
     where
       go : (o : Option ClientSite) → site_of w c ≡ o → R (ev.asks_at w c ask o).world
       go None r = alike w refl refl refl
-      go (Some site) r = client_step w refl refl refl c (inputs.App (site.asks + 1) ask) (ev.asked_once_more site) site refl r tt
+      go (Some site) r = takes w refl refl refl c (inputs.App (site.asks + 1) ask) (ev.asked_once_more site) site refl r tt
 
   delivers : (k : ℕ) → AtMessage w (world.message_of w k) → R (ev.delivers w (world.message_of w k)).world
   unfolding ev.delivers ev.delivers_to w
@@ -136,7 +160,7 @@ module _ (t : World) (R : World → Type 0)
       comes x = tt
 
       same : (x : IssuedCommand) (site : ClientSite) → site_of w x.client ≡ Some site → (b : Bool) → R (if b then ev.client_takes v x.client (ev.end_told v k ok x) site else ev.quiet v).world
-      same x site q true = client_step v refl refl refl x.client (ev.end_told v k ok x) site site refl q (comes x)
+      same x site q true = takes v refl refl refl x.client (ev.end_told v k ok x) site site refl q (comes x)
       same x site q false = none
 
       at : (x : IssuedCommand) (o : Option ClientSite) → site_of w x.client ≡ o → R (ev.tells_client v k ok x o).world

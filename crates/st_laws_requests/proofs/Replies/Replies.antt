@@ -1,28 +1,19 @@
 -- Every event keeps what the messages of servers say, and so does every run.
-use Rattle.std.proofs.Common.{◌≡◌, ◌≢◌, ℕ, ◌+◌, ◌≤◌, ◌⊎◌, Bool, true, false, List, [], ◌∷◌, ◌++◌, Option, Some, None, Result, Ok, Err, refl, sym, ap, ◌∙◌, subst, inl, inr, arith, if◌then◌else◌}
-use Rattle.std.specs.Prelude.{map, zero, suc, set, slice_get}
+use Rattle.std.proofs.Common.{◌≡◌, ◌≢◌, ℕ, ◌+◌, ◌≤◌, ◌⊎◌, true, false, List, [], ◌∷◌, ◌++◌, Some, Result, Ok, Err, refl, sym, ap, ◌∙◌, subst, inl, inr, arith}
 use Rattle.st_base.specs.declared.ids.ClientId.{ClientId}
 use Rattle.st_base.specs.declared.ids.ServerId.{ServerId}
 use Rattle.st_base.specs.declared.ids.Stamp.{Stamp}
-use Rattle.st_base.specs.declared.ids.NodeId.{NodeId}
 use Rattle.st_base.specs.declared.ids.NodeId.TheVariants as nodes
-use Rattle.st_messages.specs.declared.ask.Ask.{Ask}
 use Rattle.st_messages.specs.declared.message.Message.{Message}
 use Rattle.st_messages.specs.declared.event.Event.{Event}
-use Rattle.st_messages.specs.declared.event.Event.TheVariants as events
 use Rattle.st_messages.specs.declared.output.Output.TheVariants as outputs
 use Rattle.st_rules.specs.declared.client.ClientInput.{ClientInput}
 use Rattle.st_rules.specs.declared.client.ClientInput.TheVariants as inputs
 use Rattle.st_rules.specs.declared.input.ServerInput.{ServerInput}
-use Rattle.st_rules.specs.declared.input.ServerInput.TheVariants as serving
-use Rattle.st_rules.specs.declared.node.StepRefusal.TheVariants.{Crashed}
-use Rattle.st_rules.specs.declared.world.IssuedCommand.{IssuedCommand}
-use Rattle.st_rules.specs.declared.world.SentMessage.{SentMessage}
 use Rattle.st_rules.specs.Keys.{client, server_node}
 use Rattle.st_rules.specs.Client as cl
-use Rattle.st_rules.specs.ClientState.{ClientTurn}
 use Rattle.st_rules.specs.Events as ev
-use Rattle.st_rules.specs.Events.{WorldTurn, world_step, client_says_all, server_says_all}
+use Rattle.st_rules.specs.Events.{WorldTurn, world_step}
 use Rattle.st_rules.specs.History.{Traced, traced, traced_after}
 use Rattle.st_rules.specs.declared.observation.WorldRefusal.{WorldRefusal}
 use Rattle.st_rules.specs.Sessions as sessions
@@ -33,28 +24,14 @@ use Rattle.st_rules.specs.World.{World, ClientSite, fresh_world, site_of, node_o
 use Rattle.st_rules.specs.Safety as safety
 use Rattle.st_rules.specs.Safety.{Step, Throughout, step, steps}
 use Rattle.st_lemmas.specs.Lists.{Has}
-use Rattle.st_lemmas.proofs.Lookups.{some_is}
-use Rattle.st_lemmas.proofs.Numbers.{numbered_below, numbered_has, numbered_other, numbered_own}
-use Rattle.st_lemmas.proofs.Tables.{has_map_in, same_or_not}
-use Rattle.st_laws_leases.specs.Dates.Dates.{Dated, message_in, messages}
-use Rattle.st_laws_leases.proofs.Dates.Said.{Alike, Said, client_said, flushed, server_said}
-use Rattle.st_laws_leases.proofs.Dates.Steps.{has_numbered}
-use Rattle.st_lemmas.proofs.Steps.{step_happens}
+use Rattle.st_lemmas.proofs.Numbers.{numbered_below}
+use Rattle.st_laws_leases.specs.Dates.Dates.{Dated, messages}
+use Rattle.st_laws_leases.proofs.Dates.Leaving.{Leaves, leaves_from, server_not_client, set_cases}
 use Rattle.st_laws_leases.proofs.Dates.Hearing.{Ever, Held, ever_on, step_held}
 use Rattle.st_laws_leases.proofs.Dates.Law as dates
-use Rattle.st_laws_requests.specs.Replies.Reached.{AtMessage, AtReceiver, AtServer, InputNew, IsBehind, NewOwed, ReassertionsNew, Refusal, RepliesAfter, RepliesAreReached, RepliesSay, Says}
-use Rattle.st_laws_requests.proofs.Replies.EachEvent.{Brings, Comes, event_leaves}
+use Rattle.st_laws_requests.specs.Replies.Reached.{InputNew, IsBehind, NewOwed, ReassertionsNew, Refusal, RepliesAfter, RepliesAreReached, RepliesSay, Says}
+use Rattle.st_laws_requests.proofs.Replies.EachEvent.{Brings, ClientTook, Comes, NodeAfter, ServerLeft, ServerTook, SiteAfter, event_leaves}
 use Rattle.st_laws_requests.proofs.Replies.Served.{Refused, Served, served}
-
-set_cases : {A : Type 0} (xs : List A) (n m : ℕ) (y z x : A) → numbered xs n ≡ Some y → numbered (with_numbered n z xs) m ≡ Some x → ((m ≡ n) × (x ≡ z)) ⊎ ((m ≢ n) × (numbered xs m ≡ Some x))
-set_cases {A} xs n m y z x at h = go (same_or_not m n)
-  where
-    go : (m ≡ n) ⊎ (m ≢ n) → ((m ≡ n) × (x ≡ z)) ⊎ ((m ≢ n) × (numbered xs m ≡ Some x))
-    go (inl q) = inl (q, some_is (sym h ∙ ap (numbered (with_numbered n z xs)) q ∙ numbered_own xs n z y at))
-    go (inr q) = inr (q, sym (numbered_other xs n m z (numbered_below xs n y at).0 q) ∙ h)
-
-server_not_client : (c s : ℕ) → c ≤ 16 → c ≡ 32768 + s → ⊥
-server_not_client c s l e = omega (arith, l, e)
 
 -- among more messages
 says_more : (ms ns : List Message) → ((m : Message) → Has m ms → Has m ns) → (s : ServerId) (n : ServerNode) (m : Message) → Says ms s n m → Says ns s n m
@@ -87,10 +64,9 @@ module _ (past : List Step) (t : Traced) (d : RepliesHold past t) where
       it (inr z) = d.replies x n z.1 m (subst (Has m) ms h) r
 
   -- A step of a client.
-  client_step : (v : World) → v.clients ≡ t.world.clients → v.servers ≡ t.world.servers → v.net ≡ t.world.net → (c : ClientId) (i : ClientInput) (site old : ClientSite) → site.node ≡ old.node → site_of t.world c ≡ Some old → Comes t.world i →
-      RepliesSay (ev.client_takes v c i site).world
-  unfolding ev.client_takes ev.client_took cl.node_step
-  client_step v ps ss net c i site old same at k = go site.node.running
+  client_step : (v : World) → v.servers ≡ t.world.servers → (c : ClientId) (i : ClientInput) (site old : ClientSite) → site.node ≡ old.node → site_of t.world c ≡ Some old → Comes t.world i →
+      (last : World) → Leaves (messages t.world) (ev.with_site c (SiteAfter v c i site) v) last (ClientTook v c i site).out → RepliesSay last
+  client_step v ss c i site old same at k last l s n q m h r = it (leaves_from (messages t.world) (ev.with_site c (SiteAfter v c i site) v) last (ClientTook v c i site).out l m h)
     where
       now : Stamp
       now = clock_of v (nodes.Client c)
@@ -104,68 +80,18 @@ module _ (past : List Step) (t : Traced) (d : RepliesHold past t) where
       comes (inputs.Control m) k = k
       comes (inputs.Done number result) k = tt
 
-      held : Held (messages t.world) c now Ever ever_on (cl.client_step site.node.state now i)
+      held : Held (messages t.world) c now Ever ever_on (ClientTook v c i site)
       held = step_held (messages t.world) c now Ever ever_on site.node.state i (comes i k) (subst (λ (n : cl.ClientNode). Rattle.st_laws_leases.specs.Dates.Dates.ClientDated (messages t.world) c n.state) (sym same) (d.dated.clients c old at)) (λ a h. tt)
 
-      u : ClientTurn
-      u = cl.client_step site.node.state now i
-
-      node : cl.ClientNode
-      node = record site.node { state = u.state }
-
-      a : WorldTurn
-      a = ev.quiet (ev.with_site c (ev.at_node node site) v)
-
-      b : WorldTurn
-      b = ev.client_says_all c site.node.state u.out a
-
-      said : Said a b u.out
-      said = client_said c site.node.state u.out a
-
-      last : World
-      last = ev.flushes c node.state (world.all_servers b.world) b.world
-
-      f : Alike b.world last
-      f = flushed c node.state (world.all_servers b.world) b.world
-
-      msgs : messages last ≡ messages b.world
-      msgs = ap (λ (n : world.Net). map message_in n.messages) f.net
-
-      before : messages a.world ≡ messages t.world
-      before = ap (λ (n : world.Net). map message_in n.messages) net
-
-      grow : (m : Message) → Has m (messages t.world) → Has m (messages last)
-      grow m h = subst (Has m) (sym msgs) (said.old m (subst (Has m) (sym before) h))
-
-      from : (m : Message) → Has m (messages last) → Has m (messages t.world) ⊎ Has (outputs.Send m) u.out
-      from m h = pick (has_numbered (messages b.world) m (subst (Has m) msgs h))
-        where
-          which : (k : ℕ) → (numbered (messages a.world) k ≡ Some m) ⊎ Has (outputs.Send m) u.out → Has m (messages t.world) ⊎ Has (outputs.Send m) u.out
-          which k (inl q) = inl (subst (Has m) before (numbered_has (messages a.world) k m q))
-          which k (inr q) = inr q
-
-          pick : (k : ℕ) × (numbered (messages b.world) k ≡ Some m) → Has m (messages t.world) ⊎ Has (outputs.Send m) u.out
-          pick k = which k.0 (said.get k.0 m k.1)
-
-      taken : RepliesSay last
-      taken s n q m h r = it (from m h)
-        where
-          there : node_of t.world s ≡ Some n
-          there = ap (λ w. numbered w s.0) (sym ss) ∙ ap (λ w. numbered w s.0) (sym (f.servers ∙ said.servers)) ∙ q
-
-          it : Has m (messages t.world) ⊎ Has (outputs.Send m) u.out → Says (messages last) s n m
-          it (inl i) = says_more (messages t.world) (messages last) grow s n m (d.replies s n there m i r)
-          it (inr i) = absurd (server_not_client c.0 s.0 few (sym (held.outs m i).from ∙ r))
-
-      go : (b : Bool) → RepliesSay (ev.client_took v c site (if b then Ok (cl.node_turn site.node u) else Err Crashed)).world
-      go true = taken
-      go false = still v ss before
+      it : Has m (messages t.world) ⊎ Has (outputs.Send m) (ClientTook v c i site).out → Says (messages last) s n m
+      it (inl j) = says_more (messages t.world) (messages last) l.old s n m (d.replies s n (ap (λ w. numbered w s.0) (sym ss) ∙ ap (λ w. numbered w s.0) (sym l.servers) ∙ q) m j r)
+      it (inr j) = absurd (server_not_client c.0 s.0 few (sym (held.outs m j).from ∙ r))
 
   -- A step of a server.
   server_step : (s : ServerId) (i : ServerInput) (node : ServerNode) → node_of t.world s ≡ Some node → Brings t.world i →
-      InputNew (server.thefts (server.turn node.state []) (clock_of (ev.counted t.world) (nodes.Server s))) (clock_of (ev.counted t.world) (nodes.Server s)) i → RepliesSay (ev.server_takes (ev.counted t.world) s i node).world
-  unfolding ev.server_takes ev.server_took server.node_step
-  server_step s i node at brings owed = go node.running
+      InputNew (server.thefts (server.turn node.state []) (clock_of (ev.counted t.world) (nodes.Server s))) (clock_of (ev.counted t.world) (nodes.Server s)) i →
+      Leaves (messages t.world) (ev.with_node s (NodeAfter t.world s i node) (ev.counted t.world)) (ServerLeft t.world s i node).world (ServerTook t.world s i node).out → RepliesSay (ServerLeft t.world s i node).world
+  server_step s i node at brings owed l = taken
     where
       w : World
       w = ev.counted t.world
@@ -174,32 +100,16 @@ module _ (past : List Step) (t : Traced) (d : RepliesHold past t) where
       now = clock_of w (nodes.Server s)
 
       u : server.Turn
-      u = server.server_step node.state now i
+      u = ServerTook t.world s i node
 
       next : ServerNode
-      next = record node { state = u.state }
-
-      a : WorldTurn
-      a = ev.quiet (ev.with_node s next w)
+      next = NodeAfter t.world s i node
 
       sc : WorldTurn
-      sc = ev.server_says_all s u.out a
-
-      said : Said a sc u.out
-      said = server_said s u.out a
+      sc = ServerLeft t.world s i node
 
       M : List Message
       M = messages t.world
-
-      from : (m : Message) → Has m (messages sc.world) → Has m M ⊎ Has (outputs.Send m) u.out
-      from m h = pick (has_numbered (messages sc.world) m h)
-        where
-          which : (k : ℕ) → (numbered M k ≡ Some m) ⊎ Has (outputs.Send m) u.out → Has m M ⊎ Has (outputs.Send m) u.out
-          which k (inl r) = inl (numbered_has M k m r)
-          which k (inr r) = inr r
-
-          pick : (k : ℕ) × (numbered (messages sc.world) k ≡ Some m) → Has m M ⊎ Has (outputs.Send m) u.out
-          pick k = which k.0 (said.get k.0 m k.1)
 
       k : Served s node.state.stable.epoch i node.state.sessions u
       k = served s node.state.stable.epoch i node.state.sessions node.state now owed (record { id = (d.dated.servers s node at).id; epoch = refl; goes = λ c life n h. h; sent = λ y h. absurd h })
@@ -223,26 +133,22 @@ module _ (past : List Step) (t : Traced) (d : RepliesHold past t) where
               IsBehind (sessions.session_of u.state.sessions (client m.header.to)) m.header.life m.header.number ⊎ Refused s node.state.stable.epoch i node.state.sessions m.header.to m.header.life m.header.number m.body →
               IsBehind (sessions.session_of u.state.sessions (client m.header.to)) m.header.life m.header.number ⊎ Refusal (messages sc.world) s m
           on e (inl h) = inl h
-          on e (inr r) = inr (record { by = r.by; among = said.old r.by (subst (Brings t.world) r.is brings); from = r.from; there = r.there; of_life = r.of_life; of_epoch = r.of_epoch ∙ sym e; under = r.under; rows = r.rows; asks = r.asks; beyond = r.beyond })
+          on e (inr r) = inr (record { by = r.by; among = l.old r.by (subst (Brings t.world) r.is brings); from = r.from; there = r.there; of_life = r.of_life; of_epoch = r.of_epoch ∙ sym e; under = r.under; rows = r.rows; asks = r.asks; beyond = r.beyond })
 
       taken : RepliesSay sc.world
-      taken y n q m h r = it (set_cases t.world.servers s.0 y.0 node next n at (ap (λ z. numbered z y.0) (sym said.servers) ∙ q)) (from m h)
+      taken y n q m h r = it (set_cases t.world.servers s.0 y.0 node next n at (ap (λ z. numbered z y.0) (sym l.servers) ∙ q)) (leaves_from M (ev.with_node s next w) sc.world u.out l m h)
         where
           own : (y.0 ≡ s.0) → m.header.from ≡ server_node s
           own e = r ∙ ap (λ v. server_node (record { 0 = v })) e
 
           at_own : (y.0 ≡ s.0) → Has m M ⊎ Has (outputs.Send m) u.out → Says (messages sc.world) s next m
-          at_own e (inl h) = says_more M (messages sc.world) said.old s next m (older m (d.replies s node at m h (own e)))
+          at_own e (inl h) = says_more M (messages sc.world) l.old s next m (older m (d.replies s node at m h (own e)))
           at_own e (inr h) = newer m h
 
           it : ((y.0 ≡ s.0) × (n ≡ next)) ⊎ ((y.0 ≢ s.0) × (node_of t.world y ≡ Some n)) → Has m M ⊎ Has (outputs.Send m) u.out → Says (messages sc.world) y n m
           it (inl z) o = subst (λ v. Says (messages sc.world) y v m) (sym z.1) (subst (λ v. Says (messages sc.world) (record { 0 = v }) next m) (sym z.0) (at_own z.0 o))
-          it (inr z) (inl h) = says_more M (messages sc.world) said.old y n m (d.replies y n z.1 m h r)
+          it (inr z) (inl h) = says_more M (messages sc.world) l.old y n m (d.replies y n z.1 m h r)
           it (inr z) (inr h) = let f = (k.sent m h).0 in absurd (z.0 (omega (arith, f, r)))
-
-      go : (b : Bool) → RepliesSay (ev.server_took w s (if b then Ok (server.node_turn node u) else Err Crashed)).world
-      go true = taken
-      go false = still w refl refl
 
   -- Crashes and starts.
   w : World
@@ -272,7 +178,7 @@ module _ (past : List Step) (t : Traced) (d : RepliesHold past t) where
   -- Every event.
   event_says : (e : Event) (sc : WorldTurn) → NewOwed (ev.counted t.world) e → world_step t.world e ≡ Ok sc → RepliesSay sc.world
   unfolding w
-  event_says = event_leaves t.world RepliesSay (λ v cs ss ms. still v ss ms) client_step server_step (λ c site q. stopped c site) (λ c site q. begun c site) crashed started
+  event_says = event_leaves t.world RepliesSay (λ v cs ss ms. still v ss ms) (λ v cs ss c i site old same run. client_step v ss c i site old same) (λ s i node at run. server_step s i node at) (λ c site q. stopped c site) (λ c site q. begun c site) crashed started
 
 pub one : (past : List Step) (t : Traced) (e : Event) (sc : WorldTurn) → RepliesHold past t → ReassertionsNew past (step t e sc) → world_step t.world e ≡ Ok sc → RepliesHold (past ++ step t e sc ∷ []) (traced_after e t sc)
 one past t e sc d f h = record { dated = (dates.one past t e sc d.dated h).1; replies = event_says past t d e sc f h }

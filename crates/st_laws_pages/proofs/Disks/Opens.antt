@@ -1,0 +1,85 @@
+-- A command of the disks that is not reported was not reported before an effect or a report, and was the same.
+use Rattle.std.proofs.Common.{◌≡◌, ◌≢◌, ℕ, zero, suc, ◌⊎◌, Bool, true, false, List, Option, Some, None, Ok, Err, refl, sym, ap, ◌∙◌, inl, inr, if◌then◌else◌}
+use Rattle.std.specs.Prelude.{length, set}
+use Rattle.st_base.specs.declared.disk.Command.{Command}
+use Rattle.st_base.specs.declared.disk.Command.TheVariants as commands
+use Rattle.st_rules.specs.declared.disks.CommandRefusal.TheVariants as refusals
+use Rattle.st_rules.specs.declared.disks.DiskCommand.{DiskCommand}
+use Rattle.st_rules.specs.declared.disks.Report.{Report}
+use Rattle.st_rules.specs.declared.disks.Report.TheVariants as reports
+use Rattle.st_rules.specs.Disks as disks
+use Rattle.st_rules.specs.Disks.{Disks}
+use Rattle.st_rules.specs.Events as ev
+use Rattle.st_lemmas.proofs.Numbers.{set_length}
+use Rattle.st_laws_pages.proofs.Disks.World.{at_set}
+
+-- Each command that is open was open before, and the same.
+abbrev pub OpensFrom : List DiskCommand → List DiskCommand → Type 0
+OpensFrom ds es = (k : ℕ) (d : DiskCommand) → disks.command_at es k ≡ Some d → d.report ≡ reports.Open → (e : DiskCommand) × (disks.command_at ds k ≡ Some e) × (e.report ≡ reports.Open) × (d.what ≡ e.what)
+
+pub opens_same : (ds : List DiskCommand) → OpensFrom ds ds
+opens_same ds k d e r = (d, e, r, refl)
+
+pub opens_set : (ds : List DiskCommand) (n : ℕ) (c d : DiskCommand) → disks.command_at ds (suc n) ≡ Some c → (d.report ≡ reports.Open → c.report ≡ reports.Open) → d.what ≡ c.what → OpensFrom ds (set ds n d)
+opens_set ds n c d is r w k y e o = go (at_set ds n k d y e)
+  where
+    go : ((k ≡ suc n) × (y ≡ d)) ⊎ ((k ≢ suc n) × (disks.command_at ds k ≡ Some y)) → (x : DiskCommand) × (disks.command_at ds k ≡ Some x) × (x.report ≡ reports.Open) × (y.what ≡ x.what)
+    go (inl q) = (c, ap (disks.command_at ds) q.0 ∙ is, r (ap (λ (z : DiskCommand). z.report) (sym q.1) ∙ o), ap (λ (z : DiskCommand). z.what) q.1 ∙ w)
+    go (inr q) = (y, q.1, o, refl)
+
+-- Commands go on: each that is open was open before, and there are as many.
+pub record GoesOn (ds es : List DiskCommand) : Type 0 where
+  pub opens : OpensFrom ds es
+  pub count : length es ≡ length ds
+
+pub goes_same : (ds : List DiskCommand) → GoesOn ds ds
+goes_same ds = record { opens = opens_same ds; count = refl }
+
+goes_set : (ds : List DiskCommand) (n : ℕ) (c d : DiskCommand) → disks.command_at ds (suc n) ≡ Some c → (d.report ≡ reports.Open → c.report ≡ reports.Open) → d.what ≡ c.what → GoesOn ds (set ds n d)
+goes_set ds n c d is r w = record { opens = opens_set ds n c d is r w; count = set_length ds n d }
+
+-- an effect
+pub goes_effect : (d : Disks) (n : ℕ) → GoesOn d.commands (ev.disks_after d (disks.effect d n)).commands
+unfolding disks.effect disks.effect_at disks.effect_reported disks.effect_once disks.effect_of
+goes_effect d zero = goes_same d.commands
+goes_effect d (suc n) = at (disks.command d (suc n)) refl
+  where
+    what : (c : DiskCommand) (w : Command) → disks.command d (suc n) ≡ Some c → GoesOn d.commands (disks.effect_of d (suc n) c w).commands
+    what c (commands.Read b) e = goes_set d.commands n c (disks.sampled (disks.block d b) c) e (λ z. z) refl
+    what c (commands.Write b tag bytes) e = goes_set d.commands n c (disks.effected c) e (λ z. z) refl
+
+    once : (c : DiskCommand) (b : Bool) → disks.command d (suc n) ≡ Some c → GoesOn d.commands (ev.disks_after d (if b then Err (refusals.Twice (suc n)) else Ok (disks.effect_of d (suc n) c c.what))).commands
+    once c true e = goes_same d.commands
+    once c false e = what c c.what e
+
+    reported : (c : DiskCommand) (r : Report) → disks.command d (suc n) ≡ Some c → GoesOn d.commands (ev.disks_after d (disks.effect_reported d (suc n) c r)).commands
+    reported c reports.Open e = once c c.effected e
+    reported c reports.Succeeded e = goes_same d.commands
+    reported c reports.Failed e = goes_same d.commands
+
+    at : (o : Option DiskCommand) → disks.command d (suc n) ≡ o → GoesOn d.commands (ev.disks_after d (disks.effect_at d (suc n) o)).commands
+    at None e = goes_same d.commands
+    at (Some c) e = reported c c.report e
+
+shut : (ok : Bool) → disks.report_of ok ≡ reports.Open → ⊥
+shut true e = cc
+shut false e = cc
+
+-- a report
+pub goes_report : (d : Disks) (n : ℕ) (ok : Bool) → GoesOn d.commands (ev.disks_after d (disks.done d n ok)).commands
+unfolding disks.done disks.done_at disks.done_unreported disks.done_once
+goes_report d zero ok = goes_same d.commands
+goes_report d (suc n) ok = at (disks.command d (suc n)) refl
+  where
+    once : (c : DiskCommand) (b : Bool) → disks.command d (suc n) ≡ Some c → GoesOn d.commands (ev.disks_after d (if b then Err (refusals.NotEffected (suc n)) else Ok (disks.with_command (suc n) (disks.reported ok c) d))).commands
+    once c true e = goes_same d.commands
+    once c false e = goes_set d.commands n c (disks.reported ok c) e (λ z. absurd (shut ok z)) refl
+
+    reported : (c : DiskCommand) (r : Report) → disks.command d (suc n) ≡ Some c → GoesOn d.commands (ev.disks_after d (disks.done_unreported d (suc n) ok c r)).commands
+    reported c reports.Open e = once c (disks.lacks_effect ok c) e
+    reported c reports.Succeeded e = goes_same d.commands
+    reported c reports.Failed e = goes_same d.commands
+
+    at : (o : Option DiskCommand) → disks.command d (suc n) ≡ o → GoesOn d.commands (ev.disks_after d (disks.done_at d (suc n) ok o)).commands
+    at None e = goes_same d.commands
+    at (Some c) e = reported c c.report e
