@@ -17,12 +17,12 @@ use Rattle.st_rules.specs.declared.locks.LockRow.{LockRow}
 use Rattle.st_rules.specs.declared.locks.RowDemand.{RowDemand}
 use Rattle.st_rules.specs.declared.locks.Waiter.{Waiter}
 use Rattle.st_rules.specs.Authority as authority
-use Rattle.st_rules.specs.Authority.{Authority, is_suspect, may_ack, over, suspect_of}
+use Rattle.st_rules.specs.Authority.{Authority, is_suspect, may_ack, suspect_of}
 use Rattle.st_rules.specs.Grace as grace
 use Rattle.st_rules.specs.Keys.{client}
 use Rattle.st_rules.specs.Leases.{steal_wait}
 use Rattle.st_rules.specs.Locks as locks
-use Rattle.st_rules.specs.Locks.{Locks, answered_row, demand_again, demand_lower, demand_lowered, demand_now, demanded, is_wait_on, lowered, row_of, stands_against, unless_met}
+use Rattle.st_rules.specs.Locks.{Locks, answered_row, demand_again, demand_lower, demand_lowered, demand_now, demanded, lowered, row_of, stands_against, unless_met}
 use Rattle.st_rules.specs.Server.{ServerState, Turn, demanding, granting, is_tick, server_step, suspecting, suspecting_on, take_input, thefts, turn}
 use Rattle.st_lemmas.specs.Lists.{Has}
 use Rattle.st_lemmas.proofs.Tables.{and_both, cond_either, same_or_not}
@@ -30,7 +30,7 @@ use Rattle.st_laws_refine.specs.Server.Edits.{WishInput}
 use Rattle.st_laws_refine.proofs.Server.Changes.{suspect_other, suspect_own}
 use Rattle.st_laws_refine.proofs.Server.OneRow.{row_found}
 use Rattle.st_laws_refine.proofs.Server.Thefts.{over_has}
-use Rattle.st_laws_waits.proofs.Walk.{w_demanding, w_granting, w_message, w_suspecting}
+use Rattle.st_laws_refine.proofs.Server.Walk.{w_demanding, w_granting, w_message, w_suspecting}
 use Rattle.st_laws_refine.proofs.Server.Walk.{thefts_quiet}
 use Rattle.st_laws_waits.specs.Bounds.{DemandInTime, InTime, RowsHaveSessions, SinceInTime}
 use Rattle.st_laws_waits.specs.Chase.{ChasedBy, ChasedDemand, ChasedRow, ChasedSince, IsFirst, Others, Repeated, RepeatedRow, Silent, answers_for}

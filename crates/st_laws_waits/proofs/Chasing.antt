@@ -20,19 +20,19 @@ use Rattle.st_rules.specs.declared.locks.LockRow.{LockRow}
 use Rattle.st_rules.specs.declared.locks.RowDemand.{RowDemand}
 use Rattle.st_rules.specs.declared.locks.Waiter.{Waiter}
 use Rattle.st_rules.specs.Authority as authority
-use Rattle.st_rules.specs.Authority.{Authority, is_suspect, may_ack, suspect_of}
+use Rattle.st_rules.specs.Authority.{Authority, may_ack, suspect_of}
 use Rattle.st_rules.specs.Grace as grace
 use Rattle.st_rules.specs.Grace.{Grace}
 use Rattle.st_rules.specs.Keys.{client}
 use Rattle.st_rules.specs.Locks as locks
-use Rattle.st_rules.specs.Locks.{Locks, answered_row, demand_again, demand_lower, demand_now, demand_of, demanded, grant, greater, is_row_of, is_under, is_wait_by, is_wait_of, is_wait_on, lower, lowered, new_row, new_wait, queue, queue_at, raise, release_to, row_of, observe, stands_against, wait_for, wait_of, waits_besides, with_demand}
+use Rattle.st_rules.specs.Locks.{Locks, answered_row, demand_now, demand_of, demanded, grant, is_row_of, is_under, is_wait_by, is_wait_of, is_wait_on, lower, lowered, new_row, new_wait, queue, queue_at, raise, release_to, row_of, observe, wait_for, wait_of, waits_besides, with_demand}
 use Rattle.st_rules.specs.Server.{ServerState, Turn, is_tick, keep_and_reply, life_in, reply, sender, steal_from, suspect_client, tell, thefts, turn}
 use Rattle.st_rules.specs.ServerInvariants.{are_once, same_row}
 use Rattle.st_lemmas.specs.Lists.{Has}
 use Rattle.st_lemmas.proofs.Lookups.{some_is}
 use Rattle.st_lemmas.proofs.Puts.{has_put}
 use Rattle.st_lemmas.proofs.Tables.{and_both, and_true, cond_either, cond_false, cond_true, find_map, found_at, has_filter, has_map, not_true, same_or_not, some_passes}
-use Rattle.st_laws_waits.specs.Edits.{Acquired, AtOnce, InTurn, Edit, TakesTimers, Steals, Suspects, Begins, DropsWaits, Keeps, Reasserts, Sees, Acquires, Releases, DropsFile, Grants, Demands, NamesChange, ExtentsChange, Cuts, Replies, Repeats, Refuses, TellsGrant, TellsDemand}
+use Rattle.st_laws_refine.specs.Server.Edits.{Acquired, AtOnce, InTurn, Edit, TakesTimers, Steals, Suspects, Begins, DropsWaits, Keeps, Reasserts, Sees, Acquires, Releases, DropsFile, Grants, Demands, NamesChange, ExtentsChange, Cuts, Replies, Repeats, Refuses, TellsGrant, TellsDemand}
 use Rattle.st_laws_refine.proofs.Server.OneRow.{demanded_once, forget_once, granted_once, released_once, row_found, seen_once}
 use Rattle.st_laws_waits.specs.Bounds.{DemandInTime}
 use Rattle.st_laws_waits.specs.Chase.{IsFirst}

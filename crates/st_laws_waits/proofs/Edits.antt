@@ -25,7 +25,7 @@ use Rattle.st_rules.specs.Server.{ServerState, Turn, is_tick, keep_and_reply, li
 use Rattle.st_lemmas.specs.Lists.{Has}
 use Rattle.st_lemmas.proofs.Puts.{has_put}
 use Rattle.st_lemmas.proofs.Tables.{and_true, cond_either, find_kept_in, found_at, has_append, has_filter, has_map}
-use Rattle.st_laws_waits.specs.Edits.{Acquired, AtOnce, InTurn, Edit, TakesTimers, Steals, Suspects, Begins, DropsWaits, Keeps, Reasserts, Sees, Acquires, Releases, DropsFile, Grants, Demands, NamesChange, ExtentsChange, Cuts, Replies, Repeats, Refuses, TellsGrant, TellsDemand}
+use Rattle.st_laws_refine.specs.Server.Edits.{Acquired, AtOnce, InTurn, Edit, TakesTimers, Steals, Suspects, Begins, DropsWaits, Keeps, Reasserts, Sees, Acquires, Releases, DropsFile, Grants, Demands, NamesChange, ExtentsChange, Cuts, Replies, Repeats, Refuses, TellsGrant, TellsDemand}
 use Rattle.st_laws_refine.proofs.Server.Changes.{has_suspect, suspect_other}
 use Rattle.st_laws_refine.proofs.Server.Locking.{queue_rows}
 use Rattle.st_laws_waits.specs.Bounds.{DemandInTime, RowsInTime, SinceInTime}

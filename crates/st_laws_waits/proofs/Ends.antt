@@ -36,7 +36,7 @@ use Rattle.st_laws_refine.proofs.Server.Changes.{forget_row, grant_elsewhere, gr
 use Rattle.st_laws_refine.proofs.Server.Thefts.{over_has}
 use Rattle.st_laws_waits.specs.Bounds.{RowsHaveSessions}
 use Rattle.st_laws_waits.specs.Chase.{IsFirst}
-use Rattle.st_laws_waits.specs.Edits.{Acquired, AtOnce, InTurn, Edit, TakesTimers, Steals, Suspects, Begins, DropsWaits, Keeps, Reasserts, Sees, Acquires, Releases, DropsFile, Grants, Demands, NamesChange, ExtentsChange, Cuts, Replies, Repeats, Refuses, TellsGrant, TellsDemand}
+use Rattle.st_laws_refine.specs.Server.Edits.{Acquired, AtOnce, InTurn, Edit, TakesTimers, Steals, Suspects, Begins, DropsWaits, Keeps, Reasserts, Sees, Acquires, Releases, DropsFile, Grants, Demands, NamesChange, ExtentsChange, Cuts, Replies, Repeats, Refuses, TellsGrant, TellsDemand}
 use Rattle.st_laws_waits.specs.Ends.{GoesOnOrEnds, IsGranted}
 use Rattle.st_laws_waits.specs.Ends.EndsBy.{Granted, Suspected, Greeted, Asked, Removed}
 use Rattle.st_laws_waits.proofs.Chasing.{on_file, raised_alone, raised_same}
@@ -44,7 +44,7 @@ use Rattle.st_laws_waits.proofs.Demanding.{demand_keys, found_row}
 use Rattle.st_laws_waits.proofs.Edits.{more_suspects}
 use Rattle.st_laws_waits.proofs.Robbing.{left, not_free}
 use Rattle.st_laws_waits.proofs.Tests.{clash, find_filter, find_longer}
-use Rattle.st_laws_waits.proofs.Walk.{walk}
+use Rattle.st_laws_refine.proofs.Server.Walk.{walk}
 
 -- what is not found is not found among fewer
 fewer_none : {A : Type 0} (p q : A → Bool) (xs : List A) → find p xs ≡ None → find p (filter q xs) ≡ None

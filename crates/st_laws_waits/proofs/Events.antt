@@ -14,7 +14,7 @@ use Rattle.st_rules.specs.declared.observation.WorldRefusal.TheVariants as refus
 use Rattle.st_rules.specs.declared.world.SentMessage.{SentMessage}
 use Rattle.st_rules.specs.Admissible as admissible
 use Rattle.st_rules.specs.Events as ev
-use Rattle.st_rules.specs.Events.{WorldTurn, advanced, counted, happens, quiet, server_says_all, server_takes, with_node, world_step}
+use Rattle.st_rules.specs.Events.{WorldTurn, advanced, counted, happens, quiet, server_takes, with_node, world_step}
 use Rattle.st_rules.specs.Server.{ServerNode, crash_node, server_step, start_node}
 use Rattle.st_rules.specs.World.{World, clock_of, is_running, message_of, node_of, node_runs, numbered, receiver_of, server, stamp, with_numbered}
 use Rattle.st_protocol.specs.Assoc.{Config}

@@ -12,7 +12,7 @@ use Rattle.st_rules.specs.declared.locks.LockRow.{LockRow}
 use Rattle.st_rules.specs.declared.locks.Waiter.{Waiter}
 use Rattle.st_rules.specs.Locks as locks
 use Rattle.st_rules.specs.Locks.{Granting, Locks, grant, grant_and, grant_file, grant_files, grant_waiter, grantable, is_row_of, is_wait_of, is_wait_on, new_row, next_grants, next_waiter, stands_against, waited_files}
-use Rattle.st_rules.specs.Server.{Turn, grant_by, grant_waiting, granting, tell, tell_granted, with_locks}
+use Rattle.st_rules.specs.Server.{Turn, grant_by, grant_waiting, tell, tell_granted, with_locks}
 use Rattle.st_lemmas.specs.Lists.{Has}
 use Rattle.st_lemmas.proofs.Keys.{rising_has_in}
 use Rattle.st_lemmas.proofs.Puts.{has_put_other}

@@ -1,5 +1,4 @@
 pub mod Tests
-pub mod Walk
 pub mod Edits
 pub mod Robbing
 pub mod Granting

@@ -16,7 +16,7 @@ use Rattle.st_rules.specs.Authority.{Authority, is_over, is_suspect, may_ack, ov
 use Rattle.st_rules.specs.Grace.{Grace}
 use Rattle.st_rules.specs.Keys.{client, rising}
 use Rattle.st_rules.specs.Locks as locks
-use Rattle.st_rules.specs.Locks.{Locks, is_overdue, is_row_by, is_wait_by, is_wait_on}
+use Rattle.st_rules.specs.Locks.{is_overdue, is_row_by, is_wait_by, is_wait_on}
 use Rattle.st_rules.specs.Server.{ServerState, Turn, steal, steal_at, steal_each, steal_from, suspect_client, suspect_each, suspect_unless, suspecting, thefts, turn, with_authority}
 use Rattle.st_rules.specs.ServerInvariants.{are_once, same_row}
 use Rattle.st_rules.specs.Sessions as sessions

@@ -30,7 +30,7 @@ use Rattle.st_rules.specs.Leases.{steal_wait}
 use Rattle.st_rules.specs.Locks.{is_wait_on, row_of, stands_against}
 use Rattle.st_rules.specs.Safety.{IsHead, Promise, Step, is_event, step}
 use Rattle.st_rules.specs.Server as sv
-use Rattle.st_rules.specs.Server.{ServerNode, ServerState, crash, crash_node, server_step, start, start_node}
+use Rattle.st_rules.specs.Server.{ServerNode, ServerState, start, start_node}
 use Rattle.st_rules.specs.World as world
 use Rattle.st_rules.specs.World.{World, client_clock, clock_of, fresh_clocks, fresh_site, fresh_world, message_of, node_at_start, node_of, numbered, server, stamp}
 use Rattle.st_lemmas.specs.Lists.{Has}

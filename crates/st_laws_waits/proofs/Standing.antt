@@ -27,7 +27,7 @@ use Rattle.st_rules.specs.Leases.{steal_wait}
 use Rattle.st_rules.specs.Locks.{is_wait_on}
 use Rattle.st_rules.specs.Safety.{IsHead, Step, is_event, step}
 use Rattle.st_rules.specs.Server as sv
-use Rattle.st_rules.specs.Server.{ServerNode, ServerState, Turn, crash, crash_node, keep_and_reply, reply, server_step, start, start_node, steal_from, suspect_client, tell}
+use Rattle.st_rules.specs.Server.{ServerNode, ServerState, Turn, crash, keep_and_reply, reply, server_step, start, steal_from, suspect_client, tell}
 use Rattle.st_rules.specs.ServerInvariants.{are_once, same_row}
 use Rattle.st_rules.specs.Sessions as sessions
 use Rattle.st_rules.specs.World.{World, clock_of, fresh_world, node_at_start, node_of}
@@ -46,7 +46,7 @@ use Rattle.st_laws_leases.proofs.Sides.Everywhere.{stays}
 use Rattle.st_laws_leases.proofs.Sides.Runs.{full, throughout_events}
 use Rattle.st_laws_waits.specs.Bounds.{RowsHaveSessions}
 use Rattle.st_laws_waits.specs.Chase.{IsFirst}
-use Rattle.st_laws_waits.specs.Edits.{Edit, TakesTimers, Steals, Suspects, Begins, DropsWaits, Keeps, Reasserts, Sees, Acquires, Releases, DropsFile, Grants, Demands, NamesChange, ExtentsChange, Cuts, Replies, Repeats, Refuses, TellsGrant, TellsDemand}
+use Rattle.st_laws_refine.specs.Server.Edits.{Edit, TakesTimers, Steals, Suspects, Begins, DropsWaits, Keeps, Reasserts, Sees, Acquires, Releases, DropsFile, Grants, Demands, NamesChange, ExtentsChange, Cuts, Replies, Repeats, Refuses, TellsGrant, TellsDemand}
 use Rattle.st_laws_waits.specs.Ends.{GoesOnOrEnds}
 use Rattle.st_laws_waits.specs.Waits.{GraceEnds, InEveryRun, Runs, RunsFrom, WaitsEndForAReason, heard, heard_in, server_clock}
 use Rattle.st_laws_waits.proofs.Ends.{heard_of, step_ends}
@@ -54,7 +54,7 @@ use Rattle.st_laws_waits.proofs.Events.{Done, done, stepped}
 use Rattle.st_laws_waits.proofs.Events.Done.{Ticks, Hears, Waits, Stops, Starts}
 use Rattle.st_laws_waits.proofs.Splits.{At_last, Earlier, Split, has_last, has_more, not_empty, split}
 use Rattle.st_laws_waits.proofs.Tests.{clash}
-use Rattle.st_laws_waits.proofs.Walk.{walk}
+use Rattle.st_laws_refine.proofs.Server.Walk.{walk}
 
 -- no step changes the grace or the settings
 pub record SameGrace (n v : ServerState) : Type 0 where

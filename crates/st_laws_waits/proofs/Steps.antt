@@ -13,7 +13,7 @@ use Rattle.st_rules.specs.Grace.{Grace}
 use Rattle.st_rules.specs.Leases.{steal_wait}
 use Rattle.st_rules.specs.Server.{ServerState, Turn, demanding, granting, grant_waiting, in_grace, server_step, suspecting, suspecting_on, take_input, thefts, turn}
 use Rattle.st_laws_refine.specs.Server.Edits.{WishInput}
-use Rattle.st_laws_waits.proofs.Walk.{w_demanding, w_granting, w_message, w_suspecting}
+use Rattle.st_laws_refine.proofs.Server.Walk.{w_demanding, w_granting, w_message, w_suspecting}
 use Rattle.st_laws_refine.proofs.Server.Walk.{thefts_quiet}
 use Rattle.st_laws_waits.specs.Bounds.{AllBlocked, InTime, RowsHaveSessions}
 use Rattle.st_laws_waits.specs.Going.{Going}

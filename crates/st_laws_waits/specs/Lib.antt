@@ -1,4 +1,3 @@
-pub mod Edits
 pub mod Bounds
 pub mod Going
 pub mod Chase

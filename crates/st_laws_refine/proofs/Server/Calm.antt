@@ -92,11 +92,11 @@ pub record CalmTurn (n : ServerState) (now : Stamp) (t : Turn) : Type 0 where
 
 calm_edit : (n : ServerState) (now : Stamp) (i : ServerInput) → Reassertions n now i → (t u : Turn) → Edit n now i t u → CalmTurn n now t → CalmTurn n now u
 unfolding steal_from suspect_client keep_and_reply reply tell sessions.reasserted
-calm_edit n now i q t u (TakesTimers _) o = record { same = o.same; once = o.once; kept = o.kept; calm = o.calm }
+calm_edit n now i q t u (TakesTimers _ first) o = record { same = o.same; once = o.once; kept = o.kept; calm = o.calm }
 calm_edit n now i q t u (Steals _ c s h e) o = record { same = o.same; once = forget_once t.state.locks c o.once; kept = kept_end t.state.sessions c o.kept; calm = calm_append t.out _ o.calm tt }
 calm_edit n now i q t u (Suspects _ c s f z) o = record { same = o.same; once = drop_once t.state.locks c o.once; kept = o.kept; calm = calm_append t.out _ o.calm tt }
 calm_edit n now i q t u (Begins _ c life) o = record { same = o.same; once = o.once; kept = kept_put t.state.sessions (sessions.new_session c life) tt o.kept; calm = o.calm }
-calm_edit n now i q t u (DropsWaits _ c) o = record { same = o.same; once = drop_once t.state.locks c o.once; kept = o.kept; calm = o.calm }
+calm_edit n now i q t u (DropsWaits _ m s is b e lower) o = record { same = o.same; once = drop_once t.state.locks (sender m.header) o.once; kept = o.kept; calm = o.calm }
 calm_edit n now i q t u (Keeps _ c number b e) o = record { same = o.same; once = o.once; kept = kept_store t.state.sessions c number b (kept_calm b e) o.kept; calm = o.calm }
 calm_edit n now i q t u (Reasserts _ m rows is w g f) o =
     record {
@@ -105,18 +105,18 @@ calm_edit n now i q t u (Reasserts _ m rows is w g f) o =
       kept = kept_put t.state.sessions (sessions.reasserted_session (sender m.header) (life_in m.header)) refl o.kept;
       calm = o.calm;
     }
-calm_edit n now i q t u (Sees _ c ino g) o = record { same = o.same; once = seen_once t.state.locks c ino g o.once; kept = o.kept; calm = o.calm }
-calm_edit n now i q t u (Acquires _ m l b is fi hs ok k a) o =
+calm_edit n now i q t u (Sees _ m ino g is fi b) o = record { same = o.same; once = seen_once t.state.locks (sender m.header) ino g o.once; kept = o.kept; calm = o.calm }
+calm_edit n now i q t u (Acquires _ m ino mode l b s is fi eb es el ok k a) o =
     record {
       same = o.same;
-      once = acquired_once _ t.state.locks (sender m.header) (life_in m.header) l a o.once;
+      once = acquired_once _ t.state.locks (sender m.header) (life_in m.header) ino mode l a o.once;
       kept = kept_store t.state.sessions (sender m.header) m.header.number b ok.calm o.kept;
       calm = calm_append t.out _ o.calm (record { one = ok.calm; rest = tt });
     }
-calm_edit n now i q t u (Releases _ c ino to) o = record { same = o.same; once = released_once t.state.locks c ino to o.once; kept = o.kept; calm = o.calm }
-calm_edit n now i q t u (DropsFile _ ino) o = record { same = o.same; once = file_once t.state.locks ino o.once; kept = o.kept; calm = o.calm }
-calm_edit n now i q t u (Grants _ w off h f) o = record { same = o.same; once = granted_once t.state.locks w.client w.life w.ino w.mode o.once; kept = o.kept; calm = o.calm }
-calm_edit n now i q t u (Demands _ r x) o = record { same = o.same; once = demanded_once t.state.locks r x o.once; kept = o.kept; calm = o.calm }
+calm_edit n now i q t u (Releases _ m ino g to r is fi b er eu) o = record { same = o.same; once = released_once t.state.locks (sender m.header) ino to o.once; kept = o.kept; calm = o.calm }
+calm_edit n now i q t u (DropsFile _ m dir name g ino is b e) o = record { same = o.same; once = file_once t.state.locks ino o.once; kept = o.kept; calm = o.calm }
+calm_edit n now i q t u (Grants _ w off h first f) o = record { same = o.same; once = granted_once t.state.locks w.client w.life w.ino w.mode o.once; kept = o.kept; calm = o.calm }
+calm_edit n now i q t u (Demands _ r x to er ed) o = record { same = o.same; once = demanded_once t.state.locks r x o.once; kept = o.kept; calm = o.calm }
 calm_edit n now i q t u (NamesChange _ v) o = record { same = o.same; once = o.once; kept = o.kept; calm = o.calm }
 calm_edit n now i q t u (ExtentsChange _ v) o = record { same = o.same; once = o.once; kept = o.kept; calm = o.calm }
 calm_edit n now i q t u (Cuts _ f p) o = record { same = o.same; once = o.once; kept = o.kept; calm = calm_append t.out _ o.calm tt }

@@ -109,9 +109,9 @@ t_rows : (l : Locks) (c : ClientId) (life : Life) (rows : List (ℕ × GrantNo �
 unfolding with_rows
 t_rows l c life rows = refl
 
-t_acquired : (g : Bool) (l : Locks) (c : ClientId) (life : Life) (v : Locks) → Acquired g l c life v → taken_locks v ≤ taken_locks l + 1
-t_acquired g l c life v (AtOnce ino mode off w f) = t_grant l c life ino mode
-t_acquired g l c life v (InTurn ino mode w) = t_queue l c life ino mode
+t_acquired : (g : Bool) (l : Locks) (c : ClientId) (life : Life) (ino : ℕ) (mode : Mode) (v : Locks) → Acquired g l c life ino mode v → taken_locks v ≤ taken_locks l + 1
+t_acquired g l c life ino mode v (AtOnce off w f nobody) = t_grant l c life ino mode
+t_acquired g l c life ino mode v (InTurn w) = t_queue l c life ino mode
 
 -- thefts take none
 steal_taken : (t : Turn) (c : ClientId) (o : Option Session) → taken_locks (steal_at t c o).state.locks ≤ taken_locks t.state.locks
@@ -147,22 +147,22 @@ pub record TakenTurn (n : ServerState) (t : Turn) : Type 0 where
 
 taken_edit : (n : ServerState) (now : Stamp) (i : ServerInput) (t u : Turn) → Edit n now i t u → TakenTurn n t → TakenTurn n u
 unfolding steal_from suspect_client keep_and_reply reply tell
-taken_edit n now i t u (TakesTimers _) o = record { one = o.one; paid = o.paid }
+taken_edit n now i t u (TakesTimers _ first) o = record { one = o.one; paid = o.paid }
 taken_edit n now i t u (Steals _ c s h e) o = let z = t_forget t.state.locks c in let y = sent_more t.out (outputs.Note (notes.Stolen c s.life)) in record { one = let a = o.one in omega arith; paid = let a = o.paid in omega arith }
 taken_edit n now i t u (Suspects _ c s f q) o = let z = t_drop t.state.locks c in let y = sent_more t.out (outputs.Note (notes.Suspected c now)) in record { one = let a = o.one in omega arith; paid = let a = o.paid in omega arith }
 taken_edit n now i t u (Begins _ c life) o = record { one = o.one; paid = o.paid }
-taken_edit n now i t u (DropsWaits _ c) o = let z = t_drop t.state.locks c in record { one = let a = o.one in omega arith; paid = let a = o.paid in omega arith }
+taken_edit n now i t u (DropsWaits _ m s is b e lower) o = let z = t_drop t.state.locks (sender m.header) in record { one = let a = o.one in omega arith; paid = let a = o.paid in omega arith }
 taken_edit n now i t u (Keeps _ c number b e) o = record { one = o.one; paid = o.paid }
 taken_edit n now i t u (Reasserts _ m rows is w g f) o = let z = t_rows t.state.locks (sender m.header) (life_in m.header) rows in record { one = let a = o.one in omega arith; paid = let a = o.paid in omega arith }
-taken_edit n now i t u (Sees _ c ino g) o = let z = t_seen t.state.locks c ino g in record { one = let a = o.one in omega arith; paid = let a = o.paid in omega arith }
-taken_edit n now i t u (Acquires _ m l b is fi hs ok k a) o =
-    let z = t_acquired _ t.state.locks (sender m.header) (life_in m.header) l a in
+taken_edit n now i t u (Sees _ m ino g is fi b) o = let z = t_seen t.state.locks (sender m.header) ino g in record { one = let a = o.one in omega arith; paid = let a = o.paid in omega arith }
+taken_edit n now i t u (Acquires _ m ino mode l b s is fi eb es el ok k a) o =
+    let z = t_acquired _ t.state.locks (sender m.header) (life_in m.header) ino mode l a in
     let f = subst (λ (t : Turn). taken_locks t.state.locks ≤ taken_locks n.locks) (sym fi) (thefts_taken n now) in
     record { one = within_one _ _ _ z f; paid = paid_for _ _ _ _ _ z o.paid (sent_send t.out _) }
-taken_edit n now i t u (Releases _ c ino to) o = let z = t_release t.state.locks c ino to in record { one = let a = o.one in omega arith; paid = let a = o.paid in omega arith }
-taken_edit n now i t u (DropsFile _ ino) o = let z = t_file t.state.locks ino in record { one = let a = o.one in omega arith; paid = let a = o.paid in omega arith }
-taken_edit n now i t u (Grants _ w off h f) o = let z = t_waiter t.state.locks w h in record { one = let a = o.one in omega arith; paid = let a = o.paid in omega arith }
-taken_edit n now i t u (Demands _ r x) o = record { one = o.one; paid = o.paid }
+taken_edit n now i t u (Releases _ m ino g to r is fi b er eu) o = let z = t_release t.state.locks (sender m.header) ino to in record { one = let a = o.one in omega arith; paid = let a = o.paid in omega arith }
+taken_edit n now i t u (DropsFile _ m dir name g ino is b e) o = let z = t_file t.state.locks ino in record { one = let a = o.one in omega arith; paid = let a = o.paid in omega arith }
+taken_edit n now i t u (Grants _ w off h first f) o = let z = t_waiter t.state.locks w h in record { one = let a = o.one in omega arith; paid = let a = o.paid in omega arith }
+taken_edit n now i t u (Demands _ r x to er ed) o = record { one = o.one; paid = o.paid }
 taken_edit n now i t u (NamesChange _ v) o = record { one = o.one; paid = o.paid }
 taken_edit n now i t u (ExtentsChange _ v) o = record { one = o.one; paid = o.paid }
 taken_edit n now i t u (Cuts _ f p) o = let y = sent_more t.out (outputs.Note (notes.CutDone f p)) in record { one = o.one; paid = let a = o.paid in omega arith }

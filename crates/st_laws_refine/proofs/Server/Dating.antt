@@ -309,19 +309,19 @@ module _ (w : World) (s : ℕ) (n : ServerState) (now : Stamp) (i : ServerInput)
 
   pub dating_edit : (t u : Turn) → Edit n now i t u → D t → D u
   unfolding keep_and_reply tell
-  dating_edit t u (TakesTimers _) d = taken_out t d
+  dating_edit t u (TakesTimers _ first) d = taken_out t d
   dating_edit t u (Steals _ c x h e) d = stolen t c x d
   dating_edit t u (Suspects _ c q f z) d = starts_timer t c q f d
   dating_edit t u (Begins _ c life) d = same_parts t _ refl refl d
-  dating_edit t u (DropsWaits _ c) d = same_parts t _ refl refl d
+  dating_edit t u (DropsWaits _ m s is b e lower) d = same_parts t _ refl refl d
   dating_edit t u (Keeps _ c number b e) d = same_parts t _ refl refl d
   dating_edit t u (Reasserts _ m rows is wi g f) d = same_parts t _ refl refl d
-  dating_edit t u (Sees _ c ino g) d = same_parts t _ refl refl d
-  dating_edit t u (Acquires _ m l b is fi hs ok k a) d = replied t _ m b refl refl is ok.request ok.free d
-  dating_edit t u (Releases _ c ino to) d = same_parts t _ refl refl d
-  dating_edit t u (DropsFile _ ino) d = same_parts t _ refl refl d
-  dating_edit t u (Grants _ wt off h f) d = same_parts t _ refl refl d
-  dating_edit t u (Demands _ r x) d = same_parts t _ refl refl d
+  dating_edit t u (Sees _ m ino g is fi b) d = same_parts t _ refl refl d
+  dating_edit t u (Acquires _ m ino mode l b s is fi eb es el ok k a) d = replied t _ m b refl refl is ok.request ok.free d
+  dating_edit t u (Releases _ m ino g to r is fi b er eu) d = same_parts t _ refl refl d
+  dating_edit t u (DropsFile _ m dir name g ino is b e) d = same_parts t _ refl refl d
+  dating_edit t u (Grants _ wt off h first f) d = same_parts t _ refl refl d
+  dating_edit t u (Demands _ r x to er ed) d = same_parts t _ refl refl d
   dating_edit t u (NamesChange _ v) d = same_parts t _ refl refl d
   dating_edit t u (ExtentsChange _ v) d = same_parts t _ refl refl d
   dating_edit t u (Cuts _ f p) d = said t (outputs.Note (notes.CutDone f p)) refl (λ m e. cc) d

@@ -137,9 +137,9 @@ k_queue t l c life ino mode h k = at (wait_of l c ino)
           subst (λ (y : Waiter). There t y.client) (sym m.2) (cond_either (λ (y : Waiter). There t y.client) (is_wait_of c ino m.0) (wait_for mode m.0) m.0 (λ e. k.waits m.0 m.1) (λ e. k.waits m.0 m.1));
     }
 
-k_acquired : (t : Sessions) (g : Bool) (l : Locks) (c : ClientId) (life : Life) (v : Locks) → There t c → Acquired g l c life v → TableKnown t l → TableKnown t v
-k_acquired t g l c life v h (AtOnce ino mode off w f) k = k_grant t l c life ino mode h k
-k_acquired t g l c life v h (InTurn ino mode w) k = k_queue t l c life ino mode h k
+k_acquired : (t : Sessions) (g : Bool) (l : Locks) (c : ClientId) (life : Life) (ino : ℕ) (mode : Mode) (v : Locks) → There t c → Acquired g l c life ino mode v → TableKnown t l → TableKnown t v
+k_acquired t g l c life ino mode v h (AtOnce off w f nobody) k = k_grant t l c life ino mode h k
+k_acquired t g l c life ino mode v h (InTurn w) k = k_queue t l c life ino mode h k
 
 k_rows : (t : Sessions) (l : Locks) (c : ClientId) (life : Life) (rs : List (ℕ × GrantNo × Mode)) → There t c → TableKnown t l → TableKnown t (with_rows l c life rs)
 unfolding with_rows
@@ -180,7 +180,7 @@ timer_less a now x h = (has_filter _ a.suspects x h).0
 
 known_edit : (n : ServerState) (now : Stamp) (i : ServerInput) (t u : Turn) → Edit n now i t u → KnownTurn t → KnownTurn u
 unfolding steal_from suspect_client keep_and_reply reply tell sessions.reasserted
-known_edit n now i t u (TakesTimers _) o = record { table = o.table; timers = λ x h. o.timers x (timer_less t.state.authority now x h) }
+known_edit n now i t u (TakesTimers _ first) o = record { table = o.table; timers = λ x h. o.timers x (timer_less t.state.authority now x h) }
 known_edit n now i t u (Steals _ c s h e) o =
     let m : (d : ClientId) → There t.state.sessions d → There (sessions.end t.state.sessions c) d = there_end t.state.sessions c in
     record { table = k_more t.state.sessions _ _ m (k_forget t.state.sessions t.state.locks c o.table); timers = λ x j. m x.client (o.timers x j) }
@@ -188,7 +188,7 @@ known_edit n now i t u (Suspects _ c q f z) o = record { table = k_drop t.state.
 known_edit n now i t u (Begins _ c life) o =
     let m : (d : ClientId) → There t.state.sessions d → There (sessions.with_new_session c life t.state.sessions) d = there_put t.state.sessions (sessions.new_session c life) in
     record { table = k_more t.state.sessions _ _ m o.table; timers = λ x j. m x.client (o.timers x j) }
-known_edit n now i t u (DropsWaits _ c) o = record { table = k_drop t.state.sessions t.state.locks c o.table; timers = o.timers }
+known_edit n now i t u (DropsWaits _ m s is b e lower) o = record { table = k_drop t.state.sessions t.state.locks (sender m.header) o.table; timers = o.timers }
 known_edit n now i t u (Keeps _ c number b e) o =
     let m : (d : ClientId) → There t.state.sessions d → There (sessions.store t.state.sessions c number b) d = there_store t.state.sessions c number b in
     record { table = k_more t.state.sessions _ _ m o.table; timers = λ x j. m x.client (o.timers x j) }
@@ -196,14 +196,14 @@ known_edit n now i t u (Reasserts _ m rows is w g f) o =
     let s = sessions.reasserted_session (sender m.header) (life_in m.header) in
     let mo : (d : ClientId) → There t.state.sessions d → There (sessions.with_session s t.state.sessions) d = there_put t.state.sessions s in
     record { table = k_rows _ t.state.locks (sender m.header) (life_in m.header) rows (there_own t.state.sessions s) (k_more t.state.sessions _ _ mo o.table); timers = λ x j. mo x.client (o.timers x j) }
-known_edit n now i t u (Sees _ c ino g) o = record { table = k_seen t.state.sessions t.state.locks c ino g o.table; timers = o.timers }
-known_edit n now i t u (Acquires _ m l b is fi hs ok k a) o =
+known_edit n now i t u (Sees _ m ino g is fi b) o = record { table = k_seen t.state.sessions t.state.locks (sender m.header) ino g o.table; timers = o.timers }
+known_edit n now i t u (Acquires _ m ino mode l b s is fi eb es el ok k a) o =
     let mo : (d : ClientId) → There t.state.sessions d → There (sessions.store t.state.sessions (sender m.header) m.header.number b) d = there_store t.state.sessions (sender m.header) m.header.number b in
-    record { table = k_more t.state.sessions _ _ mo (k_acquired t.state.sessions _ t.state.locks (sender m.header) (life_in m.header) l hs a o.table); timers = λ x j. mo x.client (o.timers x j) }
-known_edit n now i t u (Releases _ c ino to) o = record { table = k_released t.state.sessions t.state.locks c ino to o.table; timers = o.timers }
-known_edit n now i t u (DropsFile _ ino) o = record { table = k_file t.state.sessions t.state.locks ino o.table; timers = o.timers }
-known_edit n now i t u (Grants _ w off h f) o = record { table = k_grant t.state.sessions t.state.locks w.client w.life w.ino w.mode (o.table.waits w h) o.table; timers = o.timers }
-known_edit n now i t u (Demands _ r x) o = record { table = k_demanded t.state.sessions t.state.locks r x o.table; timers = o.timers }
+    record { table = k_more t.state.sessions _ _ mo (k_acquired t.state.sessions _ t.state.locks (sender m.header) (life_in m.header) ino mode l (ap is_some es) a o.table); timers = λ x j. mo x.client (o.timers x j) }
+known_edit n now i t u (Releases _ m ino g to r is fi b er eu) o = record { table = k_released t.state.sessions t.state.locks (sender m.header) ino to o.table; timers = o.timers }
+known_edit n now i t u (DropsFile _ m dir name g ino is b e) o = record { table = k_file t.state.sessions t.state.locks ino o.table; timers = o.timers }
+known_edit n now i t u (Grants _ w off h first f) o = record { table = k_grant t.state.sessions t.state.locks w.client w.life w.ino w.mode (o.table.waits w h) o.table; timers = o.timers }
+known_edit n now i t u (Demands _ r x to er ed) o = record { table = k_demanded t.state.sessions t.state.locks r x o.table; timers = o.timers }
 known_edit n now i t u (NamesChange _ v) o = record { table = o.table; timers = o.timers }
 known_edit n now i t u (ExtentsChange _ v) o = record { table = o.table; timers = o.timers }
 known_edit n now i t u (Cuts _ f p) o = record { table = o.table; timers = o.timers }

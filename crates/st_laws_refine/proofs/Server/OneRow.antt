@@ -125,9 +125,9 @@ granted_once l c life ino mode o = once_put same_row (is_row_of c ino) (new_row 
         let p = and_true _ _ e in
         ap (λ n. (z.client.0 == n) && (z.ino == ino)) (sym (eqb-true y.client.0 c.0 p.0)) ∙ ap (λ i. (z.client.0 == y.client.0) && (z.ino == i)) (sym (eqb-true y.ino ino p.1))
 
-pub acquired_once : (g : Bool) (l : Locks) (c : ClientId) (life : Life) (v : Locks) → Acquired g l c life v → OnceEach l → OnceEach v
-acquired_once g l c life v (AtOnce ino mode off w f) o = granted_once l c life ino mode o
-acquired_once g l c life v (InTurn ino mode w) o = queued_once l c life ino mode o
+pub acquired_once : (g : Bool) (l : Locks) (c : ClientId) (life : Life) (ino : ℕ) (mode : Mode) (v : Locks) → Acquired g l c life ino mode v → OnceEach l → OnceEach v
+acquired_once g l c life ino mode v (AtOnce off w f nobody) o = granted_once l c life ino mode o
+acquired_once g l c life ino mode v (InTurn w) o = queued_once l c life ino mode o
 
 -- rows that are installed where the client had none, each file once
 installed_rows : (c : ClientId) (life : Life) (rs : List (ℕ × GrantNo × Mode)) → are_once on_same_file rs ≡ true → are_once same_row (map (installed c life) rs) ≡ true

@@ -43,19 +43,19 @@ pub record Outs (s : ℕ) (kb : base.Config) (T : ClientId → Life → Type 0) 
 module _ (s : ℕ) (kb : base.Config) (T : ClientId → Life → Type 0) where
   pub outs_edit : (n : ServerState) (now : Stamp) (i : ServerInput) → ((c : ClientId) → Has c (authority.over n.authority now) → (life : Life) → T c life) → (t u : Turn) → Edit n now i t u → Outs s kb T t → Outs s kb T u
   unfolding steal_from suspect_client keep_and_reply reply tell
-  outs_edit n now i h t u (TakesTimers _) o = record { id = o.id; config = o.config; all = o.all }
+  outs_edit n now i h t u (TakesTimers _ first) o = record { id = o.id; config = o.config; all = o.all }
   outs_edit n now i h t u (Steals _ c x j e) o = record { id = o.id; config = o.config; all = all_append s T t.out _ o.all (h c j x.life) }
   outs_edit n now i h t u (Suspects _ c q f z) o = record { id = o.id; config = o.config; all = all_append s T t.out _ o.all tt }
   outs_edit n now i h t u (Begins _ c life) o = record { id = o.id; config = o.config; all = o.all }
-  outs_edit n now i h t u (DropsWaits _ c) o = record { id = o.id; config = o.config; all = o.all }
+  outs_edit n now i h t u (DropsWaits _ m s is b e lower) o = record { id = o.id; config = o.config; all = o.all }
   outs_edit n now i h t u (Keeps _ c number b e) o = record { id = o.id; config = o.config; all = o.all }
   outs_edit n now i h t u (Reasserts _ m rows is w g f) o = record { id = o.id; config = o.config; all = o.all }
-  outs_edit n now i h t u (Sees _ c ino g) o = record { id = o.id; config = o.config; all = o.all }
-  outs_edit n now i h t u (Acquires _ m l b is fi hs ok k a) o = record { id = o.id; config = o.config; all = all_append s T t.out _ o.all (ap (λ n. 32768 + n) o.id) }
-  outs_edit n now i h t u (Releases _ c ino to) o = record { id = o.id; config = o.config; all = o.all }
-  outs_edit n now i h t u (DropsFile _ ino) o = record { id = o.id; config = o.config; all = o.all }
-  outs_edit n now i h t u (Grants _ w off x f) o = record { id = o.id; config = o.config; all = o.all }
-  outs_edit n now i h t u (Demands _ r x) o = record { id = o.id; config = o.config; all = o.all }
+  outs_edit n now i h t u (Sees _ m ino g is fi b) o = record { id = o.id; config = o.config; all = o.all }
+  outs_edit n now i h t u (Acquires _ m ino mode l b y is fi eb es el ok k a) o = record { id = o.id; config = o.config; all = all_append s T t.out _ o.all (ap (λ n. 32768 + n) o.id) }
+  outs_edit n now i h t u (Releases _ m ino g to r is fi b er eu) o = record { id = o.id; config = o.config; all = o.all }
+  outs_edit n now i h t u (DropsFile _ m dir name g ino is b e) o = record { id = o.id; config = o.config; all = o.all }
+  outs_edit n now i h t u (Grants _ w off x first f) o = record { id = o.id; config = o.config; all = o.all }
+  outs_edit n now i h t u (Demands _ r x to er ed) o = record { id = o.id; config = o.config; all = o.all }
   outs_edit n now i h t u (NamesChange _ v) o = record { id = o.id; config = o.config; all = o.all }
   outs_edit n now i h t u (ExtentsChange _ v) o = record { id = o.id; config = o.config; all = o.all }
   outs_edit n now i h t u (Cuts _ f q) o = record { id = o.id; config = o.config; all = all_append s T t.out _ o.all tt }

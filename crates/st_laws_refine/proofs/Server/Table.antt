@@ -36,25 +36,25 @@ pub record Closed (P : Locks → Type 0) : Type 0 where
   pub demanded : (l : Locks) (r : LockRow) (x : RowDemand) → P l → P (with_demand r x l)
 
 module _ (P : Locks → Type 0) (k : Closed P) where
-  acquired : (g : Bool) (l : Locks) (c : ClientId) (life : Life) (v : Locks) → Acquired g l c life v → P l → P v
-  acquired g l c life v (AtOnce ino mode off w f) p = k.granted l c life ino mode (inl w) f p
-  acquired g l c life v (InTurn ino mode w) p = k.queued l c life ino mode w p
+  acquired : (g : Bool) (l : Locks) (c : ClientId) (life : Life) (ino : ℕ) (mode : Mode) (v : Locks) → Acquired g l c life ino mode v → P l → P v
+  acquired g l c life ino mode v (AtOnce off w f nobody) p = k.granted l c life ino mode (inl w) f p
+  acquired g l c life ino mode v (InTurn w) p = k.queued l c life ino mode w p
 
   pub table_edit : (n : ServerState) (now : Stamp) (i : ServerInput) (t u : Turn) → Edit n now i t u → P t.state.locks → P u.state.locks
   unfolding steal_from suspect_client keep_and_reply reply tell
-  table_edit n now i t u (TakesTimers _) p = p
+  table_edit n now i t u (TakesTimers _ first) p = p
   table_edit n now i t u (Steals _ c s h e) p = k.forget t.state.locks c p
   table_edit n now i t u (Suspects _ c q f z) p = k.drop t.state.locks c p
   table_edit n now i t u (Begins _ c life) p = p
-  table_edit n now i t u (DropsWaits _ c) p = k.drop t.state.locks c p
+  table_edit n now i t u (DropsWaits _ m s is b e lower) p = k.drop t.state.locks (sender m.header) p
   table_edit n now i t u (Keeps _ c number b e) p = p
   table_edit n now i t u (Reasserts _ m rows is w g f) p = k.install t.state.locks (sender m.header) (life_in m.header) rows w f p
-  table_edit n now i t u (Sees _ c ino g) p = k.seen t.state.locks c ino g p
-  table_edit n now i t u (Acquires _ m l b is fi hs ok kb a) p = acquired _ t.state.locks (sender m.header) (life_in m.header) l a p
-  table_edit n now i t u (Releases _ c ino to) p = k.released t.state.locks c ino to p
-  table_edit n now i t u (DropsFile _ ino) p = k.drop_file t.state.locks ino p
-  table_edit n now i t u (Grants _ w off h f) p = k.granted t.state.locks w.client w.life w.ino w.mode (inr (w, h, refl)) f p
-  table_edit n now i t u (Demands _ r x) p = k.demanded t.state.locks r x p
+  table_edit n now i t u (Sees _ m ino g is fi b) p = k.seen t.state.locks (sender m.header) ino g p
+  table_edit n now i t u (Acquires _ m ino mode l b s is fi eb es el ok kb a) p = acquired _ t.state.locks (sender m.header) (life_in m.header) ino mode l a p
+  table_edit n now i t u (Releases _ m ino g to r is fi b er eu) p = k.released t.state.locks (sender m.header) ino to p
+  table_edit n now i t u (DropsFile _ m dir name g ino is b e) p = k.drop_file t.state.locks ino p
+  table_edit n now i t u (Grants _ w off h first f) p = k.granted t.state.locks w.client w.life w.ino w.mode (inr (w, h, refl)) f p
+  table_edit n now i t u (Demands _ r x to er ed) p = k.demanded t.state.locks r x p
   table_edit n now i t u (NamesChange _ v) p = p
   table_edit n now i t u (ExtentsChange _ v) p = p
   table_edit n now i t u (Cuts _ f q) p = p

@@ -1,6 +1,6 @@
 -- A server's step, as changes one after another: what each of them leaves, and what the rule that makes it has found. What
 -- each change keeps, a whole step keeps.
-use Rattle.std.specs.Prelude.{◌≡◌, ℕ, ◌≤◌, ◌⊎◌, Bool, true, false, not, List, [], ◌∷◌, Some, None, Err, is_some}
+use Rattle.std.specs.Prelude.{◌≡◌, ℕ, ◌≤◌, ◌<◌, ◌⊎◌, Bool, true, false, not, List, [], ◌∷◌, find, Some, None, Ok, Err, is_some}
 use Rattle.std.specs.List.{list_any}
 use Rattle.st_base.specs.declared.ids.ClientId.{ClientId}
 use Rattle.st_base.specs.declared.ids.FileId.{FileId}
@@ -13,6 +13,7 @@ use Rattle.st_base.specs.Mode.{number_of}
 use Rattle.st_messages.specs.declared.message.Message.{Message}
 use Rattle.st_messages.specs.declared.message.Body.{Body}
 use Rattle.st_messages.specs.declared.message.Body.TheVariants as bodies
+use Rattle.st_messages.specs.declared.message.NameOp.TheVariants.{Remove}
 use Rattle.st_messages.specs.declared.output.Note.TheVariants as notes
 use Rattle.st_messages.specs.declared.output.Output.{Output}
 use Rattle.st_messages.specs.declared.output.Output.TheVariants as outputs
@@ -25,14 +26,15 @@ use Rattle.st_rules.specs.declared.authority.AcceptRefusal.{AcceptRefusal}
 use Rattle.st_rules.specs.declared.sessions.Session.{Session}
 use Rattle.st_rules.specs.declared.sessions.SessionState.TheVariants.{Live}
 use Rattle.st_rules.specs.Locks as locks
-use Rattle.st_rules.specs.Locks.{Locks, stands_against, first_conflict, with_rows, grant, queue, release_to, with_demand}
+use Rattle.st_rules.specs.Locks.{Locks, demand_now, is_under, is_wait_on, row_of, stands_against, waits_besides, first_conflict, with_rows, grant, queue, release_to, with_demand}
 use Rattle.st_rules.specs.Sessions as sessions
 use Rattle.st_rules.specs.Authority as authority
 use Rattle.st_rules.specs.Grace as grace
 use Rattle.st_rules.specs.Keys.{server_node}
 use Rattle.st_rules.specs.Extents.{Extents}
+use Rattle.st_rules.specs.Names as names
 use Rattle.st_rules.specs.Names.{Names}
-use Rattle.st_rules.specs.Server.{ServerState, Turn, turn, with_sessions, with_locks, with_authority, with_names, with_extents, note, reply, tell, sender, life_in, thefts, steal_from, suspect_client, keep_and_reply, refused_reassertion, is_client_node}
+use Rattle.st_rules.specs.Server.{ServerState, Turn, turn, with_sessions, with_locks, with_authority, with_names, with_extents, note, reply, tell, sender, life_in, thefts, steal_from, suspect_client, keep_and_reply, refused_reassertion, is_client_node, is_tick}
 use Rattle.st_rules.specs.Dating.{refuses_client, is_request, may_date}
 use Rattle.st_rules.specs.Safety.{is_conflict}
 use Rattle.st_lemmas.specs.Lists.{Has}
@@ -79,11 +81,12 @@ pub record ReplyOk (s : ServerState) (m : Message) (b : Body) : Type 0 where
   pub free : may_date m.header.number b ≡ true → authority.may_ack s.authority (sender m.header) ≡ true
   pub request : is_request m.body ≡ true
 
--- What an acquired lock makes of the table: outside grace a grant that no row stands against, or a wait.
-pub data Acquired (graced : Bool) (l : Locks) (c : ClientId) (life : Life) : Locks → Type 0 where
-  AtOnce : (ino : ℕ) (mode : Mode) → graced ≡ false → 1 ≤ number_of mode → list_any (stands_against c ino mode) l.rows ≡ false →
-      Acquired graced l c life (grant l c life ino mode)
-  InTurn : (ino : ℕ) (mode : Mode) → 1 ≤ number_of mode → Acquired graced l c life (queue l c life ino mode)
+-- What an acquired lock makes of the table: outside grace a grant where no row stands against it and nobody else waits, or a wait.
+pub data Acquired (graced : Bool) (l : Locks) (c : ClientId) (life : Life) (ino : ℕ) (mode : Mode) : Locks → Type 0 where
+  AtOnce : graced ≡ false → 1 ≤ number_of mode → list_any (stands_against c ino mode) l.rows ≡ false →
+      list_any (waits_besides c ino) l.waiters ≡ false →
+      Acquired graced l c life ino mode (grant l c life ino mode)
+  InTurn : 1 ≤ number_of mode → Acquired graced l c life ino mode (queue l c life ino mode)
 
 -- A reassertion of a new life, in grace and right after the thefts.
 pub record InGrace (n : ServerState) (now : Stamp) (t : Turn) (m : Message) (rows : List (ℕ × GrantNo × Mode)) : Type 0 where
@@ -98,7 +101,7 @@ pub record InGrace (n : ServerState) (now : Stamp) (t : Turn) (m : Message) (row
 -- One change of a step that began in the state n, at a moment and with an input.
 pub data Edit (n : ServerState) (now : Stamp) (i : ServerInput) : Turn → Turn → Type 0 where
   -- the timers that are over are taken out, and their clients' locks are stolen
-  TakesTimers : (t : Turn) → Edit n now i t (with_authority (authority.still_running t.state.authority now) t)
+  TakesTimers : (t : Turn) → t ≡ turn n [] → Edit n now i t (with_authority (authority.still_running t.state.authority now) t)
   Steals : (t : Turn) (c : ClientId) (s : Session) → Has c (authority.over n.authority now) → sessions.session_of t.state.sessions c ≡ Some s →
       Edit n now i t (steal_from t c s)
   -- a client's timer starts
@@ -106,8 +109,11 @@ pub data Edit (n : ServerState) (now : Stamp) (i : ServerInput) : Turn → Turn 
       Edit n now i t (suspect_client t now c)
   -- a session begins, loses its waits, keeps a reply
   Begins : (t : Turn) (c : ClientId) (life : Life) → Edit n now i t (with_sessions (sessions.with_new_session c life t.state.sessions) t)
-  DropsWaits : (t : Turn) (c : ClientId) → Edit n now i t (with_locks (locks.drop_waits t.state.locks c) t)
-  Keeps : (t : Turn) (c : ClientId) (number : ℕ) (b : Body) → is_kept b ≡ true → Edit n now i t (with_sessions (sessions.store t.state.sessions c number b) t)
+  DropsWaits : (t : Turn) (m : Message) (s : Session) → i ≡ Control m → m.body ≡ bodies.Hello →
+      sessions.session_of (thefts (turn n []) now).state.sessions (sender m.header) ≡ Some s → s.life.0 < m.header.life →
+      Edit n now i t (with_locks (locks.drop_waits t.state.locks (sender m.header)) t)
+  Keeps : (t : Turn) (c : ClientId) (number : ℕ) (b : Body) → is_kept b ≡ true →
+      Edit n now i t (with_sessions (sessions.store t.state.sessions c number b) t)
   -- a reassertion is accepted
   Reasserts : (t : Turn) (m : Message) (rows : List (ℕ × GrantNo × Mode)) → i ≡ Control m → AllSome rows → InGrace n now t m rows →
       first_conflict t.state.locks (sender m.header) rows ≡ None →
@@ -115,17 +121,27 @@ pub data Edit (n : ServerState) (now : Stamp) (i : ServerInput) : Turn → Turn 
       (with_sessions (sessions.reasserted t.state.sessions (sender m.header) (life_in m.header))
       (with_locks (with_rows t.state.locks (sender m.header) (life_in m.header) rows) t))
   -- the lock table
-  Sees : (t : Turn) (c : ClientId) (ino : ℕ) (g : GrantNo) → Edit n now i t (with_locks (locks.demand_seen t.state.locks c ino g) t)
-  Acquires : (t : Turn) (m : Message) (l : Locks) (b : Body) → i ≡ Control m → t ≡ thefts (turn n []) now →
-      is_some (sessions.session_of t.state.sessions (sender m.header)) ≡ true → ReplyOk t.state m b → is_kept b ≡ true →
-      Acquired (grace.is_on t.state.grace now) t.state.locks (sender m.header) (life_in m.header) l →
+  Sees : (t : Turn) (m : Message) (ino : ℕ) (g : GrantNo) → i ≡ Control m → t ≡ thefts (turn n []) now → m.body ≡ bodies.DemandSeen ino g →
+      Edit n now i t (with_locks (locks.demand_seen t.state.locks (sender m.header) ino g) t)
+  Acquires : (t : Turn) (m : Message) (ino : ℕ) (mode : Mode) (l : Locks) (b : Body) (s : Session) → i ≡ Control m → t ≡ thefts (turn n []) now →
+      m.body ≡ bodies.Acquire ino mode →
+      sessions.session_of t.state.sessions (sender m.header) ≡ Some s → s.life.0 ≡ m.header.life → ReplyOk t.state m b → is_kept b ≡ true →
+      Acquired (grace.is_on t.state.grace now) t.state.locks (sender m.header) (life_in m.header) ino mode l →
       Edit n now i t (keep_and_reply (with_locks l t) m.header b)
-  Releases : (t : Turn) (c : ClientId) (ino : ℕ) (to : Mode) → Edit n now i t (with_locks (release_to t.state.locks c ino to) t)
-  DropsFile : (t : Turn) (ino : ℕ) → Edit n now i t (with_locks (locks.drop_file_waits t.state.locks ino) t)
+  Releases : (t : Turn) (m : Message) (ino : ℕ) (g : GrantNo) (to : Mode) (r : LockRow) → i ≡ Control m → t ≡ thefts (turn n []) now →
+      m.body ≡ bodies.Released ino g to →
+      row_of t.state.locks (sender m.header) ino ≡ Some r → is_under (life_in m.header) g r ≡ true →
+      Edit n now i t (with_locks (release_to t.state.locks (sender m.header) ino to) t)
+  DropsFile : (t : Turn) (m : Message) (dir : ℕ) (name : List ℕ) (g : GrantNo) (ino : ℕ) → i ≡ Control m →
+      m.body ≡ bodies.Name (Remove dir name g) →
+      names.lookup (thefts (turn n []) now).state.stable.names dir name ≡ Ok ino →
+      Edit n now i t (with_locks (locks.drop_file_waits t.state.locks ino) t)
   Grants : (t : Turn) (w : Waiter) → grace.is_on t.state.grace now ≡ false → Has w t.state.locks.waiters →
+      find (is_wait_on w.ino) t.state.locks.waiters ≡ Some w →
       list_any (stands_against w.client w.ino w.mode) t.state.locks.rows ≡ false →
       Edit n now i t (with_locks (grant t.state.locks w.client w.life w.ino w.mode) t)
-  Demands : (t : Turn) (r : LockRow) (x : RowDemand) → Edit n now i t (with_locks (with_demand r x t.state.locks) t)
+  Demands : (t : Turn) (r : LockRow) (x : RowDemand) (to : Mode) → row_of t.state.locks r.client r.ino ≡ Some r →
+      demand_now t.state.config now (is_tick i) to r.demand ≡ Some x → Edit n now i t (with_locks (with_demand r x t.state.locks) t)
   -- names and pages
   NamesChange : (t : Turn) (v : Names) → Edit n now i t (with_names v t)
   ExtentsChange : (t : Turn) (v : Extents) → Edit n now i t (with_extents v t)
