@@ -1,6 +1,6 @@
 -- A state that agrees with a history.
 use Rattle.std.proofs.Common.{◌≡◌, ℕ, Bool, true, false, ◌&&◌, ◌||◌, ◌==◌, List, [], ◌∷◌, Some, None, refl, sym, ap, ◌∙◌}
-use Rattle.std.specs.Prelude.{find, is_some, is_none, length, Option, option_map, Result, Ok, Err}
+use Rattle.std.specs.Prelude.{find, is_some, is_none, length, Option, option_map, Result}
 use Rattle.st_base.specs.declared.ids.ClientId.{ClientId}
 use Rattle.st_base.specs.declared.ids.PageNo.{PageNo}
 use Rattle.st_base.specs.declared.disk.Command.{Command}
@@ -15,7 +15,7 @@ use Rattle.st_shared.specs.declared.refusal.SharedRefusal.{SharedRefusal}
 use Rattle.st_shared.specs.Calls.{state_after}
 use Rattle.st_shared.specs.History.{Call, Step, Issued, AnswersRight, AreApart, answer_of, effects, has_expired, has_lock, is_in, issued, last_write, told_by}
 use Rattle.st_shared.specs.Shared.{Shared, Answer, Refused, block_of, found_answer, is_expired, is_holder, is_member, member_of}
-use Rattle.st_shared.proofs.InAndOut.{nobody}
+use Rattle.st_shared.proofs.Owned.{is_owned}
 
 -- the page that a command is on
 abbrev pub page_of : Command → PageNo
@@ -59,7 +59,7 @@ abbrev pub told_at : Option DiskCommand → Option Answer
 told_at None = None
 told_at (Some d) = told_with d.effected d.sample
 
--- who is in, who has the lock, whose each command is and what it does, what had its effect, and what pages have
+-- who is in, who has the lock, whose each command is and what it does, that its client is in, what had its effect, and what pages have
 pub record Agrees (s : Shared) (past : List Step) : Type 0 where
   pub inside : (c : ClientId) → is_some (member_of s c) ≡ is_in c past
   pub locked : (c : ClientId) → is_holder s.holder c ≡ has_lock c past
@@ -70,6 +70,7 @@ pub record Agrees (s : Shared) (past : List Step) : Type 0 where
   pub expired : (n : ℕ) → is_expired (numbered s.issuers n) ≡ has_expired n past
   pub unsampled : (n : ℕ) → is_unsampled (numbered s.disk.commands n) ≡ true
   pub placed : (n : ℕ) → is_placed (numbered s.disk.commands n) ≡ true
+  pub owned : (n : ℕ) → is_owned s.members (numbered s.issuers n) (numbered s.disk.commands n) ≡ true
   pub told : (n : ℕ) → told_at (numbered s.disk.commands n) ≡ told_by n (effects past)
   pub pages : (page : PageNo) → (block s.disk (block_of page)).bytes ≡ last_write page (effects past)
 
@@ -84,7 +85,7 @@ pub record Keeps (s : Shared) (past : List Step) (call : Call) (r : Result Share
 
 -- a refused call changes nothing
 pub refused : (s : Shared) (past : List Step) (call : Call) (r : SharedRefusal) → Agrees s past → Agrees s (record { call = call; answer = Refused r } ∷ past)
-refused s past call r k = record { inside = k.inside; locked = k.locked; apart = k.apart; each = k.each; clients = k.clients; whats = k.whats; expired = k.expired; unsampled = k.unsampled; placed = k.placed; told = k.told; pages = k.pages }
+refused s past call r k = record { inside = k.inside; locked = k.locked; apart = k.apart; each = k.each; clients = k.clients; whats = k.whats; expired = k.expired; unsampled = k.unsampled; placed = k.placed; owned = k.owned; told = k.told; pages = k.pages }
 
 -- while a client is in no client has the lock
 pub are_apart : (s : Shared) (past : List Step) → Agrees s past → AreApart past

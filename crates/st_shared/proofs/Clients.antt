@@ -1,6 +1,6 @@
 -- Entering, leaving, locking, unlocking, crashing and expiring keep that a state agrees with its history.
-use Rattle.std.proofs.Common.{◌≡◌, ℕ, Bool, true, false, not, ◌&&◌, ◌||◌, List, [], ◌∷◌, ◌++◌, Some, None, refl, sym, ap, ◌∙◌, if◌then◌else◌}
-use Rattle.std.specs.Prelude.{find, is_some, length, map, Option, option_map, Result, Ok, Err}
+use Rattle.std.proofs.Common.{◌≡◌, ℕ, Bool, true, false, not, ◌&&◌, ◌||◌, List, [], ◌∷◌, Some, None, refl, sym, ap, ◌∙◌, if◌then◌else◌}
+use Rattle.std.specs.Prelude.{is_some, map, Option, option_map, Result, Ok, Err}
 use Rattle.st_base.specs.declared.ids.ClientId.{ClientId}
 use Rattle.st_rules.specs.Keys.{same_client}
 use Rattle.st_rules.specs.World.{numbered}
@@ -8,12 +8,13 @@ use Rattle.st_shared.specs.declared.issuers.Issuer.{Issuer}
 use Rattle.st_shared.specs.declared.members.Member.{Member}
 use Rattle.st_shared.specs.declared.refusal.SharedRefusal.{SharedRefusal}
 use Rattle.st_shared.specs.declared.refusal.SharedRefusal.TheVariants.{Held, NotIn, Busy, SharedBy, Stopped, NotStopped, NoLock}
-use Rattle.st_shared.specs.History.{Call, Step, Enter, Leave, Lock, Unlock, Crash, Expire, Issued, has_expired, has_lock, is_in, is_issued_by, issued}
+use Rattle.st_shared.specs.History.{Call, Step, Enter, Leave, Lock, Unlock, Crash, Expire, Issued, has_expired, is_in, is_issued_by, issued}
 use Rattle.st_shared.specs.Shared as rules
 use Rattle.st_shared.specs.Shared.{Shared, Done, busy, check_running, checked, crashed, enter_unlocked, entered, expire_issuer, expired, is_expired, is_holder, is_member, is_stopped, leave_idle, least_member, left, lock_alone, lock_free, locked, member_of, stop_issuer, stop_member, unlocked, without_member}
 use Rattle.st_shared.proofs.Agreeing.{Agrees, Keeps, client_of_issued, client_of_issuer, refused}
-use Rattle.st_shared.proofs.InAndOut.{flip_client, in_entered, in_left, in_stopped, is_client, nobody}
+use Rattle.st_shared.proofs.InAndOut.{in_entered, in_left, in_stopped, is_client, nobody}
 use Rattle.st_shared.proofs.Numbered.{length_map, numbered_map}
+use Rattle.st_shared.proofs.Owned.{owned_crashed, owned_entered, owned_expired, owned_left}
 
 -- a refusal to enter
 out : (s : Shared) (past : List Step) (c : ClientId) (r : SharedRefusal) → Agrees s past → Keeps s past (Enter c) (Err r)
@@ -40,6 +41,7 @@ entered_keeps s past c None free e k = record {
   expired = k.expired;
   unsampled = k.unsampled;
   placed = k.placed;
+  owned = λ n. owned_entered s.members c (numbered s.issuers n) (numbered s.disk.commands n) (k.owned n);
   told = k.told;
   pages = k.pages;
 }
@@ -53,6 +55,7 @@ entered_keeps s past c (Some m) free e k = record {
   expired = k.expired;
   unsampled = k.unsampled;
   placed = k.placed;
+  owned = k.owned;
   told = k.told;
   pages = k.pages;
 }
@@ -84,9 +87,9 @@ running_keeps s past call rule c (Some m) refuses keeps = go m.running
     go false = refuses (Stopped c)
 
 -- Leaving.
-left_keeps : (s : Shared) (past : List Step) (c : ClientId) → Agrees s past → Agrees (left s c) (record { call = Leave c; answer = Done } ∷ past)
+left_keeps : (s : Shared) (past : List Step) (c : ClientId) → busy s c ≡ None → Agrees s past → Agrees (left s c) (record { call = Leave c; answer = Done } ∷ past)
 unfolding left
-left_keeps s past c k = record {
+left_keeps s past c idle k = record {
   inside = λ d. in_left s.members c d ∙ ap (λ b. not (same_client c d) && b) (k.inside d);
   locked = k.locked;
   apart = λ holder q. ap (without_member c) (k.apart holder q);
@@ -96,6 +99,7 @@ left_keeps s past c k = record {
   expired = k.expired;
   unsampled = k.unsampled;
   placed = k.placed;
+  owned = λ n. owned_left s c n idle (k.owned n);
   told = k.told;
   pages = k.pages;
 }
@@ -103,11 +107,11 @@ left_keeps s past c k = record {
 pub leave_keeps : (s : Shared) (past : List Step) (c : ClientId) → Agrees s past → Keeps s past (Leave c) (rules.leave s c)
 unfolding rules.leave leave_idle
 leave_keeps s past c k =
-    running_keeps s past (Leave c) (leave_idle s c (busy s c)) c (member_of s c) (λ r. record { agrees = refused s past (Leave c) r k; right = tt }) (go (busy s c))
+    running_keeps s past (Leave c) (leave_idle s c (busy s c)) c (member_of s c) (λ r. record { agrees = refused s past (Leave c) r k; right = tt }) (go (busy s c) refl)
   where
-    go : (o : Option ℕ) → Keeps s past (Leave c) (leave_idle s c o)
-    go None = record { agrees = left_keeps s past c k; right = tt }
-    go (Some n) = record { agrees = refused s past (Leave c) (Busy n) k; right = tt }
+    go : (o : Option ℕ) → busy s c ≡ o → Keeps s past (Leave c) (leave_idle s c o)
+    go None idle = record { agrees = left_keeps s past c idle k; right = tt }
+    go (Some n) e = record { agrees = refused s past (Leave c) (Busy n) k; right = tt }
 
 -- Locking.
 locked_keeps : (s : Shared) (past : List Step) (c : ClientId) → s.members ≡ [] → s.holder ≡ None → Agrees s past → Agrees (locked s c) (record { call = Lock c; answer = Done } ∷ past)
@@ -122,6 +126,7 @@ locked_keeps s past c alone free k = record {
   expired = k.expired;
   unsampled = k.unsampled;
   placed = k.placed;
+  owned = k.owned;
   told = k.told;
   pages = k.pages;
 }
@@ -141,6 +146,7 @@ holds_on s past c h e q k = record {
   expired = k.expired;
   unsampled = k.unsampled;
   placed = k.placed;
+  owned = k.owned;
   told = k.told;
   pages = k.pages;
 }
@@ -189,6 +195,7 @@ unlocked_keeps s past c (Some h) e q k = record {
   expired = k.expired;
   unsampled = k.unsampled;
   placed = k.placed;
+  owned = k.owned;
   told = k.told;
   pages = k.pages;
 }
@@ -234,6 +241,7 @@ crashed_keeps s past c k = record {
   expired = λ n. ap is_expired (numbered_map (stop_issuer c) s.issuers n) ∙ expired_stopped c (numbered s.issuers n) ∙ k.expired n;
   unsampled = k.unsampled;
   placed = k.placed;
+  owned = λ n. owned_crashed s.members s.issuers c n (numbered s.disk.commands n) (k.owned n);
   told = k.told;
   pages = k.pages;
 }
@@ -285,6 +293,7 @@ expired_keeps s past c k = record {
       ∙ ap (λ b. b || has_expired n past) (sym (by_issued c (issued past n)));
   unsampled = k.unsampled;
   placed = k.placed;
+  owned = λ n. owned_expired s.members s.issuers c n (numbered s.disk.commands n) (k.owned n);
   told = k.told;
   pages = k.pages;
 }

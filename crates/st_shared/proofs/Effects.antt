@@ -1,11 +1,12 @@
 -- An effect keeps that a state agrees with its history, and comes in time.
-use Rattle.std.proofs.Common.{◌≡◌, ◌≢◌, ℕ, ◌⊎◌, Bool, true, false, ◌&&◌, ◌||◌, ◌==◌, List, [], ◌∷◌, Some, None, refl, sym, ap, ◌∙◌, subst, inl, inr, if◌then◌else◌}
-use Rattle.std.specs.Prelude.{find, is_none, length, pred, set, unwrap_or, Option, option_map, Result, Ok, Err}
+use Rattle.std.proofs.Common.{◌≡◌, ◌≢◌, ℕ, ◌⊎◌, Bool, true, false, ◌&&◌, ◌||◌, ◌==◌, List, ◌∷◌, Some, None, refl, sym, ap, ◌∙◌, inl, inr, if◌then◌else◌}
+use Rattle.std.specs.Prelude.{find, is_none, is_some, pred, unwrap_or, Option, option_map, Ok, Err}
 use Rattle.std.proofs.lemmas.Bool.{eqb-true, eq-eqb, ne_eqb}
 use Rattle.st_base.specs.declared.disk.BlockAt.{BlockAt}
 use Rattle.st_base.specs.declared.disk.Tag.{Tag}
 use Rattle.st_base.specs.declared.disk.Command.{Command}
 use Rattle.st_base.specs.declared.disk.Command.TheVariants as commands
+use Rattle.st_base.specs.declared.ids.ClientId.{ClientId}
 use Rattle.st_base.specs.declared.ids.PageNo.{PageNo}
 use Rattle.st_rules.specs.declared.disks.Block.{Block}
 use Rattle.st_rules.specs.declared.disks.Report.{Report}
@@ -21,13 +22,15 @@ use Rattle.st_lemmas.proofs.Numbers.{set_length}
 use Rattle.st_lemmas.proofs.Puts.{find_put, find_put_other}
 use Rattle.st_lemmas.proofs.Tables.{same_or_not}
 use Rattle.st_disk.specs.Calls.{as_told, place}
+use Rattle.st_shared.specs.declared.issuers.Issuer.{Issuer}
 use Rattle.st_shared.specs.declared.refusal.SharedRefusal.{SharedRefusal}
 use Rattle.st_shared.specs.declared.refusal.SharedRefusal.TheVariants.{Disk, Late}
-use Rattle.st_shared.specs.History.{Call, Step, Effect, Effected, Issued, effects, has_expired, issued, last_write, told_by, told_of, with_effect, written_over}
+use Rattle.st_shared.specs.History.{Step, Effect, Issued, effects, has_lock, issued, last_write, told_by, told_of, with_effect, written_over}
 use Rattle.st_shared.specs.Shared as rules
-use Rattle.st_shared.specs.Shared.{Shared, Answer, Done, Hard, Bytes, block_of, effect_timely, found_answer, is_expired, with_disk}
-use Rattle.st_shared.proofs.Agreeing.{Agrees, Keeps, is_placed, is_unsampled, page_of, refused, told_at, told_with, what_of_command, what_of_issued, writes_of}
+use Rattle.st_shared.specs.Shared.{Shared, Answer, Done, Hard, Bytes, block_of, effect_timely, found_answer, is_expired, is_holder, is_member, is_report_open, with_disk}
+use Rattle.st_shared.proofs.Agreeing.{Agrees, Keeps, client_of_issued, client_of_issuer, is_placed, is_unsampled, page_of, refused, told_at, told_with, what_of_command, what_of_issued, writes_of}
 use Rattle.st_shared.proofs.Numbered.{command_is, each_with, numbered_with, same_with}
+use Rattle.st_shared.proofs.Owned.{is_owned, owned_with, owner_in}
 
 -- The command of an effect, in the history.
 pub record Known (past : List Step) (n : ℕ) (d : DiskCommand) : Type 0 where
@@ -51,6 +54,7 @@ record Acts (s : Shared) (past : List Step) (n : ℕ) (d c : DiskCommand) (writt
   known : issued past n ≡ Some i
   what : c.what ≡ d.what
   marked : c.effected ≡ true
+  kept : c.report ≡ d.report
   told : found_answer c.sample ≡ told_of i.writes (last_write i.page (effects past))
   pages : (page : PageNo) → (unwrap_or (find (is_block_at (block_of page)) written) (fresh_block (block_of page))).bytes
       ≡ (if same_page i.page page then written_over i.writes (last_write page (effects past)) else last_write page (effects past))
@@ -70,6 +74,7 @@ acts_agree s past n d c written i a k = record {
   expired = k.expired;
   unsampled = each_with is_unsampled s.disk.commands n c d a.there (ap (λ b. b || is_none c.sample) a.marked) k.unsampled;
   placed = each_with is_placed s.disk.commands n c d a.there (ap (λ w. (place w).disk.0 == 1) a.what ∙ ap is_placed (sym a.there) ∙ k.placed n) k.placed;
+  owned = λ m. owned_with s.members (numbered s.issuers m) s.disk.commands n m c d a.there (λ q. ap is_report_open (sym a.kept) ∙ q) (k.owned m);
   told = λ m.
       ap told_at (numbered_with s.disk.commands n m c d a.there)
       ∙ by_told (n == m) m
@@ -93,6 +98,7 @@ read_acts s past n d at i e known what page writes placed k = record {
   known = known;
   what = refl;
   marked = refl;
+  kept = refl;
   told = ap Bytes (ap (λ a. (block s.disk a).bytes) placed ∙ k.pages (page_of (commands.Read at)) ∙ ap (λ p. last_write p (effects past)) (sym page))
       ∙ ap (λ w. told_of w (last_write i.page (effects past))) (sym writes);
   pages = λ q. k.pages q ∙ same (same_page i.page q) q ∙ ap (λ w. if same_page i.page q then written_over w (last_write q (effects past)) else last_write q (effects past)) (sym writes);
@@ -147,6 +153,7 @@ write_acts s past n d at tag bytes i e known what page writes placed empty k = r
   known = known;
   what = refl;
   marked = refl;
+  kept = refl;
   told = ap found_answer empty ∙ ap (λ w. told_of w (last_write i.page (effects past))) (sym writes);
   pages = λ q.
       put_pages s.disk.written (record { at = at; tag = tag; bytes = bytes }) (page_of (commands.Write at tag bytes)) q (last_write q (effects past)) placed (k.pages q)
@@ -173,6 +180,27 @@ timely_agrees s past n d (commands.Write at tag bytes) e fresh what k =
     empty None q = refl
     empty (Some b) q = cc
 
+-- Nobody has the lock row while a command may have its effect.
+unheld : (s : Shared) (past : List Step) (i : Issuer) → is_some (find (is_member i.client) s.members) ≡ true → Agrees s past → (c : ClientId) → has_lock c past ≡ false
+unheld s past i inside k c = sym (k.locked c) ∙ go s.holder refl
+  where
+    go : (h : Option ClientId) → s.holder ≡ h → is_holder h c ≡ false
+    go None e = refl
+    go (Some holder) e =
+        let z : false ≡ true = ap (λ ms. is_some (find (is_member i.client) ms)) (sym (k.apart holder e)) ∙ inside in cc
+
+unlocked : (s : Shared) (past : List Step) (n : ℕ) (d : DiskCommand) → numbered s.disk.commands n ≡ Some d → is_report_open d.report ≡ true → is_expired (numbered s.issuers n) ≡ false → Agrees s past →
+    (c : ClientId) → has_lock c past ≡ false
+unlocked s past n d e unreported timely k c = go (numbered s.issuers n) refl timely
+  where
+    go : (o : Option Issuer) → numbered s.issuers n ≡ o → is_expired o ≡ false → has_lock c past ≡ false
+    go None q f =
+        let i = known s past n d e k in
+        let z : None ≡ Some (client_of_issued i.issue) = ap (option_map client_of_issuer) (sym q) ∙ k.clients n ∙ ap (option_map client_of_issued) i.there in
+        cc
+    go (Some i) q f =
+        unheld s past i (owner_in s.members i (Some d) unreported f ((λ x. is_owned s.members (sym q x) (sym e x)) ∙ k.owned n)) k c
+
 pub effect_keeps : (s : Shared) (past : List Step) (n : ℕ) → Agrees s past → Keeps s past (Effect n) (rules.effect s n)
 unfolding rules.effect effect_timely disks.effect effect_at effect_reported effect_once
 effect_keeps s past n k = by_command (command s.disk n) refl
@@ -180,20 +208,23 @@ effect_keeps s past n k = by_command (command s.disk n) refl
     refuses : (r : SharedRefusal) → Keeps s past (Effect n) (Err r)
     refuses r = record { agrees = refused s past (Effect n) r k; right = tt }
 
-    by_late : (d : DiskCommand) (b : Bool) → numbered s.disk.commands n ≡ Some d → d.effected ≡ false → is_expired (numbered s.issuers n) ≡ b →
+    by_late : (d : DiskCommand) (b : Bool) → numbered s.disk.commands n ≡ Some d → d.report ≡ reports.Open → d.effected ≡ false → is_expired (numbered s.issuers n) ≡ b →
         Keeps s past (Effect n) (if b then Err (Late n) else Ok (with_disk s (effect_of s.disk n d d.what)))
-    by_late d true e f l = refuses (Late n)
-    by_late d false e f l = record { agrees = timely_agrees s past n d d.what e f refl k; right = sym (k.expired n) ∙ l }
+    by_late d true e u f l = refuses (Late n)
+    by_late d false e u f l = record {
+      agrees = timely_agrees s past n d d.what e f refl k;
+      right = record { client = sym (k.expired n) ∙ l; unlocked = unlocked s past n d e (ap is_report_open u) l k };
+    }
 
-    by_once : (d : DiskCommand) (b : Bool) → numbered s.disk.commands n ≡ Some d → d.effected ≡ b → Keeps s past (Effect n) (effect_timely s n (if b then Err (Twice n) else Ok (effect_of s.disk n d d.what)))
-    by_once d true e f = refuses (Disk (as_told (Twice n)))
-    by_once d false e f = by_late d (is_expired (numbered s.issuers n)) e f refl
+    by_once : (d : DiskCommand) (b : Bool) → numbered s.disk.commands n ≡ Some d → d.report ≡ reports.Open → d.effected ≡ b → Keeps s past (Effect n) (effect_timely s n (if b then Err (Twice n) else Ok (effect_of s.disk n d d.what)))
+    by_once d true e u f = refuses (Disk (as_told (Twice n)))
+    by_once d false e u f = by_late d (is_expired (numbered s.issuers n)) e u f refl
 
-    by_report : (d : DiskCommand) (r : Report) → numbered s.disk.commands n ≡ Some d → Keeps s past (Effect n) (effect_timely s n (effect_reported s.disk n d r))
-    by_report d reports.Open e = by_once d d.effected e refl
-    by_report d reports.Succeeded e = refuses (Disk (as_told (Reported n)))
-    by_report d reports.Failed e = refuses (Disk (as_told (Reported n)))
+    by_report : (d : DiskCommand) (r : Report) → numbered s.disk.commands n ≡ Some d → d.report ≡ r → Keeps s past (Effect n) (effect_timely s n (effect_reported s.disk n d r))
+    by_report d reports.Open e u = by_once d d.effected e u refl
+    by_report d reports.Succeeded e u = refuses (Disk (as_told (Reported n)))
+    by_report d reports.Failed e u = refuses (Disk (as_told (Reported n)))
 
     by_command : (o : Option DiskCommand) → command s.disk n ≡ o → Keeps s past (Effect n) (effect_timely s n (effect_at s.disk n o))
     by_command None e = refuses (Disk (as_told (NoCommand n)))
-    by_command (Some d) e = by_report d d.report (sym (command_is s.disk.commands n) ∙ e)
+    by_command (Some d) e = by_report d d.report (sym (command_is s.disk.commands n) ∙ e) refl

@@ -1,14 +1,15 @@
 -- Every history is right.
-use Rattle.std.proofs.Common.{◌≡◌, ℕ, List, [], ◌∷◌, Some, None, refl, ap, ◌∙◌}
-use Rattle.std.specs.Prelude.{option_map}
+use Rattle.std.proofs.Common.{◌≡◌, ℕ, List, [], ◌∷◌, refl, ap, subst}
+use Rattle.std.specs.Prelude.{length, option_map}
 use Rattle.st_rules.specs.World.{numbered}
-use Rattle.st_shared.specs.History.{Call, Enter, Leave, Lock, Unlock, Crash, Expire, Write, Read, Effect, Report, Step, Traced, AreRight, EveryHistoryIsRight, rule_of, trace}
+use Rattle.st_shared.specs.History.{Call, Enter, Leave, Lock, Unlock, Crash, Expire, Write, Read, Effect, Report, Step, Traced, AreRight, EveryHistoryIsRight, IsLedTo, rule_of, trace}
 use Rattle.st_shared.specs.Shared.{Shared, fresh_shared, is_expired}
 use Rattle.st_shared.proofs.Agreeing.{Agrees, Keeps, are_apart, client_of_issuer, is_placed, is_unsampled, step_of, told_at, what_of_command}
 use Rattle.st_shared.proofs.Clients.{enter_keeps, leave_keeps, lock_keeps, unlock_keeps, crash_keeps, expire_keeps}
 use Rattle.st_shared.proofs.Submitting.{write_keeps, read_keeps}
 use Rattle.st_shared.proofs.Effects.{effect_keeps}
 use Rattle.st_shared.proofs.Numbered.{none_numbered}
+use Rattle.st_shared.proofs.Owned.{is_owned}
 use Rattle.st_shared.proofs.Reports.{report_keeps}
 use Rattle.st_shared.specs.Calls.{state_after}
 
@@ -36,6 +37,7 @@ fresh_agrees blocks = record {
   expired = λ n. ap is_expired (none_numbered n);
   unsampled = λ n. ap is_unsampled (none_numbered n);
   placed = λ n. ap is_placed (none_numbered n);
+  owned = λ n. ap (λ o. is_owned [] o (numbered [] n)) (none_numbered n);
   told = λ n. ap told_at (none_numbered n);
   pages = λ page. refl;
 }
@@ -56,6 +58,10 @@ sound blocks (call ∷ earlier) =
       agrees = more.agrees;
       right = (record { answer = more.right; apart = are_apart (state_after t.state (rule_of t.state call)) (step_of call (rule_of t.state call) ∷ t.past) more.agrees }, k.right);
     }
+
+-- each command has an issuer
+pub each_issued : (s : Shared) → IsLedTo s → length s.issuers ≡ length s.disk.commands
+each_issued s k = subst (λ t. length t.issuers ≡ length t.disk.commands) k.state (sound k.blocks k.calls).agrees.each
 
 pub every_history : EveryHistoryIsRight
 every_history blocks calls = (sound blocks calls).right

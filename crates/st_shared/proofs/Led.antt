@@ -1,8 +1,8 @@
 -- Calls lead on.
-use Rattle.std.proofs.Common.{◌≡◌, ℕ, List, [], ◌∷◌, refl, sym, ap, ◌∙◌, subst}
-use Rattle.std.specs.Prelude.{Result, Ok, Err, length}
+use Rattle.std.proofs.Common.{◌≡◌, ℕ, [], ◌∷◌, refl, sym, ap, ◌∙◌, subst}
+use Rattle.std.specs.Prelude.{Result, Ok, Err}
 use Rattle.st_shared.specs.declared.refusal.SharedRefusal.{SharedRefusal}
-use Rattle.st_shared.specs.declared.refusal.SharedRefusal.TheVariants.{Held, NotIn, Busy, Late, SharedBy, Stopped, NotStopped, Disk, NoPage, NoLock, Memory}
+use Rattle.st_shared.specs.declared.refusal.SharedRefusal.TheVariants.{Memory}
 use Rattle.st_shared.specs.Calls.{Does, DoesOrLacks, Numbers, state_after}
 use Rattle.st_shared.specs.History.{Call, EveryHistoryIsRight, GoesOnRightly, IsLedRightly, IsLedTo, rule_of, trace}
 use Rattle.st_shared.specs.Shared.{Shared, fresh_shared}

@@ -1,5 +1,6 @@
 pub mod InAndOut
 pub mod Numbered
+pub mod Owned
 pub mod Agreeing
 pub mod Clients
 pub mod Submitting

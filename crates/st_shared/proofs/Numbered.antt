@@ -1,6 +1,6 @@
 -- What goes by a number from 1: after one more, a change of one, and a change of all.
-use Rattle.std.proofs.Common.{◌≡◌, ◌≢◌, ℕ, ◌<◌, ◌≤◌, ◌⊎◌, Bool, true, false, List, [], ◌∷◌, ◌++◌, ◌==◌, Some, None, refl, sym, ap, ◌∙◌, subst, inl, inr, arith, if◌then◌else◌}
-use Rattle.std.specs.Prelude.{zero, suc, length, map, option_map, Option, set, slice_get, pred}
+use Rattle.std.proofs.Common.{◌≡◌, ◌≢◌, ℕ, ◌⊎◌, Bool, true, false, List, [], ◌∷◌, ◌++◌, ◌==◌, Some, None, refl, sym, ap, ◌∙◌, subst, inl, inr, if◌then◌else◌}
+use Rattle.std.specs.Prelude.{zero, suc, length, map, option_map, Option, slice_get}
 use Rattle.std.proofs.lemmas.Bool.{eqb-true, eq-eqb, ne_eqb}
 use Rattle.st_rules.specs.Disks.{command_at}
 use Rattle.st_rules.specs.World.{numbered, with_numbered}

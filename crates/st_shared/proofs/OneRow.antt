@@ -1,5 +1,5 @@
 -- The lock table of the file: no row, or one exclusive row.
-use Rattle.std.proofs.Common.{◌≡◌, ℕ, ◌+◌, ◌<◌, ◌≤◌, Bool, true, false, not, ◌&&◌, ◌||◌, ◌==◌, List, [], ◌∷◌, Some, None, refl, sym, ap, ◌∙◌, subst, arith, if◌then◌else◌}
+use Rattle.std.proofs.Common.{◌≡◌, ℕ, ◌+◌, ◌<◌, ◌≤◌, Bool, true, false, not, ◌||◌, ◌==◌, List, [], ◌∷◌, Some, None, refl, sym, ap, ◌∙◌, subst, arith, if◌then◌else◌}
 use Rattle.std.specs.Prelude.{filter, Result, Ok, Err, is_ok}
 use Rattle.std.specs.Bool.{OnTrue, OnFalse}
 use Rattle.std.specs.List.{list_any}
@@ -17,7 +17,7 @@ use Rattle.st_locks.specs.Calls.{Answers, acquired}
 use Rattle.st_locks.specs.Since.{IsClient}
 use Rattle.st_locks.specs.declared.refusal.LockRefusal.{LockRefusal}
 use Rattle.st_locks.specs.declared.refusal.LockRefusal.TheVariants.{TooManyLocks, Conflict, Memory}
-use Rattle.st_shared.specs.Rows.{IsFileRow, IsFileTable, IsOneRow, holder_of}
+use Rattle.st_shared.specs.Rows.{IsFileTable, IsOneRow, holder_of}
 use Rattle.st_shared.specs.Shared.{is_holder}
 
 no_rows : (rows : List LockRow) → holder_of rows ≡ None → rows ≡ []

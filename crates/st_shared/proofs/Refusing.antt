@@ -1,5 +1,5 @@
 -- A rule's refusals are never that memory ran out.
-use Rattle.std.proofs.Common.{◌≡◌, ℕ, Bool, true, false, List, Some, None, refl, sym, ap, ◌∙◌, subst, if◌then◌else◌}
+use Rattle.std.proofs.Common.{◌≡◌, ℕ, Bool, true, false, Some, None, refl, ap, ◌∙◌, subst, if◌then◌else◌}
 use Rattle.std.specs.Prelude.{nat_lt, Option, Result, Ok, Err}
 use Rattle.st_base.specs.declared.ids.ClientId.{ClientId}
 use Rattle.st_base.specs.declared.ids.PageNo.{PageNo}
@@ -8,10 +8,9 @@ use Rattle.st_rules.specs.declared.disks.CommandRefusal.{CommandRefusal}
 use Rattle.st_rules.specs.Disks as disks
 use Rattle.st_rules.specs.Disks.{Disks}
 use Rattle.st_rules.specs.World.{numbered}
-use Rattle.st_disk.specs.Calls.{as_told}
 use Rattle.st_shared.specs.declared.members.Member.{Member}
 use Rattle.st_shared.specs.declared.refusal.SharedRefusal.{SharedRefusal}
-use Rattle.st_shared.specs.declared.refusal.SharedRefusal.TheVariants.{Held, NotIn, Busy, Late, SharedBy, Stopped, NotStopped, Disk, NoPage, NoLock, Memory}
+use Rattle.st_shared.specs.declared.refusal.SharedRefusal.TheVariants.{Late, Stopped, NoPage, Memory}
 use Rattle.st_shared.specs.Calls.{Checks, DoesOrLacks, Numbers}
 use Rattle.st_shared.specs.Shared as rules
 use Rattle.st_shared.specs.Shared.{Shared, both, check_page, check_running, check_submit, checked, effect_timely, is_expired, member_of, submit, submitted, with_disk}

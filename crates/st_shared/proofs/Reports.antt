@@ -1,6 +1,6 @@
 -- A report keeps that a state agrees with its history, and tells what is right.
-use Rattle.std.proofs.Common.{◌≡◌, ℕ, Bool, true, false, not, ◌&&◌, ◌||◌, ◌==◌, List, [], ◌∷◌, Some, None, refl, sym, ap, ◌∙◌, if◌then◌else◌}
-use Rattle.std.specs.Prelude.{pred, Option, option_map, Result, Ok, Err}
+use Rattle.std.proofs.Common.{◌≡◌, ℕ, Bool, true, false, not, List, ◌∷◌, Some, None, refl, sym, ap, ◌∙◌, if◌then◌else◌}
+use Rattle.std.specs.Prelude.{pred, Option, option_map, Ok, Err}
 use Rattle.st_rules.specs.declared.disks.Block.{Block}
 use Rattle.st_rules.specs.declared.disks.Report.{Report}
 use Rattle.st_rules.specs.declared.disks.Report.TheVariants as reports
@@ -8,16 +8,17 @@ use Rattle.st_rules.specs.declared.disks.DiskCommand.{DiskCommand}
 use Rattle.st_rules.specs.declared.disks.CommandRefusal.TheVariants.{NoCommand, Twice, NotEffected}
 use Rattle.st_rules.specs.Disks as disks
 use Rattle.st_rules.specs.Disks.{command, done_at, done_once, done_unreported, lacks_effect, sample, sample_of, with_command}
-use Rattle.st_rules.specs.World.{numbered, with_numbered}
+use Rattle.st_rules.specs.World.{numbered}
 use Rattle.st_lemmas.proofs.Numbers.{numbered_own, set_length}
 use Rattle.st_disk.specs.Calls.{as_told}
 use Rattle.st_shared.specs.declared.refusal.SharedRefusal.{SharedRefusal}
 use Rattle.st_shared.specs.declared.refusal.SharedRefusal.TheVariants.{Disk}
-use Rattle.st_shared.specs.History.{Call, Step, Report as Reports, AnswersRight, effects, told_by}
+use Rattle.st_shared.specs.History.{Step, Report as Reports, AnswersRight, effects, told_by}
 use Rattle.st_shared.specs.Shared as rules
-use Rattle.st_shared.specs.Shared.{Shared, Answer, Done, Number, Hard, Bytes, Failed, Silent, Refused, ended_answer, found_answer, is_silenced, report_answer, reported, with_disk}
+use Rattle.st_shared.specs.Shared.{Shared, Answer, Done, Number, Hard, Bytes, Failed, Silent, Refused, ended_answer, found_answer, is_report_open, is_silenced, report_answer, reported, with_disk}
 use Rattle.st_shared.proofs.Agreeing.{Agrees, Keeps, is_placed, is_unsampled, refused, told_at, told_with, what_of_command}
 use Rattle.st_shared.proofs.Numbered.{command_is, same_with}
+use Rattle.st_shared.proofs.Owned.{owned_with}
 
 -- The answers that a report may have.
 abbrev Tells : Answer → Type 0
@@ -29,7 +30,7 @@ Tells answer = Unit {0}
 told_agrees : (s : Shared) (past : List Step) (n : ℕ) (ok : Bool) (a : Answer) → Tells a → Agrees s past → Agrees s (record { call = Reports n ok; answer = a } ∷ past)
 told_agrees s past n ok Done t k = absurd t
 told_agrees s past n ok (Number m) t k = absurd t
-told_agrees s past n ok a t k = record { inside = k.inside; locked = k.locked; apart = k.apart; each = k.each; clients = k.clients; whats = k.whats; expired = k.expired; unsampled = k.unsampled; placed = k.placed; told = k.told; pages = k.pages }
+told_agrees s past n ok a t k = record { inside = k.inside; locked = k.locked; apart = k.apart; each = k.each; clients = k.clients; whats = k.whats; expired = k.expired; unsampled = k.unsampled; placed = k.placed; owned = k.owned; told = k.told; pages = k.pages }
 
 found_tells : (o : Option Block) → Tells (found_answer o)
 found_tells None = tt
@@ -74,9 +75,14 @@ ended_agrees s past n ok d e k = record {
   expired = k.expired;
   unsampled = λ m. same_with is_unsampled s.disk.commands n m (disks.reported ok d) d e refl ∙ k.unsampled m;
   placed = λ m. same_with is_placed s.disk.commands n m (disks.reported ok d) d e refl ∙ k.placed m;
+  owned = λ m. owned_with s.members (numbered s.issuers m) s.disk.commands n m (disks.reported ok d) d e (closed ok) (k.owned m);
   told = λ m. same_with told_at s.disk.commands n m (disks.reported ok d) d e refl ∙ k.told m;
   pages = k.pages;
 }
+  where
+    closed : (ok : Bool) → is_report_open (disks.report_of ok) ≡ true → is_report_open d.report ≡ true
+    closed true q = cc
+    closed false q = cc
 
 done_keeps : (s : Shared) (past : List Step) (n : ℕ) (ok : Bool) (d : DiskCommand) → numbered s.disk.commands n ≡ Some d → lacks_effect ok d ≡ false → Agrees s past →
     Keeps s past (Reports n ok) (Ok (with_disk s (with_command n (disks.reported ok d) s.disk)))

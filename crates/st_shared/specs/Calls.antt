@@ -8,7 +8,7 @@ use Rattle.st_shared.specs.declared.answer.SharedAnswer.{SharedAnswer}
 use Rattle.st_shared.specs.declared.answer.SharedAnswer.TheVariants as answers
 use Rattle.st_shared.specs.declared.refusal.SharedRefusal.{SharedRefusal}
 use Rattle.st_shared.specs.declared.refusal.SharedRefusal.TheVariants.{Memory}
-use Rattle.st_shared.specs.Shared.{Shared, Answer, Hard, Bytes, Failed, Silent, Refused, report, report_answer}
+use Rattle.st_shared.specs.Shared.{Shared, Answer, Hard, Bytes, Failed, Silent, Refused, report_answer}
 
 -- a call that takes no memory did what the rule says; where the rule refuses, nothing changed
 abbrev pub Does : Shared → Shared → Result (Unit {0}) SharedRefusal → Result Shared SharedRefusal → Type 0

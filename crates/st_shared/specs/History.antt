@@ -1,5 +1,5 @@
 -- What was called and answered, and what is promised of it: which writes reads return, and what holds where clients come and go.
-use Rattle.std.specs.Prelude.{◌≡◌, ℕ, Bool, true, false, not, ◌&&◌, ◌||◌, ◌==◌, if◌then◌else◌, List, [], ◌∷◌, length, Option, Some, None, Result, Ok, Err, ⊤}
+use Rattle.std.specs.Prelude.{◌≡◌, ℕ, Bool, true, false, not, ◌&&◌, ◌||◌, ◌==◌, if◌then◌else◌, List, [], ◌∷◌, length, Option, Some, None, Result, Ok, Err}
 use Rattle.st_base.specs.Page.{filled}
 use Rattle.st_base.specs.declared.ids.ClientId.{ClientId}
 use Rattle.st_base.specs.declared.ids.PageNo.{PageNo}
@@ -187,9 +187,14 @@ abbrev pub TellsRight : List Step → Call → Answer → Type 0
 TellsRight past (Report n ok) answer = told_by n (effects past) ≡ Some answer
 TellsRight past call answer = ⊥
 
--- no command of an expired client has its effect
+-- the effect of a command comes before its client's expiry, and while no client has a lock row
+pub record ComesInTime (n : ℕ) (past : List Step) : Type 0 where
+  pub client : has_expired n past ≡ false
+  pub unlocked : (c : ClientId) → has_lock c past ≡ false
+
+-- an effect comes in time
 abbrev pub IsTimely : List Step → Call → Type 0
-IsTimely past (Effect n) = has_expired n past ≡ false
+IsTimely past (Effect n) = ComesInTime n past
 IsTimely past call = Unit {0}
 
 -- an answer is right

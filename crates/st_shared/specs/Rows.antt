@@ -1,7 +1,6 @@
 -- The lock rows of the one file.
-use Rattle.std.specs.Prelude.{◌≡◌, ℕ, true, List, [], ◌∷◌, Option, Some, None}
+use Rattle.std.specs.Prelude.{◌≡◌, true, List, [], ◌∷◌, Option, Some, None}
 use Rattle.st_base.specs.declared.ids.ClientId.{ClientId}
-use Rattle.st_base.specs.declared.mode.Mode.{Mode}
 use Rattle.st_base.specs.declared.mode.Mode.TheVariants as modes
 use Rattle.st_rules.specs.declared.locks.LockRow.{LockRow}
 use Rattle.st_rules.specs.Locks.{Locks}

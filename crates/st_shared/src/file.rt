@@ -1,5 +1,5 @@
 // A shared file, with the law of its histories.
-ghost use Rattle.std.specs.Prelude.{◌≡◌};
+ghost use Rattle.std.specs.Prelude.{◌≡◌, length};
 ghost use Rattle.std.specs.Borrow.{sem};
 ghost use Rattle.st_locks.specs.Since.{IsClient};
 ghost use Rattle.st_shared.specs.Calls.{Does, DoesOrLacks, Numbers, shown, shown_result, told_report};
@@ -185,6 +185,13 @@ impl SharedFile {
         let result = self.machine.read(client, page);
         self.is_led_rightly();
         result
+    }
+
+    /// How many commands were submitted. It takes no memory.
+    pub fn commands(&self) -> u64
+        ensures { result ≡ length self.now.disk.commands }
+    {
+        self.machine.issued()
     }
 
     /// The command of this number has its effect on the disk.

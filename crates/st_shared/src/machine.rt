@@ -314,6 +314,13 @@ impl Machine {
         Ok(self.push_command(client, command)?)
     }
 
+    /// How many commands there are, by the list of whose each is.
+    pub fn issued(&self) -> u64
+        ensures { result ≡ length self.now.issuers }
+    {
+        self.issuers.len() as u64
+    }
+
     fn issuer(&self, n: u64) -> Option<Issuer>
         ensures { result ≡ numbered self.now.issuers n }
     {

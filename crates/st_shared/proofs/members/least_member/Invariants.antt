@@ -1,4 +1,4 @@
-use Rattle.std.proofs.Common.{◌≡◌, ℕ, ◌≤◌, drop, length}
+use Rattle.std.proofs.Common.{◌≡◌, ◌≤◌, drop, length}
 use Rattle.st_shared.specs.Shared.{least_member}
 use Rattle.st_shared.proofs.members.least_member.Given as goal
 

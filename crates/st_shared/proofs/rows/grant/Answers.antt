@@ -1,4 +1,4 @@
-use Rattle.std.proofs.Common.{◌≡◌, sym, subst, true}
+use Rattle.std.proofs.Common.{◌≡◌, sym, subst}
 use Rattle.std.specs.Prelude.{Some, None}
 use Rattle.std.specs.Bool.{OnTrue, OnFalse}
 use Rattle.st_shared.specs.Rows.{holder_of}

@@ -1,4 +1,4 @@
-use Rattle.std.proofs.Common.{◌<◌, arith}
+use Rattle.std.proofs.Common.{arith}
 use Rattle.st_shared.proofs.OneRow.{nobody_holds}
 use Rattle.st_shared.proofs.rows.holder.Goals as goal
 

@@ -1,0 +1,7 @@
+use Rattle.std.proofs.Common.{◌∙◌, ap}
+use Rattle.std.specs.Prelude.{length}
+use Rattle.st_shared.proofs.EveryHistory.{each_issued}
+use Rattle.st_shared.proofs.file.SharedFile.commands.Goals as goal
+
+pub returns : goal.returns
+returns c = c.issued.ensures ∙ each_issued c.self.inside.machine c.self.invariant ∙ ap (λ s. length s.disk.commands) c.self.view_is
