@@ -41,7 +41,8 @@ use Rattle.st_laws_refine.specs.Server.Edits.{WishInput}
 use Rattle.st_laws_refine.specs.Server.Pair.{terms_of}
 use Rattle.st_laws_refine.proofs.Server.OneRow.{row_found}
 use Rattle.st_laws_leases.specs.Sides.World.{AllStand}
-use Rattle.st_laws_leases.proofs.Sides.Beginning.{length_map, numbered_map, numbers_length}
+use Rattle.st_laws_leases.proofs.Sides.Beginning.{numbered_map}
+use Rattle.st_laws_pages.proofs.Lives.Fresh.{length_map, numbers_length}
 use Rattle.st_laws_waits.specs.Bounds.{AllBlocked, DemandInTime, InTime, SinceInTime}
 use Rattle.st_laws_waits.specs.Chase.{ChasedBy, ChasedDemand, ChasedRow, ChasedSince, IsFirst, Others, Repeated, RepeatedRow, answers_for}
 use Rattle.st_laws_waits.specs.Waits.{DemandsAreAnswered, DemandsAreRepeated, FirstFrom, FirstSince, GraceNear, InTickingRuns, LocksComeBack, LocksComeBackAfterStarts, NoneAnswers, RunsFrom, TicksInTime, answers_in, answers_row, brings_answer, first_clock, is_answer, row_at, last_tick, server_clock, ticked, ticks_at}

@@ -56,13 +56,14 @@ use Rattle.st_laws_reads.specs.AllClients.Law.{Running}
 use Rattle.st_laws_reads.specs.AllClients.World.{CopiesHold, TakingOwed}
 use Rattle.st_laws_reads.proofs.AllClients.Alone.{law, while_at}
 use Rattle.st_laws_reads.proofs.AllClients.Takings.{Takes, keeps, mine_there, there_at}
-use Rattle.st_laws_pages.proofs.Writes.Joining.{IsNew, all_say, flushes_disks}
+use Rattle.st_laws_pages.proofs.Writes.Joining.{IsNew, all_say}
 use Rattle.st_laws_reads.proofs.OpenWrites.Growing.{grows_all}
 use Rattle.st_laws_extents.proofs.Submits.Taking.{TakenIn, WasCommand}
 use Rattle.st_laws_extents.specs.DiskReads.OutstandingReads.{ReadsClean}
 use Rattle.st_laws_extents.specs.DiskReads.Reads.{EachRight, ReadRight, ReadsHold, ReadsLie}
 use Rattle.st_laws_extents.proofs.DiskReads.Contents.{content_others, content_said}
 use Rattle.st_laws_extents.proofs.DiskReads.Step.{ReadStays, all_behind, reads_behind}
+use Rattle.st_laws_pages.proofs.Causes.FlushSteps.{flushes_disks}
 
 pub ongoing : (k : Rattle.st_base.specs.declared.config.Config.Config) (now : Stamp) (a : Option ClientSession) → is_ended k now a ≡ false → Lasts k.lease now.0 a
 ongoing k now None e = tt

@@ -29,7 +29,7 @@ use Rattle.st_laws_steps.specs.Lives.Lives.{Once, server_number}
 use Rattle.st_laws_steps.specs.Client.Losses.{Ends, Fails, Fit, Hardens, Passes, Unknown, is_ended}
 use Rattle.st_laws_pages.proofs.Flush.Adding.{AllStill}
 use Rattle.st_laws_steps.proofs.Client.Asking.{c_passes}
-use Rattle.st_laws_steps.proofs.Lives.Associations.{has_number, numbers_same}
+use Rattle.st_laws_steps.proofs.Lives.Associations.{numbers_same}
 use Rattle.st_laws_pages.proofs.Flush.Flushing.{pair_of}
 use Rattle.st_laws_steps.proofs.Client.Losing.{Finished, c_only, finish_is, is_done, rest_of}
 use Rattle.st_laws_steps.proofs.Client.Nexts.{Next, changes_next, found_fewer, failed_found}
@@ -38,6 +38,7 @@ use Rattle.st_laws_steps.proofs.Client.Stepping.{LossesLeft, LostOrNot, finish_n
 use Rattle.st_laws_pages.proofs.Flush.Quiet.{AllQuiet, losses_quiet}
 use Rattle.st_laws_extents.specs.DiskReads.OutstandingReads.{ReadsClean, ReadsKept, Unchanged}
 use Rattle.st_laws_extents.proofs.DiskReads.Rules.{both_of, changes_kept}
+use Rattle.st_laws_pages.proofs.Lives.Among.{has_mid, has_others, has_split, numbers_kept, others_apart}
 
 -- The end of a command.
 none_fewer : (p q : DirtyPage → Bool) (xs : List DirtyPage) → find p xs ≡ None → find p (filter q xs) ≡ None
@@ -157,34 +158,6 @@ module _ (start : List Association) (n0 : ℕ) (now : Stamp) where
       go pc (inl w) =
           inl (w.0, subst (Unchanged b.server pc) (sym k.out) (unchanged_both b.server pc t.out k.more w.1 (λ m i f p h sv x y. n (ap (λ (s : ServerId). s.0) (sym sv ∙ k.notes m i f p h)))))
 
-  has_mid : (done rest : List Association) (a : Association) → Has a (done ++ a ∷ rest)
-  has_mid [] rest a = inl refl
-  has_mid (d ∷ done) rest a = inr (has_mid done rest a)
-
-  has_others : (done rest : List Association) (a b : Association) → Has b (done ++ rest) → Has b (done ++ a ∷ rest)
-  has_others [] rest a b i = inr i
-  has_others (d ∷ done) rest a b (inl e) = inl e
-  has_others (d ∷ done) rest a b (inr i) = inr (has_others done rest a b i)
-
-  has_split : (done rest : List Association) (u b : Association) → Has b ((done ++ u ∷ []) ++ rest) → Has b (done ++ rest) ⊎ (b ≡ u)
-  has_split [] rest u b (inl e) = inr e
-  has_split [] rest u b (inr i) = inl i
-  has_split (d ∷ done) rest u b (inl e) = inl (inl e)
-  has_split (d ∷ done) rest u b (inr i) = go (has_split done rest u b i)
-    where
-      go : Has b (done ++ rest) ⊎ (b ≡ u) → Has b (d ∷ done ++ rest) ⊎ (b ≡ u)
-      go (inl j) = inl (inr j)
-      go (inr j) = inr j
-
-  apart : (done rest : List Association) (a : Association) → Once (map server_number (done ++ a ∷ rest)) → (b : Association) → Has b (done ++ rest) → b.server.0 ≡ a.server.0 → ⊥
-  apart [] rest a o b i e = o.first (server_number b) (has_number rest b i) (sym e)
-  apart (d ∷ done) rest a o b (inl q) e = o.first (server_number a) (has_number (done ++ a ∷ rest) a (has_mid done rest a)) (ap server_number (sym q) ∙ e)
-  apart (d ∷ done) rest a o b (inr i) e = apart done rest a o.rest b i e
-
-  numbers_kept : (done rest : List Association) (a u : Association) → u.server ≡ a.server → map server_number ((done ++ u ∷ []) ++ rest) ≡ map server_number (done ++ a ∷ rest)
-  numbers_kept [] rest a u e = ap (λ (s : ServerId). s.0 ∷ map server_number rest) e
-  numbers_kept (d ∷ done) rest a u e = ap (λ z. server_number d ∷ z) (numbers_kept done rest a u e)
-
   all_left : (t : ClientTurn) (a : Association) (rest : List Association) (u : Turn) → Next now (enter t a) u → ReadsKept now (enter t a) u → All t (t.state.associations ++ a ∷ rest) → All (leave t u) ((t.state.associations ++ u.here ∷ []) ++ rest)
   all_left t a rest u x k h =
       record {
@@ -192,7 +165,7 @@ module _ (start : List Association) (n0 : ℕ) (now : Stamp) where
         once = subst Once (sym (numbers_kept t.state.associations rest a u.here (sym x.server))) h.once;
         fit = λ b i. each b Fit (x.fit (h.fit a (has_mid t.state.associations rest a))) (λ j. h.fit b (has_others t.state.associations rest a b j)) (has_split t.state.associations rest u.here b i);
         fine = λ b i. each b (λ z. ReadsFine z u.out) (own_fine (enter t a) u k.server x.life h.low k (h.fine a (has_mid t.state.associations rest a)))
-            (λ j. other_fine (enter t a) u b (apart t.state.associations rest a h.once b j) k (h.fine b (has_others t.state.associations rest a b j))) (has_split t.state.associations rest u.here b i);
+            (λ j. other_fine (enter t a) u b (others_apart t.state.associations rest a h.once b j) k (h.fine b (has_others t.state.associations rest a b j))) (has_split t.state.associations rest u.here b i);
       }
     where
       each : (b : Association) (P : Association → Type 0) → P u.here → (Has b (t.state.associations ++ rest) → P b) → Has b (t.state.associations ++ rest) ⊎ (b ≡ u.here) → P b

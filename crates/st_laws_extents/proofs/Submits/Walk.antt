@@ -34,7 +34,6 @@ use Rattle.st_laws_steps.specs.Client.Client.{Change, Changes, ChangesPage, Plai
 use Rattle.st_laws_steps.specs.Lives.Lives.{Once, server_number}
 use Rattle.st_laws_steps.specs.Client.Losses.{Fit, Ends, Unknown, Passes, Hardens, Fails}
 use Rattle.st_laws_pages.proofs.Flush.Adding.{Grows, After, grows_none, grows_then, says_append}
-use Rattle.st_laws_steps.proofs.Lives.Associations.{has_number}
 use Rattle.st_laws_pages.proofs.Flush.Growing.{Adds}
 use Rattle.st_laws_pages.proofs.Flush.Keeping.{OfOthers}
 use Rattle.st_laws_steps.proofs.Client.Losing.{Finished, rest_of}
@@ -48,6 +47,7 @@ use Rattle.st_laws_pages.proofs.Writes.Listing.{write_said}
 use Rattle.st_laws_reads.proofs.OpenWrites.Growing.{grows_all}
 use Rattle.st_laws_extents.specs.Submits.Submits.{EachFine, FineOne, FineSubmit, LatestLast}
 use Rattle.st_laws_extents.proofs.Submits.Last.{Logs, change_apart as last_elsewhere, change_last, ends_last}
+use Rattle.st_laws_pages.proofs.Lives.Among.{has_mid, has_others, has_split, numbers_kept, others_apart}
 
 -- More outputs.
 pub fine_last : (c : ClientId) (before : ClientState) (os : List Output) (o : Output) (sc : WorldTurn) → EachFine c before sc os → FineOne (After c before sc os).world c o → EachFine c before sc (os ++ o ∷ [])
@@ -236,34 +236,6 @@ module _ (size : ℕ) (c : ClientId) (before : ClientState) (sc : WorldTurn) (si
     pub fit : (b : Association) → Has b al → Fit b
     pub fine : (b : Association) → Has b al → PageFine (es t.out) b
     pub said : EachFine c before sc t.out
-
-  has_mid : (done rest : List Association) (a : Association) → Has a (done ++ a ∷ rest)
-  has_mid [] rest a = inl refl
-  has_mid (d ∷ done) rest a = inr (has_mid done rest a)
-
-  has_others : (done rest : List Association) (a b : Association) → Has b (done ++ rest) → Has b (done ++ a ∷ rest)
-  has_others [] rest a b i = inr i
-  has_others (d ∷ done) rest a b (inl e) = inl e
-  has_others (d ∷ done) rest a b (inr i) = inr (has_others done rest a b i)
-
-  has_split : (done rest : List Association) (u b : Association) → Has b ((done ++ u ∷ []) ++ rest) → Has b (done ++ rest) ⊎ (b ≡ u)
-  has_split [] rest u b (inl e) = inr e
-  has_split [] rest u b (inr i) = inl i
-  has_split (d ∷ done) rest u b (inl e) = inl (inl e)
-  has_split (d ∷ done) rest u b (inr i) = go (has_split done rest u b i)
-    where
-      go : Has b (done ++ rest) ⊎ (b ≡ u) → Has b (d ∷ done ++ rest) ⊎ (b ≡ u)
-      go (inl j) = inl (inr j)
-      go (inr j) = inr j
-
-  others_apart : (done rest : List Association) (a : Association) → Once (map server_number (done ++ a ∷ rest)) → OfOthers a.server (done ++ rest)
-  others_apart [] rest a o b i e = o.first (server_number b) (has_number rest b i) (sym e)
-  others_apart (d ∷ done) rest a o b (inl q) e = o.first (server_number a) (has_number (done ++ a ∷ rest) a (has_mid done rest a)) (ap server_number (sym q) ∙ e)
-  others_apart (d ∷ done) rest a o b (inr i) e = others_apart done rest a o.rest b i e
-
-  numbers_kept : (done rest : List Association) (a u : Association) → u.server ≡ a.server → map server_number ((done ++ u ∷ []) ++ rest) ≡ map server_number (done ++ a ∷ rest)
-  numbers_kept [] rest a u e = ap (λ (s : ServerId). s.0 ∷ map server_number rest) e
-  numbers_kept (d ∷ done) rest a u e = ap (λ z. server_number d ∷ z) (numbers_kept done rest a u e)
 
   all_left : (t : ClientTurn) (a : Association) (rest : List Association) (u : Turn) → Next now (enter t a) u → In u (t.state.associations ++ rest) → All t (t.state.associations ++ a ∷ rest) → All (leave t u) ((t.state.associations ++ u.here ∷ []) ++ rest)
   all_left t a rest u x r h =

@@ -1,6 +1,6 @@
 -- Leases are dated from requests: at the start, behind every event, and over whole runs.
 use Rattle.std.proofs.Common.{◌≡◌, ℕ, ◌+◌, Bool, true, false, not, ◌&&◌, ◌||◌, List, [], ◌∷◌, ◌++◌, ◌==◌, Option, Some, None, Ok, refl, sym, ap, ◌∙◌, subst, inl, inr, arith}
-use Rattle.std.specs.Prelude.{map, length, find, zero, suc, slice_get, option_map, nat_le}
+use Rattle.std.specs.Prelude.{map, find, zero, suc, slice_get, nat_le}
 use Rattle.std.specs.List.{list_all, list_any}
 use Rattle.std.proofs.lemmas.Bool.{eqb-true, eq-eqb, lt-ltb, le-leb, leb-true}
 use Rattle.st_base.specs.declared.config.Config.{Config}
@@ -27,13 +27,13 @@ use Rattle.st_rules.specs.Safety.{Step, step, LeasesAreDatedFromRequests, IsHead
 use Rattle.st_lemmas.specs.Lists.{Has}
 use Rattle.st_lemmas.proofs.Tables.{and_true, and_both, some_passes, found_at, has_map}
 use Rattle.st_lemmas.proofs.Lookups.{some_is, or_left, or_right}
-use Rattle.st_lemmas.proofs.Numbers.{get_map}
 use Rattle.st_lemmas.proofs.Steps.{step_happens, throughout}
 use Rattle.st_laws_leases.specs.Dates.Dates.{message_in, messages, is_dating, is_from_client, Born, Answer, Dates, SessionDated, ClientDated, Runs, ServerKnown, TimerQuiet, Dated}
 use Rattle.st_laws_leases.specs.Dates.Law.{LeasesAreDated, RunsSendNoConflict, ClientsSendNoConflict}
 use Rattle.st_laws_leases.proofs.Dates.Calm.{step_calm}
 use Rattle.st_laws_leases.proofs.Dates.Leaving.{has_numbered}
-use Rattle.st_laws_leases.proofs.Dates.Steps.{Next, next_dated, happens, from_server, length_map}
+use Rattle.st_laws_leases.proofs.Dates.Steps.{Next, next_dated, happens, from_server}
+use Rattle.st_laws_pages.proofs.Lives.Fresh.{fresh_is, length_map, numbers_length}
 
 all_true : {A : Type 0} (p : A → Bool) (xs : List A) → ((x : A) → Has x xs → p x ≡ true) → list_all p xs ≡ true
 all_true p [] h = refl
@@ -131,26 +131,6 @@ one past t e sc d h = let z = step_happens t.world e sc h in go (next_dated past
     go n = (promised (past ++ step t e sc ∷ []) (traced_after e t sc) n, n)
 
 -- The start.
-numbers_get : (a c i m : ℕ) → slice_get (numbers a c) i ≡ Some m → m ≡ a + i
-unfolding numbers
-numbers_get a zero i m e = cc
-numbers_get a (suc c) zero m e = let z = some_is e in omega (arith, z)
-numbers_get a (suc c) (suc i) m e = let z = numbers_get (a + 1) c i m e in omega (arith, z)
-
-numbers_length : (a c : ℕ) → length (numbers a c) ≡ c
-unfolding numbers
-numbers_length a zero = refl
-numbers_length a (suc c) = ap suc (numbers_length (a + 1) c)
-
--- what goes by a number at the start is the fresh one of that number
-fresh_is : {A : Type 0} (f : ℕ → A) (count n : ℕ) (x : A) → numbered (map f (numbers 1 count)) n ≡ Some x → x ≡ f n
-fresh_is f count zero x e = cc
-fresh_is {A} f count (suc i) x e = at (slice_get (numbers 1 count) i) refl (sym (get_map f (numbers 1 count) i) ∙ e)
-  where
-    at : (o : Option ℕ) → slice_get (numbers 1 count) i ≡ o → option_map f o ≡ Some x → x ≡ f (suc i)
-    at None q e = cc
-    at (Some m) q e = sym (some_is e) ∙ ap f (numbers_get 1 count i m q ∙ (let z : 1 + i ≡ suc i = omega arith in z))
-
 fresh_client : (k : Config) (servers : ℕ) (c : ClientId) → ClientDated [] c (fresh_site k servers c.0).node.state
 unfolding cl.fresh_client
 fresh_client k servers c = record { id = refl; all = λ a h. let z = has_map cl.fresh_association (numbers 1 servers) a h in subst (Rattle.st_laws_leases.specs.Dates.Dates.AssociationDated [] c) (sym z.2) tt }

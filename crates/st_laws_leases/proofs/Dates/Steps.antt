@@ -1,6 +1,6 @@
 -- Every event keeps what stands of messages, nodes and history.
 use Rattle.std.proofs.Common.{◌==◌, ◌≡◌, ◌≢◌, ℕ, ◌+◌, ◌≤◌, ◌⊎◌, Bool, true, false, not, List, [], ◌∷◌, ◌++◌, Option, Some, None, Ok, Err, refl, sym, ap, ◌∙◌, subst, inl, inr, arith, if◌then◌else◌}
-use Rattle.std.specs.Prelude.{map, length, filter, suc, nat_lt}
+use Rattle.std.specs.Prelude.{map, length, filter, nat_lt}
 use Rattle.std.specs.Option.{option_or}
 use Rattle.std.proofs.lemmas.Bool.{eqb-true, eq-eqb, ltb-true, lt-ltb}
 use Rattle.st_base.specs.declared.ids.ClientId.{ClientId}
@@ -52,6 +52,7 @@ use Rattle.st_laws_leases.proofs.Dates.Asking.{AsksNow}
 use Rattle.st_laws_leases.proofs.Dates.Hearing.{Ever, Held, Comes, ever_on, step_held}
 use Rattle.st_laws_leases.proofs.Dates.Leaving.{Leaves, client_leaves, has_numbered, lost_same, server_not_client, set_cases}
 use Rattle.st_laws_leases.proofs.Dates.Said.{Said, server_said, timers_said, client_said, AllCalm, client_calm, fates_calm, calm_timers}
+use Rattle.st_laws_pages.proofs.Lives.Fresh.{length_map}
 
 dates_more : (ms ns : List Message) → ((m : Message) → Has m ms → Has m ns) → (c : ClientId) (x : ClientState) → ClientDated ms c x → ClientDated ns c x
 dates_more ms ns f c x p = record { id = p.id; all = λ a h. go a.server a.life a.session (p.all a h) }
@@ -278,10 +279,6 @@ module _ (w : World) (s : ServerId) (ts : List TimerStart) where
   other_timer : (os : List Output) (us : List TimerStart) (x : TimerStart) → (x.server.0 ≡ s.0 → ⊥) → Has x us → Has x (timers_out w s os us)
   other_timer [] us x q h = h
   other_timer (o ∷ os) us x q h = other_timer os (timer_said w s o us) x q (other_said o us x q h)
-
-pub length_map : {A B : Type 0} (f : A → B) (xs : List A) → length (map f xs) ≡ length xs
-length_map f [] = refl
-length_map f (x ∷ xs) = ap suc (length_map f xs)
 
 -- a server's message that is an input is one of these
 abbrev ComesTo : List Message → ServerInput → Type 0

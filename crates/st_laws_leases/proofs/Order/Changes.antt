@@ -69,7 +69,8 @@ module _ (k : Config) (ok : ConfigOk k) where
       let z = alone k v ok r c d i ne (subst (λ (q : Assoc). Alive k q.c) (sym e1) al) (omega (arith, m1, x)) (ap (λ (q : Assoc). q.s.up) e2 ∙ u) in
       omega (arith, m2, y, z)
 
-  module _ (w : World) (r : Reached k w) (c i : ℕ) (alive : Alive k (w.at c).c) (two : 2 ≤ ((w.at c).c.held i).mode) where
+  -- What stands of each client of a world.
+  module _ (w : World) (r : Reached k w) where
     inv : (d : ℕ) → Invariant k (w.at d)
     inv d = invariant k w ok r d
 
@@ -80,21 +81,18 @@ module _ (k : Config) (ok : ConfigOk k) where
         go (inl u) = u
         go (inr u) = let z = ((inv d).locks_.down u).1 j in absurd (omega (arith, x, z))
 
-    no_row_there : (d : ℕ) → c ≢ d → 2 ≤ ((w.at d).s.row i).mode → ⊥
-    no_row_there d ne x = apart_row w c d i (w.at c) (w.at d) r ne refl refl alive (up_row d i x) two x
+    -- a grant on its way is installed
+    abbrev granted : (d i g mode : ℕ) → Assoc
+    granted d i g mode = client (record (w.at d).c { held = upd (w.at d).c.held i (record { g = g; mode = mode }); seen = upd (w.at d).c.seen i g }) (w.at d)
 
-    no_lock_there : (d : ℕ) → c ≢ d → Alive k (w.at d).c → 2 ≤ ((w.at d).c.held i).mode → ⊥
-    no_lock_there d ne al x = apart_held w c d i (w.at c) (w.at d) r ne refl refl alive al two x
+    granted_mode : (d i g mode : ℕ) → 2 ≤ mode → 2 ≤ ((granted d i g mode).c.held i).mode
+    granted_mode d i g mode x = let z = ap (λ (l : Lock). l.mode) (upd-same (w.at d).c.held i (record { g = g; mode = mode })) in omega (arith, z, x)
 
-    -- a grant on its way could be installed
-    no_grant_there : (d : ℕ) → c ≢ d → Alive k (w.at d).c → (stamp g mode : ℕ) → In (msg (w.at d).c.life (w.at d).c.epoch stamp (Granted i g mode)) (w.at d).net → 2 ≤ mode → (w.at d).c.seen i < g → ⊥
-    no_grant_there d ne al stamp g mode y x lt = apart_held (moved w r d b) c d i (w.at c) b next ne (stays w r d b c ne) (moved_is w r d b) alive al two there
+    installed : (d i stamp g mode : ℕ) → Alive k (w.at d).c → In (msg (w.at d).c.life (w.at d).c.epoch stamp (Granted i g mode)) (w.at d).net → (w.at d).c.seen i < g → Reached k (moved w r d (granted d i g mode))
+    installed d i stamp g mode al y lt = reached w r d b (Installs (w.at d) stamp i g mode y al lt) refl refl (λ s f. compat f)
       where
-        a : Assoc
-        a = w.at d
-
         b : Assoc
-        b = client (record a.c { held = upd a.c.held i (record { g = g; mode = mode }); seen = upd a.c.seen i g }) a
+        b = granted d i g mode
 
         rows_same : (e : ℕ) → ((moved w r d b).at e).s.row ≡ (w.at e).s.row
         rows_same e = go (upd_tells w.at d b e)
@@ -109,41 +107,9 @@ module _ (k : Config) (ok : ConfigOk k) where
             let m2 = ap (λ (z : ℕ → Row). (z j).mode) (rows_same h) in
             let z = f e h j n (omega (arith, m1, p)) (omega (arith, m2, q)) in omega (arith, m1, m2, z)
 
-        next : Reached k (moved w r d b)
-        next = reached w r d b (Installs a stamp i g mode y al lt) refl refl (λ s f. compat f)
-
-        there : 2 ≤ (b.c.held i).mode
-        there = let z = ap (λ (l : Lock). l.mode) (upd-same a.c.held i (record { g = g; mode = mode })) in omega (arith, z, x)
-
-    -- a reassertion could be accepted
-    no_reassertion_there : (d : ℕ) → c ≢ d → (w.at d).s.up ≡ true → (w.at d).s.grace ≡ true → (w.at d).s.timed ≡ false → (life stamp : ℕ) (locks : ℕ → Lock) → In (msg life (w.at d).s.epoch stamp (Reassert locks)) (w.at d).net →
-        (w.at d).s.session < life → 2 ≤ (locks i).mode → ⊥
-    no_reassertion_there d ne u g ti life stamp locks y lt x = apart_row (moved w r d b) c d i (w.at c) b next ne (stays w r d b c ne) (moved_is w r d b) alive u two x
-      where
-        a : Assoc
-        a = w.at d
-
-        b : Assoc
-        b = send (msg life a.s.epoch stamp Reasserted) (server (record a.s { session = life; live = true; row = λ i. record { life = life; g = (locks i).g; mode = (locks i).mode } }) a)
-
-        none : a.s.session ≡ 0
-        none = first_in_grace k a (inv d).lives_ u g life stamp locks y lt
-
-        zero_mode : (j n : ℕ) → (a.s.row j).mode ≡ n → n ≡ 0
-        zero_mode j Rattle.std.specs.Prelude.zero e = refl
-        zero_mode j (Rattle.std.specs.Prelude.suc n) e =
-            let z = ((inv d).locks_.rows j (omega (arith, e))).of_session in
-            let q = (inv d).born_.rows j (omega (arith, e)) in absurd (omega (arith, z, q, none))
-
-        no_service : InService (w.at 0).s → ⊥
-        no_service s = let z = (shared w r 0 d).grace in cc (z, g, s.grace)
-
-        next : Reached k (moved w r d b)
-        next = reached w r d b (Accepts a life stamp locks y (record { up = u; free = ti }) g lt (λ j. zero_mode j (a.s.row j).mode refl)) refl refl (λ s f. absurd (no_service s))
-
     -- The client's own: its life is the one that may reassert in grace.
-    own_life : (w.at c).s.up ≡ true → (w.at c).s.glife < (w.at c).c.life → (w.at c).s.session < (w.at c).c.life → ⊥
-    own_life u lt ls = go (same_or_less (w.at c).c.epoch (w.at c).s.epoch (inv c).timing_.ahead)
+    own_life : (c : ℕ) → Alive k (w.at c).c → (w.at c).s.up ≡ true → (w.at c).s.glife < (w.at c).c.life → (w.at c).s.session < (w.at c).c.life → ⊥
+    own_life c alive u lt ls = go (same_or_less (w.at c).c.epoch (w.at c).s.epoch (inv c).timing_.ahead)
       where
         a : Assoc
         a = w.at c
@@ -162,6 +128,43 @@ module _ (k : Config) (ok : ConfigOk k) where
             let el = q.3 in
             let z = v.lives_.former u _ q.4 (renews_of q.1 q.2) (omega (arith, l, el)) in omega (arith, z, lt)
 
+  module _ (w : World) (r : Reached k w) (c i : ℕ) (alive : Alive k (w.at c).c) (two : 2 ≤ ((w.at c).c.held i).mode) where
+    no_row_there : (d : ℕ) → c ≢ d → 2 ≤ ((w.at d).s.row i).mode → ⊥
+    no_row_there d ne x = apart_row w c d i (w.at c) (w.at d) r ne refl refl alive (up_row w r d i x) two x
+
+    no_lock_there : (d : ℕ) → c ≢ d → Alive k (w.at d).c → 2 ≤ ((w.at d).c.held i).mode → ⊥
+    no_lock_there d ne al x = apart_held w c d i (w.at c) (w.at d) r ne refl refl alive al two x
+
+    -- a grant on its way could be installed
+    no_grant_there : (d : ℕ) → c ≢ d → Alive k (w.at d).c → (stamp g mode : ℕ) → In (msg (w.at d).c.life (w.at d).c.epoch stamp (Granted i g mode)) (w.at d).net → 2 ≤ mode → (w.at d).c.seen i < g → ⊥
+    no_grant_there d ne al stamp g mode y x lt = apart_held (moved w r d (granted w r d i g mode)) c d i (w.at c) (granted w r d i g mode) (installed w r d i stamp g mode al y lt) ne (stays w r d (granted w r d i g mode) c ne) (moved_is w r d (granted w r d i g mode)) alive al two (granted_mode w r d i g mode x)
+
+    -- a reassertion could be accepted
+    no_reassertion_there : (d : ℕ) → c ≢ d → (w.at d).s.up ≡ true → (w.at d).s.grace ≡ true → (w.at d).s.timed ≡ false → (life stamp : ℕ) (locks : ℕ → Lock) → In (msg life (w.at d).s.epoch stamp (Reassert locks)) (w.at d).net →
+        (w.at d).s.session < life → 2 ≤ (locks i).mode → ⊥
+    no_reassertion_there d ne u g ti life stamp locks y lt x = apart_row (moved w r d b) c d i (w.at c) b next ne (stays w r d b c ne) (moved_is w r d b) alive u two x
+      where
+        a : Assoc
+        a = w.at d
+
+        b : Assoc
+        b = send (msg life a.s.epoch stamp Reasserted) (server (record a.s { session = life; live = true; row = λ i. record { life = life; g = (locks i).g; mode = (locks i).mode } }) a)
+
+        none : a.s.session ≡ 0
+        none = first_in_grace k a (inv w r d).lives_ u g life stamp locks y lt
+
+        zero_mode : (j n : ℕ) → (a.s.row j).mode ≡ n → n ≡ 0
+        zero_mode j Rattle.std.specs.Prelude.zero e = refl
+        zero_mode j (Rattle.std.specs.Prelude.suc n) e =
+            let z = ((inv w r d).locks_.rows j (omega (arith, e))).of_session in
+            let q = (inv w r d).born_.rows j (omega (arith, e)) in absurd (omega (arith, z, q, none))
+
+        no_service : InService (w.at 0).s → ⊥
+        no_service s = let z = (shared w r 0 d).grace in cc (z, g, s.grace)
+
+        next : Reached k (moved w r d b)
+        next = reached w r d b (Accepts a life stamp locks y (record { up = u; free = ti }) g lt (λ j. zero_mode j (a.s.row j).mode refl)) refl refl (λ s f. absurd (no_service s))
+
     own_row : 2 ≤ ((w.at c).s.row i).mode → ((w.at c).c.held i).g ≤ ((w.at c).s.row i).g
     own_row x = go (bool_cases a.s.grace)
       where
@@ -169,10 +172,10 @@ module _ (k : Config) (ok : ConfigOk k) where
         a = w.at c
 
         v : Invariant k a
-        v = inv c
+        v = inv w r c
 
         u : a.s.up ≡ true
-        u = up_row c i x
+        u = up_row w r c i x
 
         exact : a.c.epoch ≡ a.s.epoch → a.s.session ≡ a.c.life → (a.c.held i).g ≤ (a.s.row i).g
         exact e s = let z = held_exact k a v.timing_ v.locks_ v.exact_ (record { up = u; epoch = e; session = s }) alive i two in omega (arith, z)
@@ -182,20 +185,20 @@ module _ (k : Config) (ok : ConfigOk k) where
 
         graced : a.s.grace ≡ true → (a.s.session ≡ a.c.life) ⊎ (a.s.session < a.c.life) → (a.c.held i).g ≤ (a.s.row i).g
         graced g (inl e) = exact (v.locks_.graced u g e) e
-        graced g (inr l) = let z = v.lives_.graced u g (lives g) in absurd (own_life u (omega (arith, z, l)) l)
+        graced g (inr l) = let z = v.lives_.graced u g (lives g) in absurd (own_life w r c alive u (omega (arith, z, l)) l)
 
         go : (a.s.grace ≡ true) ⊎ (a.s.grace ≡ false) → (a.c.held i).g ≤ (a.s.row i).g
         go (inl g) = graced g (same_or_less a.s.session a.c.life v.timing_.lives)
         go (inr g) = let p = inside k a v.timing_ u g alive in exact p.0 p.1
 
     own_reassertion : (w.at c).s.up ≡ true → (w.at c).s.grace ≡ true → (life stamp : ℕ) (locks : ℕ → Lock) → In (msg life (w.at c).s.epoch stamp (Reassert locks)) (w.at c).net → (w.at c).s.session < life → ((w.at c).c.held i).g ≤ (locks i).g
-    own_reassertion u g life stamp locks y lt = go (same_or_less (w.at c).s.glife (w.at c).c.life ((inv c).lives_.since u))
+    own_reassertion u g life stamp locks y lt = go (same_or_less (w.at c).s.glife (w.at c).c.life ((inv w r c).lives_.since u))
       where
         a : Assoc
         a = w.at c
 
         v : Invariant k a
-        v = inv c
+        v = inv w r c
 
         at_life : life ≡ a.s.glife
         at_life = v.lives_.asserts u _ y refl refl
@@ -204,7 +207,7 @@ module _ (k : Config) (ok : ConfigOk k) where
         go (inl e) =
             let z = subst (λ n. In (msg n a.s.epoch stamp (Reassert locks)) a.net) (at_life ∙ e) y in
             ((v.locks_.msgs u _ z refl refl).all (omega (arith, lt, at_life, e)) i (omega (arith, two))).0
-        go (inr l) = absurd (own_life u l (omega (arith, lt, at_life, l)))
+        go (inr l) = absurd (own_life w r c alive u l (omega (arith, lt, at_life, l)))
 
     -- All of a client's: of this file, and of the others.
     pub changed : (H : ℕ → ℕ) → ((d : ℕ) → Below k H (w.at d)) → ((d : ℕ) → ((w.at c).c.held i).g ≤ (w.at d).s.top) → (d : ℕ) → Below k (upd H i ((w.at c).c.held i).g) (w.at d)
@@ -246,7 +249,7 @@ module _ (k : Config) (ok : ConfigOk k) where
             by j g (λ e. go same_client (subst (λ n. In (msg a.c.life a.c.epoch stamp (Granted n g mode)) a.net) e y) (subst (λ n. a.c.seen n < g) e lt)) ((o d).comes al stamp j g mode y t lt)
           where
             go : (c ≡ d) ⊎ (c ≢ d) → In (msg a.c.life a.c.epoch stamp (Granted i g mode)) a.net → a.c.seen i < g → x ≤ g
-            go (inl e) y lt = subst (λ n. (w.at n).c.seen i < g → x ≤ g) e (λ l. let z = (inv c).locks_.seen i (omega (arith, two)) in omega (arith, z, l)) lt
+            go (inl e) y lt = subst (λ n. (w.at n).c.seen i < g → x ≤ g) e (λ l. let z = (inv w r c).locks_.seen i (omega (arith, two)) in omega (arith, z, l)) lt
             go (inr n) y lt = absurd (no_grant_there d n al stamp g mode y t lt)
 
         asserts : a.s.up ≡ true → a.s.grace ≡ true → a.s.timed ≡ false → (life stamp : ℕ) (locks : ℕ → Lock) → In (msg life a.s.epoch stamp (Reassert locks)) a.net → a.s.session < life → (j : ℕ) → 2 ≤ (locks j).mode → upd H i x j ≤ (locks j).g
@@ -266,47 +269,15 @@ module _ (k : Config) (ok : ConfigOk k) where
 
   -- A cut under a row.
   module _ (w : World) (r : Reached k w) (c i : ℕ) (two : 2 ≤ ((w.at c).s.row i).mode) where
-    invs : (d : ℕ) → Invariant k (w.at d)
-    invs d = invariant k w ok r d
-
     up_here : (w.at c).s.up ≡ true
-    up_here = go (bool_cases (w.at c).s.up)
-      where
-        go : ((w.at c).s.up ≡ true) ⊎ ((w.at c).s.up ≡ false) → (w.at c).s.up ≡ true
-        go (inl u) = u
-        go (inr u) = let z = ((invs c).locks_.down u).1 i in absurd (omega (arith, two, z))
+    up_here = up_row w r c i two
 
     -- the rows of a file are compatible, in grace too
     no_other_lock : (d : ℕ) → d ≢ c → Alive k (w.at d).c → 2 ≤ ((w.at d).c.held i).mode → ⊥
     no_other_lock d ne al x = apart_row w d c i (w.at d) (w.at c) r ne refl refl al up_here x two
 
     no_other_grant : (d : ℕ) → d ≢ c → Alive k (w.at d).c → (stamp g mode : ℕ) → In (msg (w.at d).c.life (w.at d).c.epoch stamp (Granted i g mode)) (w.at d).net → 2 ≤ mode → (w.at d).c.seen i < g → ⊥
-    no_other_grant d ne al stamp g mode y x lt = apart_row (moved w r d b) d c i b (w.at c) next ne (moved_is w r d b) (stays w r d b c (λ e. ne (sym e))) al up_here there two
-      where
-        a : Assoc
-        a = w.at d
-
-        b : Assoc
-        b = client (record a.c { held = upd a.c.held i (record { g = g; mode = mode }); seen = upd a.c.seen i g }) a
-
-        rows_same : (e : ℕ) → ((moved w r d b).at e).s.row ≡ (w.at e).s.row
-        rows_same e = go (upd_tells w.at d b e)
-          where
-            go : ((e ≡ d) × ((moved w r d b).at e ≡ b)) ⊎ ((e ≢ d) × ((moved w r d b).at e ≡ w.at e)) → ((moved w r d b).at e).s.row ≡ (w.at e).s.row
-            go (inl (q, f)) = ap (λ (z : Assoc). z.s.row) f ∙ ap (λ n. (w.at n).s.row) (sym q)
-            go (inr (n, f)) = ap (λ (z : Assoc). z.s.row) f
-
-        compat : RowsCompat w → RowsCompat (moved w r d b)
-        compat f e h j n p q =
-            let m1 = ap (λ (z : ℕ → Row). (z j).mode) (rows_same e) in
-            let m2 = ap (λ (z : ℕ → Row). (z j).mode) (rows_same h) in
-            let z = f e h j n (omega (arith, m1, p)) (omega (arith, m2, q)) in omega (arith, m1, m2, z)
-
-        next : Reached k (moved w r d b)
-        next = reached w r d b (Installs a stamp i g mode y al lt) refl refl (λ s f. compat f)
-
-        there : 2 ≤ (b.c.held i).mode
-        there = let z = ap (λ (l : Lock). l.mode) (upd-same a.c.held i (record { g = g; mode = mode })) in omega (arith, z, x)
+    no_other_grant d ne al stamp g mode y x lt = apart_row (moved w r d (granted w r d i g mode)) d c i (granted w r d i g mode) (w.at c) (installed w r d i stamp g mode al y lt) ne (moved_is w r d (granted w r d i g mode)) (stays w r d (granted w r d i g mode) c (λ e. ne (sym e))) al up_here (granted_mode w r d i g mode x) two
 
     no_other_reassertion : (d : ℕ) → d ≢ c → (w.at d).s.up ≡ true → (w.at d).s.grace ≡ true → (life stamp : ℕ) (locks : ℕ → Lock) → In (msg life (w.at d).s.epoch stamp (Reassert locks)) (w.at d).net → 2 ≤ (locks i).mode → ⊥
     no_other_reassertion d ne u g life stamp locks y x = let z = no_conflict k w ok r d c i life stamp locks ne u g y (omega (arith, x)) (omega (arith, two)) in omega (arith, z, x, two)
@@ -319,42 +290,27 @@ module _ (k : Config) (ok : ConfigOk k) where
         a = w.at c
 
         v : Invariant k a
-        v = invs c
+        v = inv w r c
 
         session : 1 ≤ a.s.session
         session = let z = (v.locks_.rows i (omega (arith, two))).of_session in let q = v.born_.rows i (omega (arith, two)) in omega (arith, z, q)
 
-        -- a client whose life is past the epoch's is not leased
-        past : a.s.glife < a.c.life → a.s.session < a.c.life → ⊥
-        past lt ls = by (same_or_less a.c.epoch a.s.epoch v.timing_.ahead)
-          where
-            settled : a.c.epoch ≡ a.s.epoch → (a.c.due ≡ true) ⊎ (a.c.due ≡ false) → ⊥
-            settled e (inl f) = let z = v.lives_.due up_here al.leased f e in omega (arith, z, lt)
-            settled e (inr f) = let z = v.locks_.joined up_here e al.leased f in omega (arith, z, ls)
-
-            by : (a.c.epoch ≡ a.s.epoch) ⊎ (a.c.epoch < a.s.epoch) → ⊥
-            by (inl e) = settled e (bool_cases a.c.due)
-            by (inr l) =
-                let q = v.timing_.dated al.leased in
-                let el = q.3 in
-                let z = v.lives_.former up_here _ q.4 (renews_of q.1 q.2) (omega (arith, l, el)) in omega (arith, z, lt)
-
         graced : a.s.grace ≡ true → (a.s.session ≡ a.c.life) ⊎ (a.s.session < a.c.life) → (a.c.epoch ≡ a.s.epoch) × (a.s.session ≡ a.c.life)
         graced g (inl e) = (v.locks_.graced up_here g e, e)
-        graced g (inr l) = let z = v.lives_.graced up_here g session in absurd (past (omega (arith, z, l)) l)
+        graced g (inr l) = let z = v.lives_.graced up_here g session in absurd (own_life w r c al up_here (omega (arith, z, l)) l)
 
         go : (a.s.grace ≡ true) ⊎ (a.s.grace ≡ false) → (a.c.epoch ≡ a.s.epoch) × (a.s.session ≡ a.c.life)
         go (inl g) = graced g (same_or_less a.s.session a.c.life v.timing_.lives)
         go (inr g) = inside k a v.timing_ up_here g al
 
     own_exclusive : Alive k (w.at c).c → (x : ℕ) → ExclusiveAt (w.at c) i x → ((w.at c).s.row i).g ≤ x
-    own_exclusive al x e = let p = own_session al in (invs c).exact_.exact (record { up = up_here; epoch = p.0; session = p.1 }) al i x e
+    own_exclusive al x e = let p = own_session al in (inv w r c).exact_.exact (record { up = up_here; epoch = p.0; session = p.1 }) al i x e
 
     no_own_reassertion : (w.at c).s.grace ≡ true → (life stamp : ℕ) (locks : ℕ → Lock) → In (msg life (w.at c).s.epoch stamp (Reassert locks)) (w.at c).net → (w.at c).s.session < life → ⊥
     no_own_reassertion g life stamp locks y lt =
-        let n = first_in_grace k (w.at c) (invs c).lives_ up_here g life stamp locks y lt in
-        let z = ((invs c).locks_.rows i (omega (arith, two))).of_session in
-        let q = (invs c).born_.rows i (omega (arith, two)) in omega (arith, n, z, q)
+        let n = first_in_grace k (w.at c) (inv w r c).lives_ up_here g life stamp locks y lt in
+        let z = ((inv w r c).locks_.rows i (omega (arith, two))).of_session in
+        let q = (inv w r c).born_.rows i (omega (arith, two)) in omega (arith, n, z, q)
 
     -- all of a client's: of this file, and of the others
     pub cut : (H : ℕ → ℕ) → ((d : ℕ) → Below k H (w.at d)) → ((d : ℕ) → d ≢ c → ((w.at d).s.row i).mode < 2) → ((d : ℕ) → ((w.at c).s.row i).g ≤ (w.at d).s.top) → (d : ℕ) → Below k (upd H i ((w.at c).s.row i).g) (w.at d)
@@ -387,7 +343,7 @@ module _ (k : Config) (ok : ConfigOk k) where
         held al j t = by j (a.c.held j).g (λ e. subst (λ n. x ≤ (a.c.held n).g) (sym e) (go same_client al (subst (λ n. 2 ≤ (a.c.held n).mode) e t))) ((o d).held al j t)
           where
             own : Alive k (w.at c).c → 2 ≤ ((w.at c).c.held i).mode → x ≤ ((w.at c).c.held i).g
-            own al t = let e = (invs c).locks_.seen i (omega (arith, t)) in own_exclusive al ((w.at c).c.held i).g (Holds t e)
+            own al t = let e = (inv w r c).locks_.seen i (omega (arith, t)) in own_exclusive al ((w.at c).c.held i).g (Holds t e)
 
             go : (d ≡ c) ⊎ (d ≢ c) → Alive k a.c → 2 ≤ (a.c.held i).mode → x ≤ (a.c.held i).g
             go (inl e) = subst (λ n. Alive k (w.at n).c → 2 ≤ ((w.at n).c.held i).mode → x ≤ ((w.at n).c.held i).g) (sym e) own

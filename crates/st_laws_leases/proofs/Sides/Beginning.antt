@@ -35,28 +35,14 @@ use Rattle.st_laws_refine.proofs.Server.Counts.{few_fresh}
 use Rattle.st_laws_refine.proofs.Server.Fresh.{fresh_begins, fresh_compat, fresh_sound, idle_begins, no_ghost}
 use Rattle.st_laws_leases.specs.Sides.Stands.{Both, Standing}
 use Rattle.st_laws_leases.specs.Sides.World.{AllStand, ServerStands}
+use Rattle.st_laws_pages.proofs.Lives.Fresh.{length_map, numbers_get, numbers_length}
 
 -- Lists of numbers.
-numbers_get : (a c i m : ℕ) → slice_get (numbers a c) i ≡ Some m → m ≡ a + i
-unfolding numbers
-numbers_get a zero i m e = cc
-numbers_get a (suc c) zero m e = let z = some_is e in omega (arith, z)
-numbers_get a (suc c) (suc i) m e = let z = numbers_get (a + 1) c i m e in omega (arith, z)
-
 numbers_is : (a c i : ℕ) → i < c → slice_get (numbers a c) i ≡ Some (a + i)
 unfolding numbers
 numbers_is a zero i l = absurd (omega arith)
 numbers_is a (suc c) zero l = ap (λ n. Some n) (let z : a ≡ a + 0 = omega arith in z)
 numbers_is a (suc c) (suc i) l = numbers_is (a + 1) c i (omega arith) ∙ ap (λ n. Some n) (let z : (a + 1) + i ≡ a + suc i = omega arith in z)
-
-pub numbers_length : (a c : ℕ) → length (numbers a c) ≡ c
-unfolding numbers
-numbers_length a zero = refl
-numbers_length a (suc c) = ap suc (numbers_length (a + 1) c)
-
-pub length_map : {A B : Type 0} (f : A → B) (xs : List A) → length (map f xs) ≡ length xs
-length_map f [] = refl
-length_map f (x ∷ xs) = ap suc (length_map f xs)
 
 length_both : {A : Type 0} (xs ys : List A) → length (xs ++ ys) ≡ length xs + length ys
 length_both [] ys = omega arith

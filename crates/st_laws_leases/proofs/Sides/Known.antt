@@ -18,7 +18,8 @@ use Rattle.st_laws_steps.specs.Lives.Lives.{LivesHold}
 use Rattle.st_laws_pages.proofs.Lives.LifeSteps.{steps_so}
 use Rattle.st_laws_steps.proofs.Client.Stepping.{pairs_has}
 use Rattle.st_laws_leases.proofs.Sides.Alone.{numbers_has}
-use Rattle.st_laws_leases.proofs.Sides.Beginning.{length_map, numbered_map, numbers_length}
+use Rattle.st_laws_leases.proofs.Sides.Beginning.{numbered_map}
+use Rattle.st_laws_pages.proofs.Lives.Fresh.{length_map, numbers_length}
 
 -- at each association of these clients
 abbrev pub Known : ℕ → List ClientSite → Type 0

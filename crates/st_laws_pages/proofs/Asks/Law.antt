@@ -66,6 +66,7 @@ use Rattle.st_laws_pages.proofs.Asks.Server.{ExtentsOwn, Kept, Own, served}
 use Rattle.st_laws_pages.proofs.Asks.Asks.{Pending, Apart, Nothing, Holds, asks_taken}
 use Rattle.st_laws_pages.proofs.Asks.Says.{Owed, AllDull, Leaves, dull_owed, server_dull, server_leaves}
 use Rattle.st_laws_pages.proofs.Asks.World.{SentBy, NodeOwn, SiteKnows, Places, ClientAsks, AllAsks, SitesStay, ClientStep, ClientLeft, asks_of, asks_more, asks_same, client_step_left, node_case, quiet_asks, sent_told, site_case}
+use Rattle.st_laws_pages.proofs.Lives.Fresh.{length_map, numbers_length}
 
 -- What an event leaves.
 pub record Done (past : List Step) (n : ℕ) (x : Step) : Type 0 where
@@ -611,15 +612,6 @@ places_hold n w pl = record { maps = all_pass (maps_own w) w.servers maps; told 
             all_pass (knows_own_at w) y.node.state.associations (λ a i. all_pass (is_own_known w a.server) a.store.extents (λ x j. mapping a.server x.mapping (λ z q. o a i x j z q)))
 
 -- At the start.
-numbers_length : (a c : ℕ) → length (extents.numbers a c) ≡ c
-unfolding extents.numbers
-numbers_length a zero = refl
-numbers_length a (suc c) = ap suc (numbers_length (a + 1) c)
-
-map_length : {A B : Type 0} (f : A → B) (xs : List A) → length (map f xs) ≡ length xs
-map_length f [] = refl
-map_length f (x ∷ xs) = ap suc (map_length f xs)
-
 fresh_node : (k : Config) (servers d b j : ℕ) → NodeOwn servers (world.node_at_start k servers d b j)
 unfolding server.fresh_server
 fresh_node k servers d b j = record { extents = record { server = refl; servers = refl; rows = λ e h. absurd h }; kept = λ x h. absurd h }
@@ -665,8 +657,8 @@ fresh_stands k clients servers d b form head = record { fates = fresh_fates k cl
     fresh_places : Places servers (fresh_world k clients servers d b form)
     fresh_places =
         record {
-          count = map_length (world.node_at_start k servers d b) (extents.numbers 1 servers) ∙ numbers_length 1 servers;
-          few = subst (λ m. m ≤ 16) (sym (map_length (world.fresh_site k servers) (extents.numbers 1 clients) ∙ numbers_length 1 clients)) (leb-true clients 16 (and_true (nat_le 1 clients) _ head.some_clients).1);
+          count = length_map (world.node_at_start k servers d b) (extents.numbers 1 servers) ∙ numbers_length 1 servers;
+          few = subst (λ m. m ≤ 16) (sym (length_map (world.fresh_site k servers) (extents.numbers 1 clients) ∙ numbers_length 1 clients)) (leb-true clients 16 (and_true (nat_le 1 clients) _ head.some_clients).1);
           nodes = λ s y i. fresh_nodes k servers d b (extents.numbers 1 servers) y (numbered_has (fresh_world k clients servers d b form).servers s.0 y i);
           told = λ m i. absurd i;
           known = λ c y i. (site c y i).knows;

@@ -248,7 +248,7 @@ new_low c s now x n = go (cl.lease_with s x.server) n.end n.phase
         end z = cc
 
 -- flush steps leave the disks
-flushes_disks : (c : ClientId) (s : ClientState) (ss : List ServerId) (w : World) → (ev.flushes c s ss w).disks ≡ w.disks
+pub flushes_disks : (c : ClientId) (s : ClientState) (ss : List ServerId) (w : World) → (ev.flushes c s ss w).disks ≡ w.disks
 unfolding ev.flushes
 flushes_disks c s [] w = refl
 flushes_disks c s (y ∷ ss) w = flushes_disks c s ss (ev.flushed_at w c y s) ∙ in_phase (cl.lease_end_with s y) (cl.phase_with s y (clock_of w (nodes.Client c)))

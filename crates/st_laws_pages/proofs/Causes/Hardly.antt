@@ -52,9 +52,10 @@ use Rattle.st_laws_steps.proofs.Client.Nexts.{Next, change_next, changes_next}
 use Rattle.st_laws_pages.proofs.Asks.Client.{key}
 use Rattle.st_laws_pages.proofs.Asks.Places.{Knows}
 use Rattle.st_laws_pages.specs.Causes.Stands.{CommandsStand}
-use Rattle.st_laws_pages.proofs.Causes.Keeping.{All, In, RightLife, all_left, changes_around, has_mid, has_others, others_apart, others_next, right_next, these_grow}
+use Rattle.st_laws_pages.proofs.Causes.Keeping.{All, In, RightLife, all_left, changes_around, others_next, right_next, these_grow}
 use Rattle.st_laws_pages.proofs.Causes.Placed.{EachOut, Placed, Since, passes_place, since_one}
 use Rattle.st_laws_pages.proofs.Causes.Saying.{placed_grown}
+use Rattle.st_laws_pages.proofs.Lives.Among.{has_mid, has_others, others_apart}
 
 -- what was asked was a sync, and all of its file is hard in this log
 pub record HardSaid (asked : ℕ → Option Ask) (c : ClientId) (lives : ServerId → Life) (es : List LogEntry) (op : ℕ) : Type 0 where
@@ -265,16 +266,16 @@ module _ (past : List Step) (size : ℕ) (c : ClientId) (before : ClientState) (
       x = changes_next now (enter t a) u d
 
       fit : Fit a
-      fit = h.fit a (has_mid past size c before sc site there count holds now t.state.associations rest a)
+      fit = h.fit a (has_mid t.state.associations rest a)
 
       others : List Association
       others = t.state.associations ++ rest
 
       apart : OfOthers a.server (t.state.associations ++ rest)
-      apart = others_apart past size c before sc site there count holds now t.state.associations rest a h.once
+      apart = others_apart t.state.associations rest a h.once
 
       live : Alive a
-      live = h.right a (has_mid past size c before sc site there count holds now t.state.associations rest a)
+      live = h.right a (has_mid t.state.associations rest a)
 
       behind : (done : List Association) (b : Association) → Has b rest → Has b (done ++ a ∷ rest)
       behind [] b i = inr i
@@ -290,14 +291,14 @@ module _ (past : List Step) (size : ℕ) (c : ClientId) (before : ClientState) (
           record {
             around =
                 record {
-                  here = h.cared a (has_mid past size c before sc site there count holds now t.state.associations rest a);
-                  cared = λ b i. h.cared b (has_others past size c before sc site there count holds now t.state.associations rest a b i);
-                  apart = h.apart a (has_mid past size c before sc site there count holds now t.state.associations rest a);
-                  aparts = λ b i. h.apart b (has_others past size c before sc site there count holds now t.state.associations rest a b i);
+                  here = h.cared a (has_mid t.state.associations rest a);
+                  cared = λ b i. h.cared b (has_others t.state.associations rest a b i);
+                  apart = h.apart a (has_mid t.state.associations rest a);
+                  aparts = λ b i. h.apart b (has_others t.state.associations rest a b i);
                   numbers = h.numbers;
                 };
-            latest_here = h.latests a (has_mid past size c before sc site there count holds now t.state.associations rest a);
-            latests = λ b i. h.latests b (has_others past size c before sc site there count holds now t.state.associations rest a b i);
+            latest_here = h.latests a (has_mid t.state.associations rest a);
+            latests = λ b i. h.latests b (has_others t.state.associations rest a b i);
           }
 
   pub each_said_at : (tick : Bool) (t : ClientTurn) → ((b : Association) → Has b t.state.associations → Knows size b.server b.store.extents) → Placed size (at_each (cp.passes now tick) t).out → A t t.state.associations → AskedAll t.state.operations → Said t.out →

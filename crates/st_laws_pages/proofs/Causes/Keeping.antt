@@ -22,7 +22,6 @@ use Rattle.st_laws_steps.specs.Client.Client.{Changes, Still, Then}
 use Rattle.st_laws_steps.specs.Client.Losses.{Fit, Ends, Unknown, Passes, Hardens, Fails}
 use Rattle.st_laws_steps.specs.Lives.Lives.{Once, server_number}
 use Rattle.st_laws_pages.specs.Flush.Flush.{IsIts, Cared, NumbersBelow, NumbersApart}
-use Rattle.st_laws_steps.proofs.Lives.Associations.{has_number}
 use Rattle.st_laws_steps.proofs.Client.Nexts.{Next, change_next, changes_next}
 use Rattle.st_laws_pages.proofs.Flush.Ending.{apart_fewer, ends_cared}
 use Rattle.st_laws_pages.proofs.Flush.Reporting.{failure_owed}
@@ -35,6 +34,7 @@ use Rattle.st_laws_pages.proofs.Causes.Commands.{says_stand}
 use Rattle.st_laws_pages.proofs.Causes.Latest.{change_apart as change_elsewhere, change_latest, ends_latest, success_own}
 use Rattle.st_laws_pages.proofs.Causes.Placed.{Placed}
 use Rattle.st_laws_pages.proofs.Causes.Saying.{change_adds, placed_grown}
+use Rattle.st_laws_pages.proofs.Lives.Among.{has_mid, has_others, has_split, numbers_kept, others_apart}
 
 -- What stands in the middle of a step, with whose the latest entries of dirty pages are.
 pub record Cares (past : List Step) (cs : List IssuedCommand) (es : List LogEntry) (c : ClientId) (starts : ℕ) (t : Turn) (others : List Association) : Type 0 where
@@ -182,35 +182,6 @@ module _ (past : List Step) (size : ℕ) (c : ClientId) (before : ClientState) (
     pub once : Once (map server_number al)
     pub fit : (b : Association) → Has b al → Fit b
     pub latests : (b : Association) → Has b al → LatestOwn c (After c before sc t.out).world.log b
-
-  -- those before and behind one of them
-  pub has_mid : (done rest : List Association) (a : Association) → Has a (done ++ a ∷ rest)
-  has_mid [] rest a = inl refl
-  has_mid (d ∷ done) rest a = inr (has_mid done rest a)
-
-  pub has_others : (done rest : List Association) (a b : Association) → Has b (done ++ rest) → Has b (done ++ a ∷ rest)
-  has_others [] rest a b i = inr i
-  has_others (d ∷ done) rest a b (inl e) = inl e
-  has_others (d ∷ done) rest a b (inr i) = inr (has_others done rest a b i)
-
-  has_split : (done rest : List Association) (u b : Association) → Has b ((done ++ u ∷ []) ++ rest) → Has b (done ++ rest) ⊎ (b ≡ u)
-  has_split [] rest u b (inl e) = inr e
-  has_split [] rest u b (inr i) = inl i
-  has_split (d ∷ done) rest u b (inl e) = inl (inl e)
-  has_split (d ∷ done) rest u b (inr i) = go (has_split done rest u b i)
-    where
-      go : Has b (done ++ rest) ⊎ (b ≡ u) → Has b (d ∷ done ++ rest) ⊎ (b ≡ u)
-      go (inl j) = inl (inr j)
-      go (inr j) = inr j
-
-  pub others_apart : (done rest : List Association) (a : Association) → Once (map server_number (done ++ a ∷ rest)) → OfOthers a.server (done ++ rest)
-  others_apart [] rest a o b i e = o.first (server_number b) (has_number rest b i) (sym e)
-  others_apart (d ∷ done) rest a o b (inl q) e = o.first (server_number a) (has_number (done ++ a ∷ rest) a (has_mid done rest a)) (ap server_number (sym q) ∙ e)
-  others_apart (d ∷ done) rest a o b (inr i) e = others_apart done rest a o.rest b i e
-
-  numbers_kept : (done rest : List Association) (a u : Association) → u.server ≡ a.server → map server_number ((done ++ u ∷ []) ++ rest) ≡ map server_number (done ++ a ∷ rest)
-  numbers_kept [] rest a u e = ap (λ (s : ServerId). s.0 ∷ map server_number rest) e
-  numbers_kept (d ∷ done) rest a u e = ap (λ z. server_number d ∷ z) (numbers_kept done rest a u e)
 
   -- with one of them after the rule
   pub all_left : (t : ClientTurn) (a : Association) (rest : List Association) (u : Turn) → Next now (enter t a) u → In u (t.state.associations ++ rest) → All t (t.state.associations ++ a ∷ rest) → All (leave t u) ((t.state.associations ++ u.here ∷ []) ++ rest)

@@ -48,21 +48,7 @@ use Rattle.st_laws_pages.proofs.Causes.Placed.{PlacesAt, places_at}
 use Rattle.st_rules.specs.Lines.{AtEach}
 use Rattle.st_rules.specs.Safety.{HardIsHard, Promise}
 use Rattle.st_laws_pages.proofs.Causes.HardEvents.{AskedHold, AskedSo, happens_left}
-
-pub numbers_get : (a c i m : ℕ) → slice_get (numbers a c) i ≡ Some m → m ≡ a + i
-unfolding numbers
-numbers_get a zero i m e = cc
-numbers_get a (suc c) zero m e = let z = some_is e in omega (arith, z)
-numbers_get a (suc c) (suc i) m e = let z = numbers_get (a + 1) c i m e in omega (arith, z)
-
-numbers_length : (a c : ℕ) → length (numbers a c) ≡ c
-unfolding numbers
-numbers_length a zero = refl
-numbers_length a (suc c) = ap suc (numbers_length (a + 1) c)
-
-map_length : {A B : Type 0} (f : A → B) (xs : List A) → length (map f xs) ≡ length xs
-map_length f [] = refl
-map_length f (x ∷ xs) = ap suc (map_length f xs)
+use Rattle.st_laws_pages.proofs.Lives.Fresh.{length_map, numbers_get, numbers_length}
 
 pub site_is : (k : Config) (clients servers : ℕ) (j : ℕ) (s : ClientSite) → numbered (map (fresh_site k servers) (numbers 1 clients)) j ≡ Some s → (s ≡ fresh_site k servers j) × (slice_get (numbers 1 clients) (pred j) ≡ Some j)
 site_is k clients servers zero s e = cc
@@ -126,7 +112,7 @@ fresh_flush k clients servers d b form =
         let x = z.0 in
         let y = z.1 in
         let s = ap (λ (u : Association). u.server.0) e in
-        let l = map_length (node_at_start k servers d b) (numbers 1 servers) ∙ numbers_length 1 servers in
+        let l = length_map (node_at_start k servers d b) (numbers 1 servers) ∙ numbers_length 1 servers in
         (omega (arith, x, s), omega (arith, y, s, l))
 
 -- What stands behind steps.

@@ -1,6 +1,6 @@
 -- The laws of the pages at the start, and over whole runs.
 use Rattle.std.proofs.Common.{◌≡◌, ℕ, ◌+◌, ◌≤◌, ◌<◌, Bool, true, false, inl, inr, subst, List, [], ◌∷◌, ◌++◌, Option, Some, None, Ok, Err, refl, sym, ap, ◌∙◌, arith}
-use Rattle.std.specs.Prelude.{Result, length, map, suc, zero, pred, slice_get, option_map}
+use Rattle.std.specs.Prelude.{Result, map, suc, zero, pred, slice_get, option_map}
 use Rattle.st_base.specs.declared.config.Config.{Config}
 use Rattle.st_base.specs.declared.ids.ServerId.{ServerId}
 use Rattle.st_base.specs.declared.ids.FileId.{FileId}
@@ -36,21 +36,7 @@ use Rattle.st_laws_pages.specs.Disks.Told.{RunsTellTheLog}
 use Rattle.st_laws_pages.specs.LockedCuts.Locked.{TableHolds, WaitsHold, ReassertionsOwed, CutsAreLocked, RunsLockCuts}
 use Rattle.st_laws_pages.proofs.LockedCuts.CutLaw.{law as cut_law}
 use Rattle.st_laws_pages.proofs.Disks.Told.{step_told}
-
-numbers_get : (a c i m : ℕ) → slice_get (numbers a c) i ≡ Some m → m ≡ a + i
-unfolding numbers
-numbers_get a zero i m e = cc
-numbers_get a (suc c) zero m e = let z = some_is e in omega (arith, z)
-numbers_get a (suc c) (suc i) m e = let z = numbers_get (a + 1) c i m e in omega (arith, z)
-
-numbers_length : (a c : ℕ) → length (numbers a c) ≡ c
-unfolding numbers
-numbers_length a zero = refl
-numbers_length a (suc c) = ap suc (numbers_length (a + 1) c)
-
-map_length : {A B : Type 0} (f : A → B) (xs : List A) → length (map f xs) ≡ length xs
-map_length f [] = refl
-map_length f (x ∷ xs) = ap suc (map_length f xs)
+use Rattle.st_laws_pages.proofs.Lives.Fresh.{length_map, numbers_get, numbers_length}
 
 -- a node of the start is the fresh one of its number
 fresh_is : (k : Config) (servers d b : ℕ) (s : ServerId) (n : ServerNode) → numbered (map (node_at_start k servers d b) (numbers 1 servers)) s.0 ≡ Some n → n ≡ node_at_start k servers d b s.0
@@ -90,7 +76,7 @@ fresh_holds k clients servers d b form =
       extents =
           record {
             settings = λ s n e. let z = fresh_is k servers d b s n e in
-                (ap (λ (x : ServerNode). x.state.stable.extents.server) z, ap (λ (x : ServerNode). x.state.stable.extents.servers) z ∙ sym (map_length (node_at_start k servers d b) (numbers 1 servers) ∙ numbers_length 1 servers));
+                (ap (λ (x : ServerNode). x.state.stable.extents.server) z, ap (λ (x : ServerNode). x.state.stable.extents.servers) z ∙ sym (length_map (node_at_start k servers d b) (numbers 1 servers) ∙ numbers_length 1 servers));
             ids = λ s n e. ap (λ (x : ServerNode). x.state.id) (fresh_is k servers d b s n e);
             lies = λ f p x e. absurd (no x (sym (fresh_mapped k clients servers d b form f p) ∙ e));
           };

@@ -8,7 +8,6 @@ use Rattle.st_base.specs.declared.disk.Tag.{Tag}
 use Rattle.st_base.specs.declared.ids.ClientId.{ClientId}
 use Rattle.st_base.specs.declared.ids.Life.{Life}
 use Rattle.st_base.specs.declared.ids.NodeId.TheVariants as nodes
-use Rattle.st_base.specs.declared.ids.ServerId.{ServerId}
 use Rattle.st_base.specs.declared.ids.Stamp.{Stamp}
 use Rattle.st_messages.specs.declared.output.Note.{Note}
 use Rattle.st_messages.specs.declared.output.Note.TheVariants as notes
@@ -17,8 +16,6 @@ use Rattle.st_messages.specs.declared.output.Output.TheVariants as outputs
 use Rattle.st_rules.specs.declared.client.ClientInput.{ClientInput}
 use Rattle.st_rules.specs.declared.disks.DiskCommand.{DiskCommand}
 use Rattle.st_rules.specs.declared.disks.Report.TheVariants as reports
-use Rattle.st_rules.specs.declared.lease.Phase.{Phase}
-use Rattle.st_rules.specs.declared.lease.Phase.TheVariants as phases
 use Rattle.st_rules.specs.declared.world.IssuedCommand.{IssuedCommand}
 use Rattle.st_rules.specs.Client as cl
 use Rattle.st_rules.specs.ClientState.{Association, ClientState, is_at}
@@ -42,6 +39,7 @@ use Rattle.st_laws_pages.proofs.Causes.Placed.{Placed, PlacedOne}
 use Rattle.st_laws_pages.specs.Writes.Writes.{IsListed, ListedSince, OpenHold, WritesOnce}
 use Rattle.st_laws_pages.proofs.Writes.Listing.{write_said}
 use Rattle.st_laws_pages.proofs.Writes.Walking.{AfterStep, EndedBy, ListedAt, StepKeeps, step_keeps}
+use Rattle.st_laws_pages.proofs.Causes.FlushSteps.{flushes_disks}
 
 -- a command that these outputs submit
 pub record IsNew (c : ClientId) (site : ClientSite) (size : ℕ) (os : List Output) (x : IssuedCommand) (d : DiskCommand) : Type 0 where
@@ -149,24 +147,6 @@ all_say c before site size (o ∷ os) sc h k x d i = go (all_say c before site s
     go : IsAt u k x d ⊎ IsNew c site size os x d → IsAt sc k x d ⊎ IsNew c site size (o ∷ os) x d
     go (inl j) = first (one.from k x d j)
     go (inr n) = inr (new_more c site size os (o ∷ os) x d (λ p j. inr j) n)
-
--- flush steps leave the disks
-pub flushes_disks : (c : ClientId) (s : ClientState) (ss : List ServerId) (w : World) → (ev.flushes c s ss w).disks ≡ w.disks
-unfolding ev.flushes
-flushes_disks c s [] w = refl
-flushes_disks c s (y ∷ ss) w = flushes_disks c s ss (ev.flushed_at w c y s) ∙ in_phase (cl.lease_end_with s y) (cl.phase_with s y (clock_of w (nodes.Client c)))
-  where
-    under : (o : Option Stamp) → (ev.flushed_under w c y o).disks ≡ w.disks
-    under None = refl
-    under (Some e) = refl
-
-    in_phase : (o : Option Stamp) (p : Option Phase) → (ev.flushed_in w c y o p).disks ≡ w.disks
-    in_phase o (Some phases.Flush) = under o
-    in_phase o (Some phases.Valid) = refl
-    in_phase o (Some phases.Renewal) = refl
-    in_phase o (Some phases.Quiesce) = refl
-    in_phase o (Some phases.Expired) = refl
-    in_phase o None = refl
 
 -- A write is for a disk of its file's server.
 pub placed_at : (size : ℕ) (os : List Output) → Placed size os → (n : ℕ) (at to : BlockAt) (tag : Tag) (bytes : List ℕ) → Has (write_said n at to tag bytes) os → pred at.disk.0 % size + 1 ≡ tag.file.server.0

@@ -1,6 +1,6 @@
 -- Reads return the last writes throughout a run in which each step has what is owed of it.
 use Rattle.std.proofs.Common.{◌≡◌, ℕ, ◌+◌, ◌<◌, true, false, List, [], ◌∷◌, ◌++◌, Option, Some, None, Ok, refl, sym, ap, ◌∙◌, subst, inl, inr, arith}
-use Rattle.std.specs.Prelude.{length, map, suc, zero}
+use Rattle.std.specs.Prelude.{map, suc, zero}
 use Rattle.std.proofs.lemmas.Bool.{ne_eqb}
 use Rattle.st_base.specs.declared.config.Config as base
 use Rattle.st_base.specs.declared.ids.NodeId.TheVariants as nodes
@@ -46,6 +46,7 @@ use Rattle.st_laws_reads.proofs.AllClients.Owing.{input_owed}
 use Rattle.st_laws_reads.proofs.AllClients.Reading.{dull_reads, known, more_known, numbered_there, others_dull, reads_taken}
 use Rattle.st_laws_reads.proofs.AllClients.Takings as takings
 use Rattle.st_laws_reads.proofs.AllClients.Takings.{Takes, takes_event}
+use Rattle.st_laws_pages.proofs.Lives.Fresh.{length_map, numbers_length}
 
 -- What stands behind the steps of a run.
 pub record Stood (k : Config) (count : ℕ) (past : List Step) (t : Traced) : Type 0 where
@@ -131,22 +132,13 @@ module _ (k : base.Config) (clients servers d b form : ℕ) where
   abbrev w : World
   w = fresh_world k clients servers d b form
 
-  map_length : {A B : Type 0} (f : A → B) (xs : List A) → length (map f xs) ≡ length xs
-  map_length f [] = refl
-  map_length f (x ∷ xs) = ap suc (map_length f xs)
-
-  numbers_length : (a c : ℕ) → length (numbers a c) ≡ c
-  unfolding numbers
-  numbers_length a zero = refl
-  numbers_length a (suc c) = ap suc (numbers_length (a + 1) c)
-
   there : (n : ℕ) → Has n (numbers 1 servers) → There w (record { 0 = n })
   unfolding fresh_world
   there n i =
       let z = numbers_in 1 servers n i in
       let x = z.0 in
       let y = z.1 in
-      let l = map_length (node_at_start k servers d b) (numbers 1 servers) ∙ numbers_length 1 servers in
+      let l = length_map (node_at_start k servers d b) (numbers 1 servers) ∙ numbers_length 1 servers in
       let f = numbered_is (map (node_at_start k servers d b) (numbers 1 servers)) n x (omega (arith, y, l)) in
       record { node = f.0; is = f.1 }
 

@@ -53,7 +53,7 @@ use Rattle.st_laws_reads.specs.AllClients.World.{CopiesHold}
 use Rattle.st_laws_reads.proofs.AllClients.Alone.{while_at}
 use Rattle.st_laws_reads.proofs.AllClients.Takings.{there_at}
 use Rattle.st_laws_pages.specs.Writes.Writes.{IsListed, ListedSince, OpenHold, WritesOnce}
-use Rattle.st_laws_pages.proofs.Writes.Joining.{IsNew, all_say, flushes_disks, pair_before, placed_at}
+use Rattle.st_laws_pages.proofs.Writes.Joining.{IsNew, all_say, pair_before, placed_at}
 use Rattle.st_laws_pages.proofs.Writes.Listing.{write_said}
 use Rattle.st_laws_pages.proofs.Writes.Walking.{AfterStep, EndedBy, ListedAt, StepKeeps, step_keeps}
 use Rattle.st_laws_reads.specs.OpenWrites.Open.{OfLife}
@@ -61,6 +61,7 @@ use Rattle.st_laws_reads.specs.OpenWrites.Living.{WritesHold}
 use Rattle.st_laws_reads.proofs.OpenWrites.Cases.{living_own, timely_end}
 use Rattle.st_laws_reads.proofs.OpenWrites.Growing.{Grows, Submitted, grows_all, says_both, submitted}
 use Rattle.st_laws_reads.proofs.OpenWrites.Lasting.{step_lasts}
+use Rattle.st_laws_pages.proofs.Causes.FlushSteps.{flushes_disks}
 
 -- What is of other clients or of lives that ended is as late as it was.
 pub record StepsOn (w v : World) (c : ℕ) (old new : ClientSite) : Type 0 where

@@ -43,9 +43,10 @@ use Rattle.st_base.specs.declared.disk.BlockAt.{BlockAt}
 use Rattle.st_base.specs.declared.disk.Tag.{Tag}
 use Rattle.st_rules.specs.Disks as disks
 use Rattle.st_laws_reads.specs.FrozenLives.PendingEntries.{OfCrashed}
-use Rattle.st_laws_pages.proofs.Writes.Joining.{IsNew, all_say, flushes_disks}
+use Rattle.st_laws_pages.proofs.Writes.Joining.{IsNew, all_say}
 use Rattle.st_laws_reads.specs.OpenWrites.Living.{OpenTracked, OpenWrite, writer}
 use Rattle.st_laws_pages.proofs.Disks.Opens.{GoesOn}
+use Rattle.st_laws_pages.proofs.Causes.FlushSteps.{flushes_disks}
 
 -- a lease that is lost is no crash
 uncrashed : (c : ClientId) (s : ClientState) (os : List Output) (row : LeaseLife) → Has row (ended_rows c s os) → row.crashed ≡ false

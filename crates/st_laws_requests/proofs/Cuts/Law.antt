@@ -1,6 +1,6 @@
 -- Answers are logged: at the start, behind every event, and over whole runs.
-use Rattle.std.proofs.Common.{◌≡◌, ℕ, ◌+◌, ◌⊎◌, List, [], ◌∷◌, ◌++◌, Option, Some, None, Ok, refl, sym, ap, ◌∙◌, subst, inl, inr, arith}
-use Rattle.std.specs.Prelude.{map, length, zero, suc, slice_get, option_map, nat_le}
+use Rattle.std.proofs.Common.{◌≡◌, ℕ, ◌+◌, ◌⊎◌, List, [], ◌∷◌, ◌++◌, Option, Some, None, Ok, refl, sym, subst, inl, inr, arith}
+use Rattle.std.specs.Prelude.{nat_le}
 use Rattle.std.proofs.lemmas.Bool.{leb-true}
 use Rattle.st_base.specs.declared.config.Config.{Config}
 use Rattle.st_base.specs.declared.ids.ClientId.{ClientId}
@@ -16,17 +16,14 @@ use Rattle.st_rules.specs.Extents.{numbers}
 use Rattle.st_rules.specs.Keys.{client, server_node}
 use Rattle.st_rules.specs.Client as cl
 use Rattle.st_rules.specs.Server as server
-use Rattle.st_rules.specs.World.{fresh_site, fresh_world, node_at_start, numbered}
+use Rattle.st_rules.specs.World.{fresh_site, fresh_world, node_at_start}
 use Rattle.st_rules.specs.Events.{WorldTurn, world_step}
 use Rattle.st_rules.specs.History.{Traced, traced, traced_after}
 use Rattle.st_rules.specs.Safety.{AnswersAreLogged, AreLogged, IsHead, IsLogged, Step, Throughout, step, steps}
 use Rattle.st_lemmas.specs.Lists.{Has}
-use Rattle.st_lemmas.proofs.Lookups.{some_is}
-use Rattle.st_lemmas.proofs.Numbers.{get_map}
 use Rattle.st_lemmas.proofs.Steps.{step_happens, throughout}
 use Rattle.st_lemmas.proofs.Tables.{and_true, has_append, has_map}
 use Rattle.st_laws_leases.specs.Dates.Dates.{messages}
-use Rattle.st_laws_leases.proofs.Dates.Steps.{length_map}
 use Rattle.st_laws_pages.proofs.Disks.Steps.{fates_law}
 use Rattle.st_laws_pages.proofs.Disks.Whole.{fresh_fates}
 use Rattle.st_laws_pages.specs.Asks.Law.{AreWrittenLogged, IsWrittenLogged, WrittenIsLogged}
@@ -34,6 +31,7 @@ use Rattle.st_laws_pages.proofs.Asks.Law.{written_law}
 use Rattle.st_laws_requests.specs.Cuts.Cuts.{Acked, ClientOk, CutsHold, ServerOk}
 use Rattle.st_laws_requests.specs.Cuts.Law.{RunsLogAnswers, CutsAreLogged}
 use Rattle.st_laws_requests.proofs.Cuts.World.{Next, acked_more, happens}
+use Rattle.st_laws_pages.proofs.Lives.Fresh.{fresh_is, length_map, numbers_length}
 
 -- Both halves of a line.
 both : (past : List Step) (x : Step) (line : Option Observation) (o : Observation) → IsWrittenLogged past x line o → ((c : ClientId) (op : ℕ) → o ≡ seen.Answered c op answers.Cut → IsLogged past x line o) → IsLogged past x line o
@@ -85,26 +83,6 @@ one past t e sc d h = let z = step_happens t.world e sc h in go (subst (λ (x : 
     go n = (n.cuts, next_holds past t e sc d h n)
 
 -- The start.
-numbers_get : (a c i m : ℕ) → slice_get (numbers a c) i ≡ Some m → m ≡ a + i
-unfolding numbers
-numbers_get a zero i m e = cc
-numbers_get a (suc c) zero m e = let z = some_is e in omega (arith, z)
-numbers_get a (suc c) (suc i) m e = let z = numbers_get (a + 1) c i m e in omega (arith, z)
-
-numbers_length : (a c : ℕ) → length (numbers a c) ≡ c
-unfolding numbers
-numbers_length a zero = refl
-numbers_length a (suc c) = ap suc (numbers_length (a + 1) c)
-
--- what goes by a number at the start is the fresh one of that number
-fresh_is : {A : Type 0} (f : ℕ → A) (count n : ℕ) (x : A) → numbered (map f (numbers 1 count)) n ≡ Some x → x ≡ f n
-fresh_is f count zero x e = cc
-fresh_is {A} f count (suc i) x e = at (slice_get (numbers 1 count) i) refl (sym (get_map f (numbers 1 count) i) ∙ e)
-  where
-    at : (o : Option ℕ) → slice_get (numbers 1 count) i ≡ o → option_map f o ≡ Some x → x ≡ f (suc i)
-    at None q e = cc
-    at (Some m) q e = sym (some_is e) ∙ ap f (numbers_get 1 count i m q ∙ (let z : 1 + i ≡ suc i = omega arith in z))
-
 fresh_client : (k : Config) (servers : ℕ) (c : ClientId) → ClientOk [] [] c (fresh_site k servers c.0)
 unfolding cl.fresh_client
 fresh_client k servers c =
