@@ -2,7 +2,7 @@ pub mod Clients
 pub mod Data
 pub mod Effects
 pub mod Folds
-pub mod Found
+pub mod ReadsFind
 pub mod Law
 pub mod Moves
 pub mod Opens

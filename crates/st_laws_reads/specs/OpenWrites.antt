@@ -1,2 +1,2 @@
-pub mod Living
-pub mod Open
+pub mod StandStill
+pub mod StandAlone

@@ -6,7 +6,7 @@ ghost use Rattle.st_laws_reads.specs.Copies.Law.{ChangesAreHeld, ChangesLieUnder
 ghost use Rattle.st_laws_reads.specs.Copies.World.{ClocksKeepCopies, DropsKeepCopies, EffectsKeepCopies, EntriesKeepCopies, EventsKeepCopies, RestartsKeepCopies, RestsStay};
 ghost use Rattle.st_laws_reads.specs.FrozenLives.PendingEntries.{FrozenAreAlone, FrozenBegin, FrozenLivesStandAlone, EventsKeepFrozen};
 ghost use Rattle.st_laws_reads.specs.FrozenLives.Frozen.{CrashesLeaveLives, LivesStandAlone, PathsKeepLives};
-ghost use Rattle.st_laws_reads.specs.OpenWrites.Open.{OpenWritesStandAlone};
+ghost use Rattle.st_laws_reads.specs.OpenWrites.StandAlone.{OpenWritesStandAlone};
 ghost use Rattle.st_laws_reads.specs.AllClients.Clear.{RunsClear};
 ghost use Rattle.st_laws_reads.specs.AllClients.Events.{OthersKeepCopies};
 ghost use Rattle.st_laws_reads.specs.AllClients.Law.{PendingPagesStandAlone};

@@ -36,7 +36,7 @@ use Rattle.st_laws_refine.specs.Server.Edits.{Acquired, AtOnce, InTurn, Edit, Ta
 use Rattle.st_laws_refine.proofs.Server.OneRow.{demanded_once, forget_once, granted_once, released_once, row_found, seen_once}
 use Rattle.st_laws_waits.specs.Bounds.{DemandInTime}
 use Rattle.st_laws_waits.specs.Chase.{IsFirst}
-use Rattle.st_laws_waits.specs.Going.{Going}
+use Rattle.st_laws_waits.specs.WithinStep.{WithinStep}
 use Rattle.st_laws_waits.proofs.Demanding.{demand_keys}
 use Rattle.st_laws_waits.proofs.Edits.{edit, taken_out}
 use Rattle.st_laws_waits.proofs.Tests.{clash, find_filter, find_longer}
@@ -258,13 +258,13 @@ module _ (w : Waiter) (R : Authority → LockRow → Type 0) where
     module _ (wait : ℕ) (g : Option Grace) (n : ServerState) (off : grace.is_on g now ≡ false) (p : 1 ≤ k.demand) (q : 1 ≤ wait) (late : last ≤ now.0)
         (first : Waits (thefts (turn n []) now).state.authority (thefts (turn n []) now).state.locks) where
       pub record Chasing (t : Turn) : Type 0 where
-        pub going : Going k wait last now g t
+        pub going : WithinStep k wait last now g t
         pub either : Either t.state.authority t.state.locks
 
       behind_thefts : (t : Turn) → t ≡ thefts (turn n []) now → Waits t.state.authority t.state.locks
       behind_thefts t e = subst (λ (u : Turn). Waits u.state.authority u.state.locks) (sym e) first
 
-      either_edit : (t u : Turn) → Edit n now i t u → Going k wait last now g t → Either t.state.authority t.state.locks →
+      either_edit : (t u : Turn) → Edit n now i t u → WithinStep k wait last now g t → Either t.state.authority t.state.locks →
           Either u.state.authority u.state.locks
       unfolding steal_from suspect_client keep_and_reply reply tell locks.forget locks.drop_waits locks.drop_file_waits
       either_edit t u (TakesTimers _ z) o x = timed t.state.authority (authority.still_running t.state.authority now) t.state.locks (λ r h y. kept.timers t.state.authority (authority.still_running t.state.authority now) r (taken_out wait now t.state.authority o.wait_is o.timers r.client) y) x

@@ -29,7 +29,7 @@ use Rattle.st_laws_refine.specs.Server.Edits.{Acquired, AtOnce, InTurn, Edit, Ta
 use Rattle.st_laws_refine.proofs.Server.Changes.{has_suspect, suspect_other}
 use Rattle.st_laws_refine.proofs.Server.Locking.{queue_rows}
 use Rattle.st_laws_waits.specs.Bounds.{DemandInTime, RowsInTime, SinceInTime}
-use Rattle.st_laws_waits.specs.Going.{Going, TimersRun}
+use Rattle.st_laws_waits.specs.WithinStep.{WithinStep, TimersRun}
 
 -- bounds on the rows of a table
 module _ (last now demand : ℕ) where
@@ -205,7 +205,7 @@ module _ (k : Config) (wait last : ℕ) (now : Stamp) (g : Option Grace) (n : Se
       (sent last now.0 k.demand a kb (may_ack a r.client) l p now refl (is_tick i) to r.demand x d (b r h)))
       (λ f. b m.0 m.1))
 
-  pub edit : (t u : Turn) → 1 ≤ k.demand → 1 ≤ wait → last ≤ now.0 → Edit n now i t u → Going k wait last now g t → Going k wait last now g u
+  pub edit : (t u : Turn) → 1 ≤ k.demand → 1 ≤ wait → last ≤ now.0 → Edit n now i t u → WithinStep k wait last now g t → WithinStep k wait last now g u
   unfolding steal_from suspect_client keep_and_reply reply tell locks.forget locks.drop_waits locks.drop_file_waits
   edit t u p q l (TakesTimers _ z) o =
       record {

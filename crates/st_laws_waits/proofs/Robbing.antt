@@ -29,7 +29,7 @@ use Rattle.st_laws_refine.proofs.Server.OneRow.{forget_once}
 use Rattle.st_laws_refine.proofs.Server.Thefts.{has_over}
 use Rattle.st_laws_waits.specs.Bounds.{DemandInTime, RowsInTime, RowsHaveSessions, SinceInTime, TimersInTime}
 use Rattle.st_laws_waits.specs.Chase.{IsFirst}
-use Rattle.st_laws_waits.specs.Going.{Going, TimersRun}
+use Rattle.st_laws_waits.specs.WithinStep.{WithinStep, TimersRun}
 use Rattle.st_laws_waits.proofs.Edits.{demand_less, more_suspects, taken_wait}
 use Rattle.st_laws_waits.proofs.Tests.{clash, find_filter, free_none}
 
@@ -148,7 +148,7 @@ module _ (k : Config) (wait last : ℕ) (now : Stamp) (n : ServerState) (known :
   left = robbed (over n.authority now) (with_authority (authority.still_running n.authority now) (turn n [])) known
 
   pub stolen : n.config ≡ k → n.authority.wait ≡ wait → RowsInTime last now.0 k.demand n.authority n.locks → TimersInTime last now.0 n.authority →
-      Going k wait last now n.grace (thefts (turn n []) now)
+      WithinStep k wait last now n.grace (thefts (turn n []) now)
   unfolding thefts
   stolen c e rows timers =
       record {
@@ -228,8 +228,8 @@ none_overdue now t r h f = go (is_overdue t.state.config now r) refl
         (rising_has_in _ r.client.0 (has_map_in locks.client_of_row _ r (has_filter_in (is_overdue t.state.config now) t.state.locks.rows r (subst (Has r) z.rows h) e)))) f)
 
 -- behind a tick's suspicions the last tick may be this one
-pub ticked : (k : Config) (wait last : ℕ) (now : Stamp) (g : Option Grace) (t : Turn) → t.state.config ≡ k → Going k wait last now g (suspecting t now) →
-    Going k wait now.0 now g (suspecting t now)
+pub ticked : (k : Config) (wait last : ℕ) (now : Stamp) (g : Option Grace) (t : Turn) → t.state.config ≡ k → WithinStep k wait last now g (suspecting t now) →
+    WithinStep k wait now.0 now g (suspecting t now)
 ticked k wait last now g t c o = record { config = o.config; wait_is = o.wait_is; grace = o.grace; rows = λ r h. row r h r.demand refl (o.rows r h); timers = o.timers }
   where
     a : Authority

@@ -16,7 +16,7 @@ use Rattle.st_laws_refine.specs.Server.Edits.{WishInput}
 use Rattle.st_laws_refine.proofs.Server.Walk.{w_demanding, w_granting, w_message, w_suspecting}
 use Rattle.st_laws_refine.proofs.Server.Walk.{thefts_quiet}
 use Rattle.st_laws_waits.specs.Bounds.{AllBlocked, InTime, RowsHaveSessions}
-use Rattle.st_laws_waits.specs.Going.{Going}
+use Rattle.st_laws_waits.specs.WithinStep.{WithinStep}
 use Rattle.st_laws_waits.proofs.Demanding.{pass_blocked, pass_demanded}
 use Rattle.st_laws_waits.proofs.Edits.{edit}
 use Rattle.st_laws_waits.proofs.Granting.{waiting_blocked}
@@ -38,17 +38,17 @@ granting_blocked t now = go (in_grace t now) refl
 
 module _ (k : Config) (now : Stamp) (n : ServerState) (i : ServerInput) (p : 1 ≤ k.demand) (q : 1 ≤ steal_wait k) (rp : 1 ≤ k.retry) where
   -- the passes behind the suspicions
-  passes : (last : ℕ) (t : Turn) → last ≤ now.0 → Going k (steal_wait k) last now n.grace t →
-      Going k (steal_wait k) last now n.grace (demanding (granting t now) now i)
+  passes : (last : ℕ) (t : Turn) → last ≤ now.0 → WithinStep k (steal_wait k) last now n.grace t →
+      WithinStep k (steal_wait k) last now n.grace (demanding (granting t now) now i)
   passes last t l o =
-      w_demanding n now i (Going k (steal_wait k) last now n.grace) (λ t u e o. edit k (steal_wait k) last now n.grace n i t u p q l e o) (granting t now)
-      (w_granting n now i (Going k (steal_wait k) last now n.grace) (λ t u e o. edit k (steal_wait k) last now n.grace n i t u p q l e o) t o)
+      w_demanding n now i (WithinStep k (steal_wait k) last now n.grace) (λ t u e o. edit k (steal_wait k) last now n.grace n i t u p q l e o) (granting t now)
+      (w_granting n now i (WithinStep k (steal_wait k) last now n.grace) (λ t u e o. edit k (steal_wait k) last now n.grace n i t u p q l e o) t o)
 
-  granted : (last : ℕ) (t : Turn) → last ≤ now.0 → Going k (steal_wait k) last now n.grace t → Going k (steal_wait k) last now n.grace (granting t now)
-  granted last t l o = w_granting n now i (Going k (steal_wait k) last now n.grace) (λ t u e o. edit k (steal_wait k) last now n.grace n i t u p q l e o) t o
+  granted : (last : ℕ) (t : Turn) → last ≤ now.0 → WithinStep k (steal_wait k) last now n.grace t → WithinStep k (steal_wait k) last now n.grace (granting t now)
+  granted last t l o = w_granting n now i (WithinStep k (steal_wait k) last now n.grace) (λ t u e o. edit k (steal_wait k) last now n.grace n i t u p q l e o) t o
 
   -- what stands behind the passes
-  behind : (last : ℕ) (t : Turn) → last ≤ now.0 → Going k (steal_wait k) last now n.grace t → InTime k last now.0 (demanding (granting t now) now i).state
+  behind : (last : ℕ) (t : Turn) → last ≤ now.0 → WithinStep k (steal_wait k) last now n.grace t → InTime k last now.0 (demanding (granting t now) now i).state
   behind last t l o =
       record {
         config = z.config;
@@ -63,7 +63,7 @@ module _ (k : Config) (now : Stamp) (n : ServerState) (i : ServerInput) (p : 1 �
       retries : 1 ≤ (granting t now).state.config.retry
       retries = subst (λ (kb : Config). 1 ≤ kb.retry) (sym (granted last t l o).config) rp
 
-      z : Going k (steal_wait k) last now n.grace (demanding (granting t now) now i)
+      z : WithinStep k (steal_wait k) last now n.grace (demanding (granting t now) now i)
       z = passes last t l o
 
       by : (grace.is_on t.state.grace now ≡ true) ⊎ AllBlocked (granting t now).state.locks →
@@ -73,18 +73,18 @@ module _ (k : Config) (now : Stamp) (n : ServerState) (i : ServerInput) (p : 1 �
 
 module _ (k : Config) (last : ℕ) (now : Stamp) (n : ServerState) (p : 1 ≤ k.demand) (q : 1 ≤ steal_wait k) (rp : 1 ≤ k.retry) (known : RowsHaveSessions n) (s : InTime k last now.0 n) where
   -- behind the thefts
-  pub robbed : Going k (steal_wait k) last now n.grace (thefts (turn n []) now)
+  pub robbed : WithinStep k (steal_wait k) last now n.grace (thefts (turn n []) now)
   robbed = stolen k (steal_wait k) last now n known s.config s.wait s.rows s.timers
 
   -- behind a tick's suspicions
-  pub suspected : Going k (steal_wait k) now.0 now n.grace (suspecting (thefts (turn n []) now) now)
+  pub suspected : WithinStep k (steal_wait k) now.0 now n.grace (suspecting (thefts (turn n []) now) now)
   suspected =
       ticked k (steal_wait k) last now n.grace (thefts (turn n []) now) robbed.config
-      (w_suspecting n now Tick (Going k (steal_wait k) last now n.grace) (λ t u e o. edit k (steal_wait k) last now n.grace n Tick t u p q s.past e o) (thefts (turn n []) now) (thefts_quiet n now) robbed)
+      (w_suspecting n now Tick (WithinStep k (steal_wait k) last now n.grace) (λ t u e o. edit k (steal_wait k) last now n.grace n Tick t u p q s.past e o) (thefts (turn n []) now) (thefts_quiet n now) robbed)
 
   -- behind a message's rule
-  pub heard : (m : Message) → WishInput (Control m) → Going k (steal_wait k) last now n.grace (take_input (thefts (turn n []) now) now (Control m))
-  heard m w = w_message n now m (Going k (steal_wait k) last now n.grace) (λ t u e o. edit k (steal_wait k) last now n.grace n (Control m) t u p q s.past e o) w robbed
+  pub heard : (m : Message) → WishInput (Control m) → WithinStep k (steal_wait k) last now n.grace (take_input (thefts (turn n []) now) now (Control m))
+  heard m w = w_message n now m (WithinStep k (steal_wait k) last now n.grace) (λ t u e o. edit k (steal_wait k) last now n.grace n (Control m) t u p q s.past e o) w robbed
 
   pub tick_in_time : InTime k now.0 now.0 (server_step n now Tick).state
   unfolding server_step take_input suspecting_on

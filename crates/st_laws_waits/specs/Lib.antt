@@ -1,5 +1,5 @@
 pub mod Bounds
-pub mod Going
+pub mod WithinStep
 pub mod Chase
 pub mod Ends
 pub mod Waits

@@ -31,14 +31,14 @@ use Rattle.st_laws_extents.specs.CutRequests.Law.{gifts}
 use Rattle.st_laws_extents.specs.FrozenCuts.FrozenFiles.{FrozenFilesUncut, UncutLife}
 use Rattle.st_rules.specs.declared.world.LeaseLife.{LeaseLife}
 use Rattle.st_rules.specs.World.{ended_of}
-use Rattle.st_laws_pages.proofs.Lives.Living.{row_is}
+use Rattle.st_laws_pages.proofs.Lives.NodeTurns.{row_is}
 use Rattle.st_laws_steps.proofs.Lives.Associations.{own_found}
 use Rattle.st_laws_steps.specs.Lives.Lives.{LivesHold, NodeHolds}
 use Rattle.st_laws_pages.specs.Writes.Writes.{IsListed, OpenHold}
 use Rattle.st_laws_reads.specs.AllClients.Clear.{AllCleared, Cuts}
 use Rattle.st_lemmas.proofs.Lookups.{some_is}
 use Rattle.st_lemmas.proofs.Numbers.{numbered_below}
-use Rattle.st_laws_reads.specs.OpenWrites.Living.{OpenThere, OpenTracked, OpenWrite, writer}
+use Rattle.st_laws_reads.specs.OpenWrites.StandStill.{OpenThere, OpenTracked, OpenWrite, writer}
 use Rattle.st_laws_extents.proofs.CutRequests.Law.{Hold}
 use Rattle.st_rules.specs.Admissible as adm
 use Rattle.st_rules.specs.World as world

@@ -16,7 +16,7 @@ use Rattle.st_laws_extents.specs.CutRequests.Law.{gifts}
 use Rattle.st_laws_extents.specs.FrozenCuts.FrozenFiles.{FrozenFilesUncut}
 use Rattle.st_rules.specs.declared.world.LeaseLife.{LeaseLife}
 use Rattle.st_rules.specs.World.{ended_of}
-use Rattle.st_laws_reads.specs.OpenWrites.Living.{OpenWrite}
+use Rattle.st_laws_reads.specs.OpenWrites.StandStill.{OpenWrite}
 use Rattle.st_laws_extents.proofs.CutRequests.Law.{Hold}
 use Rattle.st_laws_pages.specs.Disks.World.{Living, PagesHold, Timely}
 use Rattle.st_laws_extents.specs.Submits.Left.{FrozenUncut}

@@ -62,7 +62,7 @@ use Rattle.st_laws_reads.specs.AllClients.World.{CopiesHold, TakingOwed}
 use Rattle.st_laws_reads.proofs.AllClients.Alone.{law, while_at}
 use Rattle.st_laws_reads.proofs.AllClients.Takings.{Takes, keeps, mine, mine_there, there_at}
 use Rattle.st_laws_pages.specs.Writes.Writes.{OpenHold, WritesOnce}
-use Rattle.st_laws_reads.specs.OpenWrites.Living.{WritesHold}
+use Rattle.st_laws_reads.specs.OpenWrites.StandStill.{WritesHold}
 use Rattle.st_laws_reads.proofs.OpenWrites.Alone as alone
 use Rattle.st_laws_extents.specs.Submits.Lies.{SubmitsLie}
 use Rattle.st_laws_extents.specs.Submits.Submits.{LastIn, LatestLast}

@@ -40,7 +40,7 @@ use Rattle.st_laws_reads.specs.Copies.World.{hearing, hearing_of, taken}
 use Rattle.st_laws_reads.specs.AllClients.Events.{CutFree, MessageFree, OthersOwed, ReceiverFree, ServerFree, TurnFree}
 use Rattle.st_laws_reads.specs.AllClients.World.{CopiesHold}
 use Rattle.st_laws_pages.specs.Writes.Writes.{OpenHold}
-use Rattle.st_laws_reads.specs.OpenWrites.Living.{WritesHold}
+use Rattle.st_laws_reads.specs.OpenWrites.StandStill.{WritesHold}
 use Rattle.st_laws_reads.proofs.OpenWrites.Cases.{CrashedWrite, PresentWrite, living_is}
 use Rattle.st_laws_reads.proofs.AllClients.Cutting.{Seen, seen_all}
 use Rattle.st_laws_extents.specs.Submits.Left.{NoFrozenWrites}

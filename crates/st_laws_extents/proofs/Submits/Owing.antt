@@ -48,7 +48,7 @@ use Rattle.st_laws_reads.proofs.AllClients.Settled.{own_law}
 use Rattle.st_laws_pages.specs.Writes.Writes.{OpenHold, WritesOnce}
 use Rattle.st_laws_pages.proofs.Writes.Joining.{placed_at}
 use Rattle.st_laws_pages.proofs.Writes.Listing.{write_said}
-use Rattle.st_laws_reads.specs.OpenWrites.Living.{WritesHold}
+use Rattle.st_laws_reads.specs.OpenWrites.StandStill.{WritesHold}
 use Rattle.st_laws_reads.proofs.OpenWrites.Alone as alone
 use Rattle.st_laws_reads.proofs.OpenWrites.Alone.{mine, sc0, t, v}
 use Rattle.st_laws_reads.proofs.OpenWrites.Growing.{grows_all, says_both}

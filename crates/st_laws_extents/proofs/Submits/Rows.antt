@@ -30,7 +30,7 @@ use Rattle.st_laws_leases.specs.Sides.Paths.{pairs_of}
 use Rattle.st_laws_reads.proofs.FrozenLives.Stepping.{clock_there, site_there}
 use Rattle.st_laws_reads.proofs.FrozenLives.Walks.{row_same, up_same}
 use Rattle.st_laws_extents.specs.CutRequests.Cut.{CutIn}
-use Rattle.st_laws_reads.specs.OpenWrites.Living.{OverOrStill, WritesHold, writer}
+use Rattle.st_laws_reads.specs.OpenWrites.StandStill.{OverOrStill, WritesHold, writer}
 use Rattle.st_laws_reads.proofs.OpenWrites.Cases.{timely_end}
 use Rattle.st_laws_extents.specs.Submits.Left.{NoFrozenWrites, NoOwnWrites}
 

@@ -57,7 +57,7 @@ use Rattle.st_laws_pages.proofs.Writes.Law.{fresh_open, open_step}
 use Rattle.st_laws_reads.specs.FrozenLives.PendingEntries.{FrozenHold}
 use Rattle.st_laws_reads.specs.FrozenLives.Runs.{IsLeft, TakenLeft}
 use Rattle.st_laws_reads.proofs.FrozenLives.Law.{alone, events_keep, first}
-use Rattle.st_laws_reads.specs.OpenWrites.Living.{WritesHold}
+use Rattle.st_laws_reads.specs.OpenWrites.StandStill.{WritesHold}
 use Rattle.st_laws_reads.proofs.OpenWrites.Falling.{writes_fall}
 use Rattle.st_laws_reads.proofs.OpenWrites.Still.{writes_go_on}
 use Rattle.st_laws_extents.proofs.CutRequests.Seen.{cuts_known}

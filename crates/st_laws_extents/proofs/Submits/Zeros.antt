@@ -37,7 +37,7 @@ use Rattle.st_laws_pages.specs.Disks.Folds.{SettledOn}
 use Rattle.st_laws_steps.specs.Lives.Lives.{clock_in}
 use Rattle.st_laws_steps.specs.Client.Losses.{Fit, SessionFresh}
 use Rattle.st_laws_pages.specs.Disks.World.{PagesHold, mapped_at, mapped_in}
-use Rattle.st_laws_pages.proofs.Disks.Found.{unmapped_finds}
+use Rattle.st_laws_pages.proofs.Disks.ReadsFind.{unmapped_finds}
 use Rattle.st_laws_leases.specs.Sides.Stands.{Standing}
 use Rattle.st_laws_leases.specs.Sides.World.{AllStand, ServerStands, There}
 use Rattle.st_laws_leases.proofs.Sides.Pairs.{only_here}

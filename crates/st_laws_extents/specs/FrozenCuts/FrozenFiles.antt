@@ -5,7 +5,7 @@ use Rattle.st_rules.specs.declared.log.LogOwner.{LogOwner}
 use Rattle.st_rules.specs.World.{World}
 use Rattle.st_protocol.specs.Assoc.{Config}
 use Rattle.st_laws_leases.specs.Sides.World.{AllStand}
-use Rattle.st_laws_reads.specs.OpenWrites.Living.{OpenCrashed}
+use Rattle.st_laws_reads.specs.OpenWrites.StandStill.{OpenCrashed}
 use Rattle.st_laws_extents.specs.CutRequests.EndedLives.{LifeHarmless}
 use Rattle.st_laws_extents.specs.CutRequests.Law.{gifts}
 

@@ -42,7 +42,7 @@ use Rattle.st_laws_pages.specs.Disks.Folds.{DoneUpto, owner_at}
 use Rattle.st_laws_steps.specs.Client.Losses.{Ends, Unknown, Passes, Hardens, Fails}
 use Rattle.st_laws_pages.proofs.Flush.Caring.{latest_stays}
 use Rattle.st_laws_pages.proofs.Flush.Ending.{SuccessOwed}
-use Rattle.st_laws_pages.proofs.Disks.Found.{none_upto}
+use Rattle.st_laws_pages.proofs.Disks.ReadsFind.{none_upto}
 use Rattle.st_laws_pages.proofs.Flush.Growing.{Adds, AddsEntry}
 use Rattle.st_laws_pages.proofs.Disks.Law.{owner_more, owner_same}
 use Rattle.st_laws_steps.proofs.Client.Nexts.{dirty_put, failed_found, found_fewer}

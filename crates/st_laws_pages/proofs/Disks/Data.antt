@@ -11,7 +11,7 @@ use Rattle.st_laws_pages.specs.Disks.Data.{UnmappedIsZeros, BlockIsContent, Done
 use Rattle.st_laws_pages.proofs.Disks.Folds.{owner_parts}
 use Rattle.st_laws_pages.proofs.Lives.Lasting.{no_option}
 use Rattle.st_laws_pages.proofs.Fates.GoneLaw.{Over}
-use Rattle.st_laws_pages.proofs.Disks.Found.{NotGone, read_finds, unmapped_finds, hard_is}
+use Rattle.st_laws_pages.proofs.Disks.ReadsFind.{NotGone, read_finds, unmapped_finds, hard_is}
 
 -- no entry is gone of a life that has not ended and is before its end
 not_over : (w : World) (o : LogOwner) → ended_of w o.client o.file.server o.life ≡ None → BeforeEnd w o → Over w o → ⊥

@@ -36,7 +36,7 @@ use Rattle.st_laws_steps.specs.Client.Notes.{NotesAll, IsChangedAt}
 use Rattle.st_laws_pages.proofs.Lives.Lives.{find_front, find_back, rows_own, rows_other}
 use Rattle.st_laws_pages.proofs.Fates.Fates.{pending_map}
 use Rattle.st_laws_steps.proofs.Lives.Associations.{found_has}
-use Rattle.st_laws_pages.proofs.Lives.Living.{row_is}
+use Rattle.st_laws_pages.proofs.Lives.NodeTurns.{row_is}
 use Rattle.st_laws_steps.proofs.Client.Dirtying.{notes_map}
 use Rattle.st_laws_steps.proofs.Client.Noting.{step_notes}
 use Rattle.st_laws_pages.proofs.Lives.Turning.{Said, says_lives, client_lives}

@@ -35,7 +35,7 @@ use Rattle.st_laws_steps.specs.Lives.Lives.{rows_lost, LifeNext, clock_in, NodeH
 use Rattle.st_laws_steps.specs.Client.Notes.{NoteAt, NotesAll, IsChangedAt}
 use Rattle.st_laws_pages.proofs.Lives.Lives.{find_front, find_back}
 use Rattle.st_laws_steps.proofs.Lives.Associations.{own_found, found_has, lost_has, lost_other, pair_left, PairLeft}
-use Rattle.st_laws_pages.proofs.Lives.Living.{row_is}
+use Rattle.st_laws_pages.proofs.Lives.NodeTurns.{row_is}
 use Rattle.st_laws_pages.proofs.Lives.Turning.{says_one}
 use Rattle.st_laws_steps.proofs.Client.Dirtying.{note_map}
 use Rattle.st_laws_pages.proofs.Lives.Lasting.{no_option}

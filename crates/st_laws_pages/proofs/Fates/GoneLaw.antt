@@ -42,7 +42,7 @@ use Rattle.st_laws_steps.specs.Lives.Lives.{ended_rows, rows_lost, Stepped, cloc
 use Rattle.st_laws_pages.proofs.Lives.Lives.{find_front, find_back, rows_own, rows_other}
 use Rattle.st_laws_pages.proofs.Disks.Moves.{clock_up, clock_is}
 use Rattle.st_laws_steps.proofs.Lives.Associations.{found_has, lost_found, lost_other}
-use Rattle.st_laws_pages.proofs.Lives.Living.{row_is}
+use Rattle.st_laws_pages.proofs.Lives.NodeTurns.{row_is}
 use Rattle.st_laws_pages.proofs.Lives.Turning.{Said, says_lives}
 use Rattle.st_laws_pages.proofs.Lives.Lasting.{Flushed, flush_parts, no_option, end_one}
 use Rattle.st_laws_steps.proofs.Clash.{clash}

@@ -29,7 +29,7 @@ use Rattle.st_laws_pages.specs.Fates.Fates.{PendingAll, BeforeEnd}
 use Rattle.st_laws_steps.specs.Client.Losses.{is_ended}
 use Rattle.st_laws_steps.specs.Lives.Lives.{LifeNext, Stepped, clock_in, IsKnown, NodeHolds, owner_of, LivesHold}
 use Rattle.st_laws_steps.proofs.Lives.Associations.{own_found, PairFound, pair_found}
-use Rattle.st_laws_pages.proofs.Lives.Living.{row_is}
+use Rattle.st_laws_pages.proofs.Lives.NodeTurns.{row_is}
 use Rattle.st_laws_pages.proofs.Lives.Lasting.{no_option}
 use Rattle.st_laws_pages.proofs.Fates.GoneLaw.{Over, pending_crashed}
 use Rattle.st_laws_steps.proofs.Clash.{clash}

@@ -29,7 +29,7 @@ use Rattle.st_laws_steps.specs.Client.Losses.{Fit, is_ended, SessionNext}
 use Rattle.st_laws_steps.specs.Lives.Lives.{Pairwise, IsKnown, NodeHolds, owner_of, LivesHold}
 use Rattle.st_laws_pages.specs.Flush.Flush.{DirtyHere, Cared, Covered}
 use Rattle.st_laws_steps.proofs.Lives.Associations.{own_found}
-use Rattle.st_laws_pages.proofs.Lives.Living.{row_is}
+use Rattle.st_laws_pages.proofs.Lives.NodeTurns.{row_is}
 use Rattle.st_laws_pages.proofs.Fates.FateLaw.{pending_known}
 use Rattle.st_laws_steps.proofs.Client.Nexts.{Next, changes_next}
 use Rattle.st_laws_steps.proofs.Client.Asking.{c_passes}

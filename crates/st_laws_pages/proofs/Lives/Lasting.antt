@@ -27,7 +27,7 @@ use Rattle.st_laws_steps.specs.Client.Losses.{is_ended}
 use Rattle.st_laws_steps.specs.Lives.Lives.{ended_rows, rows_lost, Stepped, clock_in, IsKnown, NodeHolds, LivesHold, CrashLives}
 use Rattle.st_laws_pages.proofs.Lives.Lives.{find_front, find_back}
 use Rattle.st_laws_steps.proofs.Lives.Associations.{own_found, lost_found, lost_other}
-use Rattle.st_laws_pages.proofs.Lives.Living.{row_is}
+use Rattle.st_laws_pages.proofs.Lives.NodeTurns.{row_is}
 use Rattle.st_laws_pages.proofs.Lives.Turning.{Said, says_lives}
 
 pub no_option : {A : Type 0} (x : A) → ◌≡◌ {A = Option A} None (Some x) → ⊥

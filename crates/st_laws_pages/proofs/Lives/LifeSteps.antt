@@ -28,7 +28,7 @@ use Rattle.st_laws_steps.specs.Lives.Lives.{Stepped, clock_in, NodeHolds, EndedH
 use Rattle.st_laws_pages.proofs.Disks.Effects.{or_none, stands_not}
 use Rattle.st_laws_pages.proofs.Disks.Moves.{advanced_get, clock_up}
 use Rattle.st_laws_steps.proofs.Client.Stepping.{step_lives}
-use Rattle.st_laws_pages.proofs.Lives.Living.{turned_lives, turned_all}
+use Rattle.st_laws_pages.proofs.Lives.NodeTurns.{turned_lives, turned_all}
 use Rattle.st_laws_pages.proofs.Lives.Turning.{crash_turned, start_turned, lives_by, none_rows}
 use Rattle.st_laws_pages.proofs.Lives.Lasting.{client_stays}
 
@@ -133,7 +133,7 @@ crash_lives w c site there r h =
     Kind : Association → Association → Type 0
     Kind a b = cl.crashed_association a ≡ b
 
-    turned : Rattle.st_laws_pages.proofs.Lives.Living.Turned Kind w.clocks w.ended c site.node (cl.crash_node site.node) rows
+    turned : Rattle.st_laws_pages.proofs.Lives.NodeTurns.Turned Kind w.clocks w.ended c site.node (cl.crash_node site.node) rows
     turned = crash_turned w.clocks w.ended c site.node w.config node r
 
 pub start_lives : (w : World) (c : ClientId) (site : ClientSite) → site_of w c ≡ Some site → site.node.running ≡ false → LivesHold w → LivesHold (ev.starts_client w c (Some site))
@@ -149,5 +149,5 @@ start_lives w c site there r h =
     Kind : Association → Association → Type 0
     Kind a b = cl.started_association a ≡ b
 
-    turned : Rattle.st_laws_pages.proofs.Lives.Living.Turned Kind w.clocks w.ended c site.node (cl.start_node site.node) []
+    turned : Rattle.st_laws_pages.proofs.Lives.NodeTurns.Turned Kind w.clocks w.ended c site.node (cl.start_node site.node) []
     turned = start_turned w.clocks w.ended c site.node w.config node r

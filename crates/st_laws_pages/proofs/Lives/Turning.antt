@@ -33,7 +33,7 @@ use Rattle.st_laws_steps.specs.Client.Losses.{Fit, is_ended}
 use Rattle.st_laws_steps.specs.Lives.Lives.{rows_said, ended_rows, rows_lost, LifeNext, Pairwise, Stepped, clock_in, IsKnown, IsBelow, IsStopped, NodeHolds, LivesAreKept, AllKnown, owner_of, LivesHold}
 use Rattle.st_laws_pages.proofs.Lives.Lives.{find_front, find_back, rows_own}
 use Rattle.st_laws_steps.proofs.Lives.Associations.{own_found, lost_has, lost_found, LostOf}
-use Rattle.st_laws_pages.proofs.Lives.Living.{NewRow, GoesOrEnded, Turned, turned_lives, turned_all}
+use Rattle.st_laws_pages.proofs.Lives.NodeTurns.{NewRow, GoesOrEnded, Turned, turned_lives, turned_all}
 
 -- found in the front or in the back
 found_in : (p : LeaseLife → Bool) (xs ys : List LeaseLife) (e : LeaseLife) → find p ys ≡ Some e → (x : LeaseLife) × (find p (xs ++ ys) ≡ Some x)

@@ -31,7 +31,7 @@ use Rattle.st_lemmas.proofs.Tables.{same_or_not}
 use Rattle.st_laws_steps.specs.Client.Losses.{Fit, is_ended}
 use Rattle.st_laws_steps.specs.Lives.Lives.{IsKnown, LivesHold, NodeHolds, Once, Pairwise, server_number}
 use Rattle.st_laws_steps.proofs.Lives.Associations.{numbers_same, own_found}
-use Rattle.st_laws_pages.proofs.Lives.Living.{row_is}
+use Rattle.st_laws_pages.proofs.Lives.NodeTurns.{row_is}
 use Rattle.st_laws_pages.proofs.Flush.Adding.{After, after_clients}
 use Rattle.st_laws_pages.proofs.Lives.Turning.{says_one}
 use Rattle.st_laws_pages.proofs.Lives.Lasting.{flush_parts}

@@ -27,7 +27,7 @@ use Rattle.st_laws_pages.specs.Fates.Fates.{BeforeEnd}
 use Rattle.st_laws_steps.specs.Lives.Lives.{IsKnown, owner_of}
 use Rattle.st_laws_steps.proofs.Lives.Associations.{found_has}
 use Rattle.st_laws_pages.proofs.Lives.Lasting.{no_option}
-use Rattle.st_laws_pages.proofs.Lives.Living.{row_is}
+use Rattle.st_laws_pages.proofs.Lives.NodeTurns.{row_is}
 use Rattle.st_laws_leases.specs.Sides.Stands.{Standing}
 use Rattle.st_laws_leases.specs.Sides.World.{ServerStands, There}
 use Rattle.st_laws_leases.proofs.Sides.Everywhere.{numbered_is}

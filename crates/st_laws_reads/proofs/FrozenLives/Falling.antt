@@ -36,7 +36,7 @@ use Rattle.st_rules.specs.declared.pages.DirtyPage.{DirtyPage}
 use Rattle.std.specs.List.{list_any}
 use Rattle.st_laws_pages.proofs.Fates.FateLaw.{pending_fewer}
 use Rattle.st_laws_pages.proofs.Lives.Lives.{find_back, find_front}
-use Rattle.st_laws_pages.proofs.Lives.Living.{row_is}
+use Rattle.st_laws_pages.proofs.Lives.NodeTurns.{row_is}
 use Rattle.st_laws_leases.specs.Sides.Stands.{Both, Standing}
 use Rattle.st_laws_leases.specs.Sides.World.{AllStand, ServerStands}
 use Rattle.st_laws_leases.proofs.Sides.Pairs.{length_set, only_here, own_view}

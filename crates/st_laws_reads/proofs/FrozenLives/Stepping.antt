@@ -19,7 +19,7 @@ use Rattle.st_protocol.specs.Assoc.{Config}
 use Rattle.st_lemmas.proofs.Steps.{step_happens}
 use Rattle.st_laws_pages.specs.Fates.Fates.{BeforeEnd, PendingAll}
 use Rattle.st_laws_steps.specs.Lives.Lives.{LivesHold}
-use Rattle.st_laws_pages.proofs.Lives.Living.{row_is}
+use Rattle.st_laws_pages.proofs.Lives.NodeTurns.{row_is}
 use Rattle.st_laws_refine.specs.Server.Pair.{client_at_site, client_in, client_view, stamp_number}
 use Rattle.st_laws_leases.specs.Sides.World.{AllStand, IsFull, ServerStands}
 use Rattle.st_laws_leases.specs.Sides.Paths.{CameFrom, Followed, pairs_of}

@@ -44,7 +44,7 @@ use Rattle.st_laws_pages.proofs.Fates.FateSteps.{pending_more, says_pending}
 use Rattle.st_laws_pages.proofs.Lives.Lasting.{Flushed, flush_parts}
 use Rattle.st_laws_pages.proofs.Lives.LifeSteps.{advance_lives, owners_hard, same_owners, start_lives, steps_so}
 use Rattle.st_laws_pages.proofs.Lives.Lives.{find_back, find_front}
-use Rattle.st_laws_pages.proofs.Lives.Living.{row_is}
+use Rattle.st_laws_pages.proofs.Lives.NodeTurns.{row_is}
 use Rattle.st_laws_steps.proofs.Client.Noting.{step_notes}
 use Rattle.st_laws_pages.proofs.Lives.Turning.{Said, client_lives, known_owner, owners_more, says_lives}
 use Rattle.st_laws_reads.specs.FrozenLives.PendingEntries.{OfCrashed, Tracked}

@@ -56,8 +56,8 @@ use Rattle.st_laws_pages.specs.Writes.Writes.{IsListed, ListedSince, OpenHold, W
 use Rattle.st_laws_pages.proofs.Writes.Joining.{IsNew, all_say, pair_before, placed_at}
 use Rattle.st_laws_pages.proofs.Writes.Listing.{write_said}
 use Rattle.st_laws_pages.proofs.Writes.Walking.{AfterStep, EndedBy, ListedAt, StepKeeps, step_keeps}
-use Rattle.st_laws_reads.specs.OpenWrites.Open.{OfLife}
-use Rattle.st_laws_reads.specs.OpenWrites.Living.{WritesHold}
+use Rattle.st_laws_reads.specs.OpenWrites.StandAlone.{OfLife}
+use Rattle.st_laws_reads.specs.OpenWrites.StandStill.{WritesHold}
 use Rattle.st_laws_reads.proofs.OpenWrites.Cases.{living_own, timely_end}
 use Rattle.st_laws_reads.proofs.OpenWrites.Growing.{Grows, Submitted, grows_all, says_both, submitted}
 use Rattle.st_laws_reads.proofs.OpenWrites.Lasting.{step_lasts}

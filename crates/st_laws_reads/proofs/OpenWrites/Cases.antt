@@ -34,7 +34,7 @@ use Rattle.st_laws_pages.specs.Disks.World.{Living, Timely}
 use Rattle.st_laws_steps.proofs.Lives.Associations.{own_found}
 use Rattle.st_laws_pages.proofs.Disks.Effects.{stands_not}
 use Rattle.st_laws_pages.proofs.Lives.Lasting.{no_option}
-use Rattle.st_laws_pages.proofs.Lives.Living.{row_is}
+use Rattle.st_laws_pages.proofs.Lives.NodeTurns.{row_is}
 use Rattle.st_laws_leases.specs.Sides.Stands.{Standing}
 use Rattle.st_laws_leases.specs.Sides.World.{AllStand, ServerStands, There}
 use Rattle.st_laws_leases.proofs.Sides.Pairs.{only_here, own_view}
@@ -44,12 +44,12 @@ use Rattle.st_laws_reads.specs.AllClients.World.{CopiesHold}
 use Rattle.st_laws_reads.proofs.AllClients.Alone.{while_at}
 use Rattle.st_laws_reads.proofs.OpenWrites.Locked.{no_lock}
 use Rattle.st_laws_pages.specs.Writes.Writes.{ListedSince, OpenHold}
-use Rattle.st_laws_reads.specs.OpenWrites.Open.{OfLife}
+use Rattle.st_laws_reads.specs.OpenWrites.StandAlone.{OfLife}
 use Rattle.st_laws_reads.specs.FrozenLives.PendingEntries.{StoodLife}
 use Rattle.st_laws_leases.specs.Sides.Paths.{pairs_of}
 use Rattle.st_laws_reads.proofs.FrozenLives.Stepping.{clock_there, site_there}
 use Rattle.st_laws_reads.proofs.FrozenLives.Walks.{stand_alone}
-use Rattle.st_laws_reads.specs.OpenWrites.Living.{OpenWrite, OverOrStill, WritesHold, writer}
+use Rattle.st_laws_reads.specs.OpenWrites.StandStill.{OpenWrite, OverOrStill, WritesHold, writer}
 
 -- a test that refuses nothing
 pub timely_end : (clock : Stamp) (o : Option Stamp) (e : Stamp) → o ≡ Some e → adm.late_at clock o ≡ None → clock.0 < e.0

@@ -28,7 +28,7 @@ use Rattle.st_laws_reads.proofs.AllClients.Alone.{while_at}
 use Rattle.st_laws_pages.specs.Writes.Writes.{IsListed, ListedSince, OpenHold}
 use Rattle.st_laws_reads.specs.FrozenLives.PendingEntries.{StoodLife}
 use Rattle.st_laws_reads.proofs.FrozenLives.Falling.{OwnRow, V, after, before_at, came, dirty_any, falls, own_row, there_too}
-use Rattle.st_laws_reads.specs.OpenWrites.Living.{OpenWrite, OverOrStill, WritesHold, writer}
+use Rattle.st_laws_reads.specs.OpenWrites.StandStill.{OpenWrite, OverOrStill, WritesHold, writer}
 use Rattle.st_laws_reads.proofs.OpenWrites.Still.{still_on}
 use Rattle.st_laws_reads.proofs.OpenWrites.Tracked.{site_kept}
 

@@ -27,7 +27,7 @@ use Rattle.st_laws_pages.proofs.Disks.Effects.{stands_not}
 use Rattle.st_laws_reads.specs.AllClients.Law.{Running}
 use Rattle.st_laws_reads.proofs.AllClients.Alone.{Living, leased_held, living, present_ends, while_at, z}
 use Rattle.st_laws_pages.specs.Writes.Writes.{ListedSince}
-use Rattle.st_laws_reads.specs.OpenWrites.Open.{OpenWritesStandAlone}
+use Rattle.st_laws_reads.specs.OpenWrites.StandAlone.{OpenWritesStandAlone}
 
 module _ (k : Config) (count : ℕ) (w : World) (a : AllStand k count w) (s : ℕ) (node : ServerNode) (at : node_of w (server s) ≡ Some node) where
   apart : (c d i : ℕ) (x y : Association) → c ≢ d → Living k count w a s node at c x → Living k count w a s node at d y → 2 ≤ (held_in x.session i).mode → (held_in y.session i).mode ≡ 0

@@ -31,7 +31,7 @@ use Rattle.st_laws_leases.specs.Sides.Paths.{CameFrom, Followed, pairs_of}
 use Rattle.st_laws_leases.proofs.Sides.Paths.{follows}
 use Rattle.st_laws_reads.proofs.FrozenLives.Stepping.{clock_there, site_there}
 use Rattle.st_laws_reads.proofs.FrozenLives.Walks.{paths_keep}
-use Rattle.st_laws_reads.specs.OpenWrites.Living.{OpenTracked, OverOrStill, WritesHold, writer}
+use Rattle.st_laws_reads.specs.OpenWrites.StandStill.{OpenTracked, OverOrStill, WritesHold, writer}
 use Rattle.st_laws_reads.proofs.OpenWrites.Tracked.{tracked}
 
 -- A client's clock goes on.

@@ -37,14 +37,14 @@ use Rattle.st_laws_pages.proofs.Lives.Each.{Besides, SteppedNode, each_event}
 use Rattle.st_laws_pages.proofs.Lives.Lasting.{Flushed, flush_parts}
 use Rattle.st_laws_pages.proofs.Lives.LifeSteps.{advance_lives, owners_hard, same_owners, start_lives, steps_so}
 use Rattle.st_laws_pages.proofs.Lives.Lives.{find_back, find_front}
-use Rattle.st_laws_pages.proofs.Lives.Living.{row_is}
+use Rattle.st_laws_pages.proofs.Lives.NodeTurns.{row_is}
 use Rattle.st_laws_pages.proofs.Lives.Turning.{Said, client_lives, known_owner, owners_more, says_lives}
 use Rattle.st_base.specs.declared.disk.BlockAt.{BlockAt}
 use Rattle.st_base.specs.declared.disk.Tag.{Tag}
 use Rattle.st_rules.specs.Disks as disks
 use Rattle.st_laws_reads.specs.FrozenLives.PendingEntries.{OfCrashed}
 use Rattle.st_laws_pages.proofs.Writes.Joining.{IsNew, all_say}
-use Rattle.st_laws_reads.specs.OpenWrites.Living.{OpenTracked, OpenWrite, writer}
+use Rattle.st_laws_reads.specs.OpenWrites.StandStill.{OpenTracked, OpenWrite, writer}
 use Rattle.st_laws_pages.proofs.Disks.Opens.{GoesOn}
 use Rattle.st_laws_pages.proofs.Causes.FlushSteps.{flushes_disks}
 

@@ -14,7 +14,7 @@ abbrev pub TimersRun : ℕ → Authority → Type 0
 TimersRun now a = (x : Suspect) → Has x a.suspects → (x.start.0 ≤ now) × (now < x.start.0 + a.wait)
 
 -- a step so far, behind the thefts, where the last tick was before this moment
-pub record Going (k : Config) (wait last : ℕ) (now : Stamp) (g : Option Grace) (t : Turn) : Type 0 where
+pub record WithinStep (k : Config) (wait last : ℕ) (now : Stamp) (g : Option Grace) (t : Turn) : Type 0 where
   pub config : t.state.config ≡ k
   pub wait_is : t.state.authority.wait ≡ wait
   pub grace : t.state.grace ≡ g
