@@ -10,7 +10,8 @@ import re
 from client_rows import answer_text, ask_text, body_text, bytes_text, list_text
 from row_records import SERVER_BASE, answer_record, ask_record, body_record
 from reference import report
-from reference.flat_log import GONE
+from reference.disks import ZEROS
+from reference.flat_log import GONE, HARD
 from reference.schedule import ScheduleReader
 from reference.world import World
 
@@ -115,7 +116,7 @@ FILES = {
 # the rows over which every promise is computed
 FIELDS = [
     "alone", "reads", "causes", "stays", "hard", "thefts", "dates", "waits", "conflicts",
-    "told", "logged", "once", "locked", "order", "emptied", "history",
+    "told", "logged", "once", "locked", "order", "emptied", "history", "losses", "held", "faults", "numbers",
 ]
 SAFE = [
     ("schedules/theft", "theft_is_safe", "Every promise is kept in the row of the theft."),
@@ -145,6 +146,29 @@ def entry_text(e):
 
 def log_text(entries):
     return list_text([entry_text(e) for e in entries])
+
+
+def hard_bytes(entries, file, page):
+    """What the hard entries of the log make of a page of zeros."""
+    data = ZEROS
+    for e in entries:
+        if e.file != file or e.fate != HARD:
+            continue
+        if e.kind == "cut":
+            data = ZEROS if page >= e.page else data
+        elif e.page == page:
+            data = data[: e.at] + e.bytes + data[e.at + len(e.bytes) :]
+    return bytes_text(data)
+
+
+def held_texts(world):
+    """What the disks hold of each page that a server maps, by its birth, and of each that an entry names."""
+    pages = []
+    for number, server in enumerate(world.servers, 1):
+        births = [(extent[2], ino, page) for ino, of in server.extents.pages.items() for page, extent in of.items()]
+        pages += [((number, ino), page) for _, ino, page in sorted(births)]
+    pages += [(e.file, e.page) for e in world.log.entries]
+    return [hard_bytes(world.log.entries, file, page) for file, page in pages]
 
 
 def node(n):
@@ -221,7 +245,7 @@ class Row:
 
     def __init__(self, name):
         path = ROOT / f"{name}.schedule"
-        self.told, self.logs, self.events, self.refused = [], [], [], None
+        self.told, self.logs, self.held, self.events, self.refused = [], [], [], [], None
         reader, lines = ScheduleReader(), ["tank report 1"]
         for number, line in enumerate(path.read_bytes().splitlines(), 1):
             event = reader.line(line)
@@ -238,6 +262,7 @@ class Row:
             seen = self.world.step(event)
             self.told.append(seen)
             self.logs.append(log_text(self.world.log.entries))
+            self.held.append(held_texts(self.world))
             lines += [f"{len(self.told)} {report.observation_text(o)}" for o in seen]
         if self.refused is None:
             lines.append(report.summary_text(self.world.summary()))
@@ -254,8 +279,8 @@ class Row:
     def safe_text(self, name, doc):
         """The contract that says that every promise is kept over the row."""
         events = "".join(f"        {'∷ ' if i else ''}{event_text(e)}\n" for i, e in enumerate(self.events))
-        return (f"\n/// {doc}\n#[tactic(auto, unfolding(crate::specs::WorldWords::world_words_open))]\n"
-                f"pub fn {name}()\n    ensures {{ IsSafeRun {self.fresh()} (\n{events}        ∷ []) }}\n{{}}\n")
+        return (f"\n/// {doc}\n#[tactic(auto, unfolding(crate::specs::SafeWords::safe_words_open))]\n"
+                f"pub fn {name}()\n    ensures {{ IsKeptRun {self.fresh()} (\n{events}        ∷ []) }}\n{{}}\n")
 
     def safe_answer(self, name):
         """Its proof: each promise computes, step by step."""
@@ -274,21 +299,29 @@ class Row:
         def logged(o):
             return "refl" if o[0] == "answer" and o[3][0] in ("written", "cut") else "tt"
 
+        def lost(o):
+            told = o[0] == "answer" and o[3][0] == "lost"
+            return f"through ({list_text([f'lost_row {page} {command}' for page, command in o[3][1]])}) refl refl" if told else "tt"
+
         plain = each(lambda os: "refl")
         fields = {f: plain for f in FIELDS}
         fields["reads"], fields["hard"], fields["logged"] = at_each(owed), at_each(lambda o: "refl"), at_each(logged)
         fields["told"] = nested([f"record {{ entries = through ({log}) refl refl; numbers = refl }}" for log in self.logs])
         fields["history"] = each(lambda os: "record { timers = refl; dates = refl; grants = refl }")
+        fields["losses"] = at_each(lost)
+        fields["held"] = nested([nested([f"through {data} refl refl" for data in held]) for held in self.held])
+        fields["numbers"] = each(lambda os: "record { messages = refl; commands = refl; told = refl; counts = refl }")
         lines = "".join(f"      {f} = {v};\n" for f, v in fields.items())
         there = [w for w in ("was_cut", "written", "patched") if f"({w} " in lines]
         uses = ["use Rattle.std.proofs.Common.{[], ◌∷◌, refl}"] if there else ["use Rattle.std.proofs.Common.{[], refl}"]
         uses += ["use Rattle.st_base.specs.Page.{filled}"] if "filled " in lines else []
         uses += [f"use Rattle.st_rules.specs.declared.log.{x}.TheVariants as {x.lower()}s" for x in ("Cause", "Fate") if f"{x.lower()}s." in lines.replace("causes =", "")]
-        uses += ["use Rattle.st_rows.specs.WorldWords.{world_words_open}",
+        uses += ["use Rattle.st_rows.specs.ClientWords.{lost_row}"] if "lost_row " in lines else []
+        uses += ["use Rattle.st_rows.specs.SafeWords.{safe_words_open}",
                  f"use Rattle.st_rows.proofs.WorldLogs.{{{', '.join(sorted(there + ['through']))}}}"]
         return ("\n".join(uses) + "\n"
                 f"use Rattle.st_rows.proofs.world_safety.{name}.Goals as goal\n\npub returns : goal.returns\n"
-                f"unfolding world_words_open\nreturns c =\n    record {{\n{lines}    }}\n")
+                f"unfolding safe_words_open\nreturns c =\n    record {{\n{lines}    }}\n")
 
     def text(self, name, doc):
         events = "".join(f"        {'∷ ' if i else ''}{event_text(e)}\n" for i, e in enumerate(self.events))
@@ -313,7 +346,7 @@ USES = [
     ("st_messages.specs.declared.message.NameOp.TheVariants as ops", "ops."),
     ("st_messages.specs.declared.message.NameReply.TheVariants as replies", "replies."),
     ("st_messages.specs.declared.message.Why.TheVariants as why", "why."),
-    ("st_promises.specs.Safe.{IsSafeRun}", "IsSafeRun "),
+    ("st_rows.specs.SafeWords.{IsKeptRun}", "IsKeptRun "),
     ("st_rules.specs.FlatLog.{overlay}", "overlay "),
     ("st_rules.specs.Run.{run}", "run "),
     ("st_rules.specs.declared.observation.Observation.TheVariants as seen", "seen."),

@@ -1,7 +1,8 @@
--- Where a client answers `diskfault`: only at the end of a command that failed. The rules of a client, walked for their outputs alone.
-use Rattle.std.proofs.Common.{◌≡◌, ℕ, ◌⊎◌, Bool, true, false, ◌==◌, List, [], ◌∷◌, ◌++◌, Option, Some, None, Ok, Err, refl, sym, subst, inl, inr, if◌then◌else◌}
-use Rattle.std.specs.Prelude.{Result, filter, map}
-use Rattle.std.proofs.lemmas.Bool.{eqb-true}
+-- Where a client answers `diskfault`, and `opsfull`: only at the end of a command that failed, and only where 16 operations are pending. The rules of
+-- a client, walked for their outputs alone.
+use Rattle.std.proofs.Common.{◌≡◌, ℕ, ◌⊎◌, Bool, true, false, ◌==◌, ◌≤◌, List, [], ◌∷◌, ◌++◌, Option, Some, None, Ok, Err, refl, sym, ◌∙◌, subst, arith, inl, inr, if◌then◌else◌}
+use Rattle.std.specs.Prelude.{Result, filter, length, map, not}
+use Rattle.std.proofs.lemmas.Bool.{eqb-true, le-leb, leb-true}
 use Rattle.st_base.specs.declared.disk.Tag.{Tag}
 use Rattle.st_base.specs.declared.ids.Epoch.{Epoch}
 use Rattle.st_base.specs.declared.ids.FileId.{FileId}
@@ -22,6 +23,7 @@ use Rattle.st_messages.specs.declared.message.NameReply.TheVariants as replies
 use Rattle.st_messages.specs.declared.message.Why.{Why}
 use Rattle.st_messages.specs.declared.message.Why.TheVariants as why
 use Rattle.st_messages.specs.declared.output.Note.{Note}
+use Rattle.st_messages.specs.declared.output.Note.TheVariants as notes
 use Rattle.st_messages.specs.declared.output.Output.{Output}
 use Rattle.st_messages.specs.declared.output.Output.TheVariants as outputs
 use Rattle.st_rules.specs.declared.client.Asked.{Asked}
@@ -49,43 +51,101 @@ use Rattle.st_rules.specs.ClientPages.{Pages}
 use Rattle.st_rules.specs.ClientPasses as cp
 use Rattle.st_rules.specs.ClientReplies as cr
 use Rattle.st_rules.specs.ClientState as cs
-use Rattle.st_rules.specs.ClientState.{Association, ClientSession, ClientState, ClientTurn, Turn, answer_to, at_each, at_these, client_turn, enter, leave, only_at, say, with_session, with_store, with_operations}
+use Rattle.st_rules.specs.ClientState.{Association, ClientSession, ClientState, ClientTurn, Turn, answer_to, at_each, at_these, client_turn, enter, leave, only_at, say, with_associations, with_session, with_store, with_operations}
 use Rattle.st_lemmas.specs.Lists.{Has}
 use Rattle.st_lemmas.proofs.Tables.{found_at, has_append, has_map}
 
--- an output that answers no fault, but of a command that failed
-abbrev pub Fault_free : (ℕ → Type 0) → AppAnswer → Type 0
-Fault_free Failed (answers.DiskFault number) = Failed number
-Fault_free Failed a = Unit {0}
+-- an output that answers no fault, but of a command that failed, or of a client with so many operations
+abbrev pub Fault_free : (ℕ → Type 0) → Type 0 → AppAnswer → Type 0
+Fault_free Failed Full (answers.DiskFault number) = Failed number
+Fault_free Failed Full answers.OpsFull = Full
+Fault_free Failed Full a = Unit {0}
 
 -- an output
-abbrev pub Free : (ℕ → Type 0) → Output → Type 0
-Free Failed (outputs.Answer op a) = Fault_free Failed a
-Free Failed o = Unit {0}
+abbrev pub Free : (ℕ → Type 0) → Type 0 → Output → Type 0
+Free Failed Full (outputs.Answer op a) = Fault_free Failed Full a
+Free Failed Full o = Unit {0}
 
 -- all of these
-abbrev pub All_free : (ℕ → Type 0) → List Output → Type 0
-All_free Failed os = (o : Output) → Has o os → Free Failed o
+abbrev pub All_free : (ℕ → Type 0) → Type 0 → List Output → Type 0
+All_free Failed Full os = (o : Output) → Has o os → Free Failed Full o
 
-module _ (Failed : ℕ → Type 0) where
+-- Losses end operations, and begin none.
+fewer_pass : {A : Type 0} (p : A → Bool) (xs : List A) → length (filter p xs) ≤ length xs
+fewer_pass p [] = omega arith
+fewer_pass p (x ∷ xs) = go (p x) (fewer_pass p xs)
+  where
+    go : (b : Bool) → length (filter p xs) ≤ length xs → length (if b then x ∷ filter p xs else filter p xs) ≤ length (x ∷ xs)
+    go true h = omega (arith, h)
+    go false h = omega (arith, h)
+
+-- a turn with the operations of another one
+abbrev Same : Turn → Turn → Type 0
+Same t u = u.operations ≡ t.operations
+
+ended_same : (t : Turn) (s : ClientSession) (o : Operation) → Same t (cl.end_operation t s o)
+unfolding cl.end_operation cl.end_unsent cl.end_sync cl.tell_lost
+ended_same t s o = either (cs.is_sent o) _ _ refl (by o.ask)
+  where
+    either : (b : Bool) (u v : Turn) → Same t u → Same t v → Same t (if b then u else v)
+    either true u v x y = x
+    either false u v x y = y
+
+    by : (a : Ask) → Same t (cl.end_unsent t o a)
+    by (asks.Sync f) = either (pages.has_lost t.here.lost f.ino) _ _ refl refl
+    by a = refl
+
+each_same : (s : ClientSession) (os : List Operation) (t : Turn) → Same t (cl.end_each s os t)
+unfolding cl.end_each
+each_same s [] t = refl
+each_same s (o ∷ os) t = each_same s os (cl.end_operation t s o) ∙ ended_same t s o
+
+fewer_lost : (now : Stamp) (t : Turn) → length (cl.lose now t).operations ≤ length t.operations
+unfolding cl.lose cl.lose_by cl.lose_over cl.lose_session cl.end_operations
+fewer_lost now t = go t.here.session
+  where
+    begun : Turn
+    begun = with_operations (filter (λ o. not (cs.is_of t.here.server o)) t.operations) (cl.with_lost_pages t.here.store (cs.note t (notes.Lost t.here.server t.here.life)))
+
+    over : (s : ClientSession) (b : Bool) → length (if b then cl.lose_session t s else t).operations ≤ length t.operations
+    over s true = subst (λ (os : List Operation). length os ≤ length t.operations) (sym (each_same s (filter (cs.is_of t.here.server) t.operations) begun)) (fewer_pass (λ o. not (cs.is_of t.here.server o)) t.operations)
+    over s false = omega arith
+
+    go : (o : Option ClientSession) → length (cl.lose_by t now o).operations ≤ length t.operations
+    go None = omega arith
+    go (Some s) = over s (cl.is_over t s now)
+
+fewer_these : (now : Stamp) (al : List Association) (t : ClientTurn) → length (at_these (cl.lose now) al t).state.operations ≤ length t.state.operations
+unfolding at_these
+fewer_these now [] t = omega arith
+fewer_these now (a ∷ al) t =
+    let u = cl.lose now (enter t a) in let x = fewer_lost now (enter t a) in let y = fewer_these now al (leave t u) in omega (arith, x, y)
+
+still_full : (s : ClientState) (now : Stamp) → cl.is_full (cl.losses (client_turn s []) now).state ≡ true → cl.is_full s ≡ true
+unfolding cl.losses at_each
+still_full s now e =
+    let x = leb-true 16 (length (cl.losses (client_turn s []) now).state.operations) e in let y = fewer_these now s.associations (with_associations [] (client_turn s [])) in
+    le-leb 16 (length s.operations) (omega (arith, x, y))
+
+module _ (Failed : ℕ → Type 0) (Full : Type 0) where
   abbrev F : Turn → Type 0
-  F t = All_free Failed t.out
+  F t = All_free Failed Full t.out
 
-  more : (os ps : List Output) → All_free Failed os → All_free Failed ps → All_free Failed (os ++ ps)
+  more : (os ps : List Output) → All_free Failed Full os → All_free Failed Full ps → All_free Failed Full (os ++ ps)
   more os ps a b o h = go (has_append os ps o h)
     where
-      go : Has o os ⊎ Has o ps → Free Failed o
+      go : Has o os ⊎ Has o ps → Free Failed Full o
       go (inl i) = a o i
       go (inr i) = b o i
 
-  single : (o : Output) → Free Failed o → All_free Failed (o ∷ [])
-  single o f x (inl e) = subst (Free Failed) (sym e) f
+  single : (o : Output) → Free Failed Full o → All_free Failed Full (o ∷ [])
+  single o f x (inl e) = subst (Free Failed Full) (sym e) f
   single o f x (inr h) = absurd h
 
-  last : (os : List Output) (o : Output) → Free Failed o → All_free Failed os → All_free Failed (os ++ o ∷ [])
+  last : (os : List Output) (o : Output) → Free Failed Full o → All_free Failed Full os → All_free Failed Full (os ++ o ∷ [])
   last os o f w = more os (o ∷ []) w (single o f)
 
-  said : (t : Turn) (o : Output) → Free Failed o → F t → F (say t o)
+  said : (t : Turn) (o : Output) → Free Failed Full o → F t → F (say t o)
   said t o f w = last t.out o f w
 
   either : (b : Bool) (t u : Turn) → F t → F u → F (if b then t else u)
@@ -96,9 +156,9 @@ module _ (Failed : ℕ → Type 0) where
   unfolding cs.send
   sent t epoch number stamp b w = said t _ tt w
 
-  each_answered : (t : Turn) (picked : Operation → Bool) (a : AppAnswer) → Fault_free Failed a → F t → F (cs.answer_each picked a t)
+  each_answered : (t : Turn) (picked : Operation → Bool) (a : AppAnswer) → Fault_free Failed Full a → F t → F (cs.answer_each picked a t)
   unfolding cs.answer_each
-  each_answered t picked a f w = more t.out (map (answer_to a) (filter picked t.operations)) w (λ o h. let x = has_map (answer_to a) (filter picked t.operations) o h in subst (Free Failed) (sym x.2) f)
+  each_answered t picked a f w = more t.out (map (answer_to a) (filter picked t.operations)) w (λ o h. let x = has_map (answer_to a) (filter picked t.operations) o h in subst (Free Failed Full) (sym x.2) f)
 
   -- Replies.
   begins : (t : Turn) (epoch : Epoch) (stamp : Stamp) → F t → F (cr.begin_session t epoch stamp)
@@ -131,12 +191,12 @@ module _ (Failed : ℕ → Type 0) where
   named t s file (replies.Listed rows) w = each_answered t _ _ tt w
   named t s file (replies.Refused code) w = each_answered t _ _ tt w
 
-  refuse_file : (t : Turn) (a : AppAnswer) (file : Option ℕ) → Fault_free Failed a → F t → F (cr.refuse_file t a file)
+  refuse_file : (t : Turn) (a : AppAnswer) (file : Option ℕ) → Fault_free Failed Full a → F t → F (cr.refuse_file t a file)
   unfolding cr.refuse_file
   refuse_file t a None p w = w
   refuse_file t a (Some ino) p w = each_answered t _ a p w
 
-  refuse_page : (t : Turn) (a : AppAnswer) (file : Option ℕ) (page : Option PageNo) → Fault_free Failed a → F t → F (cr.refuse_page t a file page)
+  refuse_page : (t : Turn) (a : AppAnswer) (file : Option ℕ) (page : Option PageNo) → Fault_free Failed Full a → F t → F (cr.refuse_page t a file page)
   unfolding cr.refuse_page
   refuse_page t a (Some ino) (Some p) u w = each_answered t _ a u w
   refuse_page t a (Some ino) None u w = w
@@ -463,38 +523,50 @@ module _ (Failed : ℕ → Type 0) where
   passed now tick t w = requested now tick _ (greeted now tick _ (wrote now tick _ (reduced_each _ _ (operated_each t.operations now t.operations _ w))))
 
   -- A rule at each server in turn.
-  these : (rule : Turn → Turn) → ((t : Turn) → F t → F (rule t)) → (al : List Association) (t : ClientTurn) → All_free Failed t.out → All_free Failed (at_these rule al t).out
+  these : (rule : Turn → Turn) → ((t : Turn) → F t → F (rule t)) → (al : List Association) (t : ClientTurn) → All_free Failed Full t.out → All_free Failed Full (at_these rule al t).out
   unfolding at_these
   these rule one [] t w = w
   these rule one (a ∷ al) t w = these rule one al (leave t (rule (enter t a))) (one (enter t a) w)
 
-  each : (rule : Turn → Turn) → ((t : Turn) → F t → F (rule t)) → (t : ClientTurn) → All_free Failed t.out → All_free Failed (at_each rule t).out
+  each : (rule : Turn → Turn) → ((t : Turn) → F t → F (rule t)) → (t : ClientTurn) → All_free Failed Full t.out → All_free Failed Full (at_each rule t).out
   unfolding at_each
   each rule one t w = these rule one t.state.associations _ w
 
-  -- an input in which a command fails only as said
-  abbrev pub Fails_as : ClientInput → Type 0
-  Fails_as (inputs.Done number r) = r ≡ None → Failed number
-  Fails_as i = Unit {0}
+  -- an input in which a command fails only as said, and a client is as full as said
+  abbrev pub Fails_as : ClientState → ClientInput → Type 0
+  Fails_as s (inputs.App op ask) = cl.is_full s ≡ true → Full
+  Fails_as s (inputs.Done number r) = r ≡ None → Failed number
+  Fails_as s i = Unit {0}
 
-  any_either : (b : Bool) (t u : ClientTurn) → All_free Failed t.out → All_free Failed u.out → All_free Failed (if b then t else u).out
+  any_either : (b : Bool) (t u : ClientTurn) → All_free Failed Full t.out → All_free Failed Full u.out → All_free Failed Full (if b then t else u).out
   any_either true t u x y = x
   any_either false t u x y = y
+
+  where_full : (b : Bool) (t u : ClientTurn) → (b ≡ true → All_free Failed Full t.out) → All_free Failed Full u.out → All_free Failed Full (if b then t else u).out
+  where_full true t u x y = x refl
+  where_full false t u x y = y
 
   only : (s : _) (op : ℕ) (ask : Ask) (t : Turn) → F t → F (only_at s (cl.take_ask op ask) t)
   unfolding only_at
   only s op ask t w = either (cs.is_at s t.here) _ t (taken op ask t w) w
 
-  input_taken : (t : ClientTurn) (now : Stamp) (i : ClientInput) → Fails_as i → All_free Failed t.out → All_free Failed (cl.take_input t now i).out
+  input_taken : (t : ClientTurn) (now : Stamp) (i : ClientInput) → Fails_as t.state i → All_free Failed Full t.out → All_free Failed Full (cl.take_input t now i).out
   unfolding cl.take_input cl.app cl.app_known cl.done cr.receive cr.receive_here
   input_taken t now inputs.Tick f w = w
   input_taken t now (inputs.App op ask) f w =
-      any_either (cl.is_full t.state) _ _ (more t.out _ w (single _ tt))
+      where_full (cl.is_full t.state) _ _ (λ e. more t.out _ w (single _ (f e)))
       (any_either (cl.is_configured t.state (cs.server_of ask)) _ _ (each _ (only (cs.server_of ask) op ask) t w) (more t.out _ w (single _ tt)))
   input_taken t now (inputs.Control m) f w = any_either _ _ t (each _ (heard now m.header m.body) t w) w
   input_taken t now (inputs.Done number r) f w = each _ (finished number r f) t w
 
+  -- the same behind the losses
+  after_losses : (s : ClientState) (now : Stamp) (i : ClientInput) → Fails_as s i → Fails_as (cl.losses (client_turn s []) now).state i
+  after_losses s now inputs.Tick f = tt
+  after_losses s now (inputs.App op ask) f = λ e. f (still_full s now e)
+  after_losses s now (inputs.Control m) f = tt
+  after_losses s now (inputs.Done number r) f = f
+
   -- the whole step
-  pub stepped : (s : ClientState) (now : Stamp) (i : ClientInput) → Fails_as i → All_free Failed (cl.client_step s now i).out
+  pub stepped : (s : ClientState) (now : Stamp) (i : ClientInput) → Fails_as s i → All_free Failed Full (cl.client_step s now i).out
   unfolding cl.client_step cl.work cl.losses
-  stepped s now i f = each _ (passed now (cl.is_tick i)) _ (input_taken _ now i f (each _ (lost now) (client_turn s []) (λ o h. absurd h)))
+  stepped s now i f = each _ (passed now (cl.is_tick i)) _ (input_taken _ now i (after_losses s now i f) (each _ (lost now) (client_turn s []) (λ o h. absurd h)))

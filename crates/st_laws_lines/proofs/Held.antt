@@ -5,6 +5,7 @@ use Rattle.st_base.specs.declared.ids.PageNo.{PageNo}
 use Rattle.st_rules.specs.declared.extents.Extent.{Extent}
 use Rattle.st_rules.specs.declared.log.LogEntry.{LogEntry}
 use Rattle.st_promises.specs.Held.{all_pages, AreHeld, extent_at, hard_after, hard_from, held_at, IsHeld}
+use Rattle.st_rules.specs.ClientPages.{found_under}
 use Rattle.st_rules.specs.Safety.{Step, Throughout}
 use Rattle.st_promises.specs.Held.{DisksHoldWhatIsHard}
 use Rattle.st_rules.specs.Server.{ServerNode}
@@ -22,6 +23,7 @@ same_fold page f p (e ∷ es) = same_fold (hard_after f p e page) f p es
 
 -- so is what stands for a page and what the disks hold of it
 same_extent : (w : World) (f : FileId) (p : PageNo) (o : Option ServerNode) → held_at w f p (extent_at f p o) ≡ standing f p (block_in w) (mapped_at f p o)
+unfolding found_under
 same_extent w f p None = refl
 same_extent w f p (Some node) = go (mapped_at f p (Some node))
   where

@@ -14,7 +14,8 @@ pub fn counts_are_true()
     ensures { InEveryRun TheCountsAreTrue }
 {}
 
-/// In every run a fault has its cause: `diskfault` is answered where the command that it names is reported failed, and nowhere else.
+/// In every run a fault has its cause: `diskfault` is answered where the command that it names is reported failed, and nowhere else; and
+/// `opsfull` only to a client of which 16 operations are pending.
 pub fn faults_have_a_cause()
     ensures { InEveryRun FaultsHaveACause }
 {}

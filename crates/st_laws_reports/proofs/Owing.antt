@@ -18,7 +18,7 @@ use Rattle.st_rules.specs.ClientPasses as cp
 use Rattle.st_rules.specs.ClientReplies as cr
 use Rattle.st_rules.specs.ClientState as cs
 use Rattle.st_rules.specs.ClientState.{Association, ClientState, ClientTurn, Turn, at_each, at_these, client_turn, enter, leave, server_of, with_associations}
-use Rattle.st_promises.specs.Losses.{IsToldBy, IsToldTo}
+use Rattle.st_promises.specs.Losses.{IsToldBy, IsToldTo, owed_of_file}
 use Rattle.st_lemmas.specs.Lists.{Has}
 use Rattle.st_lemmas.proofs.Tables.{has_append, has_map_in}
 use Rattle.st_laws_steps.specs.Lives.Lives.{Once, server_number}
@@ -180,14 +180,14 @@ module _ (asked : ℕ → Option Ask) (had : ServerId → Option Association) (r
   full_told : (ask : Ask) (R : Rows) → IsToldTo (Some ask) R answers.OpsFull
   full_told (asks.Sync f) R = go (pages.has_lost (R f.server) f.ino)
     where
-      go : (b : Bool) → IsToldBy b (pages.told_rows (R f.server) f.ino) answers.OpsFull
+      go : (b : Bool) → IsToldBy b (owed_of_file (R f.server) f.ino) answers.OpsFull
       go true = tt
       go false = tt
   full_told ask R = tt
 
   -- a server that is none of this world
   unknown_told : (ask : Ask) (t : ClientTurn) (R : Rows) → cl.is_configured t.state (server_of ask) ≡ false → Held R [] t → IsToldTo (Some ask) R answers.NoFile
-  unknown_told (asks.Sync f) t R e k = subst (λ (z : List LostPage). IsToldBy (pages.has_lost z f.ino) (pages.told_rows z f.ino) answers.NoFile) (sym (k.none f.server none (λ a h e. h))) tt
+  unknown_told (asks.Sync f) t R e k = subst (λ (z : List LostPage). IsToldBy (pages.has_lost z f.ino) (owed_of_file z f.ino) answers.NoFile) (sym (k.none f.server none (λ a h e. h))) tt
     where
       clash : {b : Bool} → b ≡ true → b ≡ false → ⊥
       clash x y = cc

@@ -57,8 +57,9 @@ use Rattle.st_rules.specs.ClientState as cs
 use Rattle.st_rules.specs.ClientState.{Association, ClientSession, Turn, answer_to, leave, only_at, say}
 use Rattle.st_lemmas.specs.Lists.{Has}
 use Rattle.st_rules.specs.Keys.{page_no, rising, same_server}
-use Rattle.st_promises.specs.Losses.{IsToldBy, IsToldTo, told_by, with_dirty}
+use Rattle.st_promises.specs.Losses.{IsToldBy, IsToldTo, owed_of_file, still_owed, told_by, with_dirty}
 use Rattle.st_lemmas.proofs.Lookups.{some_is}
+use Rattle.st_laws_reports.proofs.Words.{owing_all_is, owed_of_file_is, still_owed_is}
 use Rattle.st_lemmas.proofs.Tables.{and_true, found_at, has_append, has_filter, has_map, none_passes, not_true}
 
 -- What is owed of each server.
@@ -124,8 +125,8 @@ untold_less lost ino j e = none_any (pages.is_lost_on j) _ (λ x h. none_passes 
 pub told_less : (ask : Option Ask) (s : ServerId) (rows : List LostPage) (j : ℕ) → pages.has_lost rows j ≡ false → pages.has_lost (told_by ask s rows) j ≡ false
 told_less (Some (asks.Sync f)) s rows j e = go (same_server f.server s)
   where
-    go : (b : Bool) → pages.has_lost (if b then pages.untold rows f.ino else rows) j ≡ false
-    go true = untold_less rows f.ino j e
+    go : (b : Bool) → pages.has_lost (if b then still_owed rows f.ino else rows) j ≡ false
+    go true = ap (λ (z : List LostPage). pages.has_lost z j) (still_owed_is rows f.ino) ∙ untold_less rows f.ino j e
     go false = e
 told_less ask s rows j e = e
 
@@ -136,13 +137,13 @@ told_false rows a p = tt
 
 -- an answer that tells of none, to a pending operation
 pub answer_told : (R : Rows) (ask : Ask) (o : Operation) (a : AppAnswer) → NotLost a → SyncOk R ask o → IsToldTo (Some ask) R a
-answer_told R (asks.Sync f) o a p k = subst (λ b. IsToldBy b (pages.told_rows (R f.server) f.ino) a) (sym k.none) (told_false (pages.told_rows (R f.server) f.ino) a p)
+answer_told R (asks.Sync f) o a p k = subst (λ b. IsToldBy b (owed_of_file (R f.server) f.ino) a) (sym k.none) (told_false (owed_of_file (R f.server) f.ino) a p)
 answer_told R ask o (answers.Lost xs) p k = absurd p
 answer_told R ask o a p k = tt
 
 -- what an answer owes goes by the rows at it
 pub told_same : (ask : Option Ask) (R S : Rows) (a : AppAnswer) → ((r : ServerId) → S r ≡ R r) → IsToldTo ask R a → IsToldTo ask S a
-told_same (Some (asks.Sync f)) R S a e h = subst (λ (x : List LostPage). IsToldBy (pages.has_lost x f.ino) (pages.told_rows x f.ino) a) (sym (e f.server)) h
+told_same (Some (asks.Sync f)) R S a e h = subst (λ (x : List LostPage). IsToldBy (pages.has_lost x f.ino) (owed_of_file x f.ino) a) (sym (e f.server)) h
 told_same ask R S (answers.Lost xs) e h = h
 told_same ask R S a e h = h
 
@@ -665,12 +666,12 @@ module _ (asked : ℕ → Option Ask) (had : ServerId → Option Association) wh
 
     -- What is told is owed no more.
     told_here : (f : FileId) (rows : List LostPage) → f.server ≡ s → told_by (Some (asks.Sync f)) s rows ≡ pages.untold rows f.ino
-    told_here f rows e = ap (λ b. if b then pages.untold rows f.ino else rows) (eq-eqb f.server.0 s.0 (ap (λ (z : ServerId). z.0) e))
+    told_here f rows e = ap (λ b. if b then still_owed rows f.ino else rows) (eq-eqb f.server.0 s.0 (ap (λ (z : ServerId). z.0) e)) ∙ still_owed_is rows f.ino
 
     told_away : (f : FileId) (r : ServerId) (rows : List LostPage) → f.server ≡ s → (r.0 ≡ s.0 → ⊥) → told_by (Some (asks.Sync f)) r rows ≡ rows
     told_away f r rows e n = go (same_server f.server r) refl
       where
-        go : (b : Bool) → same_server f.server r ≡ b → (if b then pages.untold rows f.ino else rows) ≡ rows
+        go : (b : Bool) → same_server f.server r ≡ b → (if b then still_owed rows f.ino else rows) ≡ rows
         go true q = absurd (n (sym (eqb-true f.server.0 r.0 q) ∙ ap (λ (z : ServerId). z.0) e))
         go false q = refl
 
@@ -698,8 +699,8 @@ module _ (asked : ℕ → Option Ask) (had : ServerId → Option Association) wh
         right : IsToldTo (asked op) S (answers.Lost rows)
         right =
             subst (λ z. IsToldTo z S (answers.Lost rows)) (sym known)
-            (subst (λ (z : List LostPage). IsToldBy (pages.has_lost z f.ino) (pages.told_rows z f.ino) (answers.Lost rows)) (sym (k.rows f.server ∙ ap R own ∙ k.here))
-            (subst (λ b. IsToldBy b rows (answers.Lost rows)) (sym has) refl))
+            (subst (λ (z : List LostPage). IsToldBy (pages.has_lost z f.ino) (owed_of_file z f.ino) (answers.Lost rows)) (sym (k.rows f.server ∙ ap R own ∙ k.here))
+            (subst (λ b. IsToldBy b (owed_of_file t.here.lost f.ino) (answers.Lost rows)) (sym has) (sym (owed_of_file_is t.here.lost f.ino))))
 
         less : (a : Ask) (o : Operation) → SyncOk R a o → SyncOk (λ r. told_by (Some (asks.Sync f)) r (R r)) a o
         less (asks.Sync g) o z = record { unsent = z.unsent; none = told_less (Some (asks.Sync f)) g.server (R g.server) g.ino z.none }
@@ -727,7 +728,7 @@ module _ (asked : ℕ → Option Ask) (had : ServerId → Option Association) wh
           where
             go : (b : Bool) → pages.has_lost t.here.lost f.ino ≡ b → Moved R (if b then cl.tell_lost t o.op f.ino else cs.answered t o.op answers.Quiesced)
             go true h = tells R t o.op f z.of q h k
-            go false h = quiet (asks.Sync f) q (subst (λ b. IsToldBy b (pages.told_rows (R f.server) f.ino) answers.Quiesced) (sym (ap (λ (y : List LostPage). pages.has_lost y f.ino) (ap R z.of ∙ k.here) ∙ h)) tt)
+            go false h = quiet (asks.Sync f) q (subst (λ b. IsToldBy b (owed_of_file (R f.server) f.ino) answers.Quiesced) (sym (ap (λ (y : List LostPage). pages.has_lost y f.ino) (ap R z.of ∙ k.here) ∙ h)) tt)
         by a q z = quiet a q tt
 
         unsure : (a : Ask) (u v : ℕ) → cs.is_sent o ≡ true → SyncEnds s a o → IsToldTo (Some a) R (answers.Uncertain u v)
@@ -759,7 +760,8 @@ module _ (asked : ℕ → Option Ask) (had : ServerId → Option Association) wh
         S_here : S s ≡ pages.with_lost_pages t.here.store.commands t.here.store.pages.dirty t.here.lost
         S_here =
             ap (λ b. if b then with_dirty (had s) (R s) else R s) (eq-eqb t.here.server.0 s.0 (ap (λ (z : ServerId). z.0) k.at))
-            ∙ ap (λ o. with_dirty o (R s)) own ∙ ap (pages.with_lost_pages t.here.store.commands t.here.store.pages.dirty) k.here
+            ∙ ap (λ o. with_dirty o (R s)) own ∙ owing_all_is t.here.store.commands t.here.store.pages.dirty (R s)
+            ∙ ap (pages.with_lost_pages t.here.store.commands t.here.store.pages.dirty) k.here
 
         S_away : (r : ServerId) → (r.0 ≡ s.0 → ⊥) → S r ≡ R r
         S_away r n = at (same_server t.here.server r) refl

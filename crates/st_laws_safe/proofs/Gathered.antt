@@ -4,6 +4,9 @@ use Rattle.st_laws_leases.proofs.Sides.Kept.{most_promised}
 use Rattle.st_laws_requests.proofs.Cuts.Law as cuts
 use Rattle.st_laws_leases.proofs.Order.Grants.{order_law}
 use Rattle.st_laws_extents.proofs.EveryRun.Law as whole
+use Rattle.st_laws_lines.proofs.Faults.{faults_law}
+use Rattle.st_laws_lines.proofs.Law.{counts_law}
+use Rattle.st_laws_reports.proofs.Losses.{losses_law}
 
 pub every_run : EveryRunIsSafe
 every_run k clients servers disks blocks form es head events =
@@ -25,6 +28,10 @@ every_run k clients servers disks blocks form es head events =
       order = order_law k clients servers disks blocks form es head events;
       emptied = most.emptied;
       history = most.history;
+      losses = losses_law k clients servers disks blocks form es head;
+      held = whole.held k clients servers disks blocks form es head events;
+      faults = faults_law k clients servers disks blocks form es head;
+      counts = counts_law k clients servers disks blocks form es head;
     }
 
 pub all_promised : IsAllPromised

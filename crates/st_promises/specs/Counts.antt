@@ -1,5 +1,5 @@
 -- The counts are true: what the lines of an event tell of messages and commands, and what they count.
-use Rattle.std.specs.Prelude.{◌≡◌, ℕ, ◌+◌, Bool, true, false, List, [], ◌∷◌, ◌++◌, length, drop, filter, filter_map, map, take, Option, Some, None}
+use Rattle.std.specs.Prelude.{◌≡◌, ℕ, ◌+◌, Bool, true, false, List, [], ◌∷◌, ◌++◌, length, drop, filter, filter_map, map, take, Option, Some, None, ⊤}
 use Rattle.st_base.specs.declared.disk.Command.{Command}
 use Rattle.st_base.specs.declared.ids.ClientId.{ClientId}
 use Rattle.st_messages.specs.declared.answer.AppAnswer.TheVariants as answers
@@ -114,3 +114,8 @@ pub record IsCounted (w v : World) (os : List Observation) : Type 0 where
 -- and what the lines of the event have. So the last line counts what all lines before it have.
 abbrev pub TheCountsAreTrue : Promise
 TheCountsAreTrue past x = IsCounted x.before.world x.after.world x.seen
+
+-- opens all of this file
+unfoldable pub counts_open : ⊤
+unfolding under_numbers
+counts_open = tt

@@ -1,5 +1,5 @@
--- Faults have a cause: the failed report behind each `diskfault`.
-use Rattle.std.specs.Prelude.{◌≡◌, ℕ, Bool, true, false, ◌&&◌, not, ◌==◌, Option, Some, None}
+-- Faults have a cause: the failed report behind each `diskfault`, and the pending operations behind each `opsfull`.
+use Rattle.std.specs.Prelude.{◌≡◌, ℕ, Bool, true, false, ◌&&◌, not, ◌==◌, length, nat_le, Option, Some, None}
 use Rattle.std.specs.List.{list_all}
 use Rattle.st_base.specs.declared.ids.ClientId.{ClientId}
 use Rattle.st_messages.specs.declared.answer.AppAnswer.TheVariants as answers
@@ -9,10 +9,11 @@ use Rattle.st_rules.specs.declared.observation.Observation.{Observation}
 use Rattle.st_rules.specs.declared.observation.Observation.TheVariants as seen
 use Rattle.st_rules.specs.declared.world.IssuedCommand.{IssuedCommand}
 use Rattle.st_rules.specs.Keys.{same_client}
-use Rattle.st_rules.specs.World.{World, issued_of}
+use Rattle.st_rules.specs.World.{World, ClientSite, issued_of, site_of}
 use Rattle.st_rules.specs.Safety.{Promise, Step}
 
--- Faults have a cause: `diskfault` is answered in the step in which the command that it names, one of the client, is reported failed.
+-- Faults have a cause: `diskfault` is answered in the step in which the command that it names, one of the client, is reported failed; and
+-- `opsfull` is answered to a client of which 16 operations were pending before the event.
 abbrev pub is_own_command : ClientId → ℕ → Option IssuedCommand → Bool
 is_own_command c number None = false
 is_own_command c number (Some k) = same_client k.client c && (k.number == number)
@@ -22,9 +23,15 @@ abbrev pub fails_command : World → ClientId → ℕ → Event → Bool
 fails_command w c number (events.Report k ok) = not ok && is_own_command c number (issued_of w k)
 fails_command w c number e = false
 
+-- 16 operations of a client are pending
+abbrev pub is_full_at : Option ClientSite → Bool
+is_full_at None = false
+is_full_at (Some site) = nat_le 16 (length site.node.state.operations)
+
 -- an observation that is no such answer owes nothing
 abbrev pub is_fault_caused : Step → Observation → Bool
 is_fault_caused x (seen.Answered c op (answers.DiskFault number)) = fails_command x.before.world c number x.event
+is_fault_caused x (seen.Answered c op answers.OpsFull) = is_full_at (site_of x.before.world c)
 is_fault_caused x o = true
 
 -- Faults have a cause

@@ -1,18 +1,18 @@
 -- What the disks hold of pages, and what is hard of them in the log.
-use Rattle.std.specs.Prelude.{◌≡◌, ℕ, ◌&&◌, List, [], ◌∷◌, ◌++◌, map, Option, Some, None, ⊤, if◌then◌else◌}
+use Rattle.std.specs.Prelude.{◌≡◌, ℕ, Bool, ◌&&◌, ◌==◌, List, [], ◌∷◌, ◌++◌, map, Option, Some, None, ⊤, if◌then◌else◌}
 use Rattle.std.specs.List.{flat_map}
 use Rattle.st_base.specs.declared.ids.FileId.{FileId}
 use Rattle.st_base.specs.declared.ids.PageNo.{PageNo}
+use Rattle.st_base.specs.declared.disk.Tag.{Tag}
 use Rattle.st_base.specs.Page.{filled}
-use Rattle.st_rules.specs.declared.client.MappedBlock.{MappedBlock}
 use Rattle.st_rules.specs.declared.disks.Block.{Block}
 use Rattle.st_rules.specs.declared.extents.Extent.{Extent}
 use Rattle.st_rules.specs.declared.log.LogEntry.{LogEntry}
-use Rattle.st_rules.specs.ClientPages.{found_under}
 use Rattle.st_rules.specs.Disks as disks
 use Rattle.st_rules.specs.Events.{is_hard_fate}
 use Rattle.st_rules.specs.Extents as extents
 use Rattle.st_rules.specs.FlatLog as log
+use Rattle.st_rules.specs.Keys.{same_file, same_page}
 use Rattle.st_rules.specs.Server.{ServerNode}
 use Rattle.st_rules.specs.World.{World, node_of}
 use Rattle.st_rules.specs.Safety.{Promise}
@@ -39,18 +39,18 @@ extent_at f p (Some node) = extents.extent_of node.state.stable.extents f p
 abbrev pub extent_in : World → FileId → PageNo → Option Extent
 extent_in w f p = extent_at f p (node_of w f.server)
 
--- where an extent lies, and its birth
-abbrev pub place_of_extent : Extent → MappedBlock
-place_of_extent e = record { at = e.at; birth = e.birth }
+-- a tag names the page, and the birth of its extent
+abbrev pub is_tag_of : FileId → PageNo → ℕ → Tag → Bool
+is_tag_of f p birth tag = same_file tag.file f && (same_page tag.page p && (tag.birth == birth))
 
--- what a block holds of a page
-abbrev pub held_in : FileId → PageNo → Block → MappedBlock → List ℕ
-held_in f p b m = found_under f p b.tag b.bytes m
+-- what a block holds of a page with an extent of this birth
+abbrev pub held_in : FileId → PageNo → ℕ → Block → List ℕ
+held_in f p birth b = if is_tag_of f p birth b.tag then b.bytes else filled 0
 
 -- what the disks hold of a page with this extent
 abbrev pub held_at : World → FileId → PageNo → Option Extent → List ℕ
 held_at w f p None = filled 0
-held_at w f p (Some e) = held_in f p (disks.block w.disks e.at) (place_of_extent e)
+held_at w f p (Some e) = held_in f p e.birth (disks.block w.disks e.at)
 
 -- the disks hold of a page what is hard
 abbrev pub IsHeld : World → FileId × PageNo → Type 0
@@ -82,3 +82,8 @@ all_pages w = map page_of_extent (flat_map extents_of_node w.servers) ++ map pag
 -- else zeros; and so does a page without a block.
 abbrev pub DisksHoldWhatIsHard : Promise
 DisksHoldWhatIsHard past x = AreHeld x.after.world (all_pages x.after.world)
+
+-- opens all of this file
+unfoldable pub held_open : ⊤
+unfolding hard_from AreHeld
+held_open = tt

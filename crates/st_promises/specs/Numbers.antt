@@ -1,5 +1,5 @@
 -- The numbers that the lines of an event give to messages and commands, and what they tell of them.
-use Rattle.std.specs.Prelude.{◌≡◌, ℕ, ◌+◌, Bool, true, false, ◌&&◌, ◌==◌, List, [], ◌∷◌, length, filter_map, Option, Some, None}
+use Rattle.std.specs.Prelude.{◌≡◌, ℕ, ◌+◌, Bool, true, false, ◌&&◌, ◌==◌, List, [], ◌∷◌, length, filter_map, Option, Some, None, ⊤}
 use Rattle.std.specs.List.{list_all}
 use Rattle.st_messages.specs.declared.message.Header.{Header}
 use Rattle.st_rules.specs.declared.observation.Observation.{Observation}
@@ -61,3 +61,8 @@ pub record AreNumbered (w v : World) (os : List Observation) : Type 0 where
 -- what the lines before it have.
 abbrev pub LinesGiveTheNextNumbers : Promise
 LinesGiveTheNextNumbers past x = AreNumbered x.before.world x.after.world x.seen
+
+-- opens all of this file
+unfoldable pub numbers_open : ⊤
+unfolding follow_from
+numbers_open = tt

@@ -1,5 +1,5 @@
 -- Safe: all that is promised of a run, in one record, and that every run is so.
-use Rattle.std.specs.Prelude.{◌≡◌, ℕ, ◌+◌, true, List, []}
+use Rattle.std.specs.Prelude.{◌≡◌, ℕ, ◌+◌, true, List, [], ⊤}
 use Rattle.std.specs.List.{list_all}
 use Rattle.st_base.specs.declared.config.Config.{Config}
 use Rattle.st_messages.specs.declared.event.Event.{Event}
@@ -30,6 +30,10 @@ use Rattle.st_rules.specs.Safety.{
 }
 use Rattle.st_rules.specs.History.{traced}
 use Rattle.st_rules.specs.World.{World, fresh_world}
+use Rattle.st_promises.specs.Counts.{TheCountsAreTrue, counts_open}
+use Rattle.st_promises.specs.Faults.{FaultsHaveACause}
+use Rattle.st_promises.specs.Held.{DisksHoldWhatIsHard, held_open}
+use Rattle.st_promises.specs.Losses.{LossesAreTold, losses_open}
 
 -- Safe: every promise is kept at every step of the run.
 pub record IsSafe (xs : List Step) : Type 0 where
@@ -49,6 +53,10 @@ pub record IsSafe (xs : List Step) : Type 0 where
   pub order : Throughout ChangesGoInTheOrderOfLocks [] xs
   pub emptied : Throughout ExpiredLeasesEmptyClients [] xs
   pub history : Throughout TheHistoryIsTheWorlds [] xs
+  pub losses : Throughout LossesAreTold [] xs
+  pub held : Throughout DisksHoldWhatIsHard [] xs
+  pub faults : Throughout FaultsHaveACause [] xs
+  pub counts : Throughout TheCountsAreTrue [] xs
 
 -- a run from the world of a head
 abbrev pub IsSafeRun : World → List Event → Type 0
@@ -67,3 +75,8 @@ pub record IsAllPromised : Type 0 where
   pub runs : EveryRunIsSafe
   pub clients : OldMessagesChangeNoClient
   pub servers : OldMessagesChangeNoServer
+
+-- opens all that the promises of this crate are made of
+unfoldable pub promises_open : ⊤
+unfolding counts_open held_open losses_open
+promises_open = tt

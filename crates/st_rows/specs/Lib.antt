@@ -8,6 +8,7 @@ pub mod ClientWords
 pub mod ClientScript
 pub mod ClientTables
 pub mod WorldWords
+pub mod SafeWords
 pub mod CheckWords
 pub mod Broken
 pub mod GeneratedWords

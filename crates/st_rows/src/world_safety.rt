@@ -3,15 +3,15 @@ ghost use Rattle.std.specs.Prelude.{◌∷◌, [], false, true};
 ghost use Rattle.st_base.specs.Page.{filled};
 ghost use Rattle.st_messages.specs.declared.ask.Ask.TheVariants as asks;
 ghost use Rattle.st_messages.specs.declared.event.Event.TheVariants as events;
-ghost use Rattle.st_promises.specs.Safe.{IsSafeRun};
+ghost use Rattle.st_rows.specs.SafeWords.{IsKeptRun};
 ghost use Rattle.st_rows.specs.ClientWords.{on};
 ghost use Rattle.st_rows.specs.Words.{page};
 ghost use Rattle.st_rows.specs.WorldWords.{ask, client_node, server_node, world_of};
 
 /// Every promise is kept in the row of the theft.
-#[tactic(auto, unfolding(crate::specs::WorldWords::world_words_open))]
+#[tactic(auto, unfolding(crate::specs::SafeWords::safe_words_open))]
 pub fn theft_is_safe()
-    ensures { IsSafeRun (world_of 2 1 1 8) (
+    ensures { IsKeptRun (world_of 2 1 1 8) (
         (ask 1 (asks.Write (on 1 2) (page 0) (filled 77)))
         ∷ (events.Deliver 1)
         ∷ (events.Deliver 2)
@@ -35,9 +35,9 @@ pub fn theft_is_safe()
 {}
 
 /// Every promise is kept in the row of the one-sided cut.
-#[tactic(auto, unfolding(crate::specs::WorldWords::world_words_open))]
+#[tactic(auto, unfolding(crate::specs::SafeWords::safe_words_open))]
 pub fn one_sided_cut_is_safe()
-    ensures { IsSafeRun (world_of 2 1 1 8) (
+    ensures { IsKeptRun (world_of 2 1 1 8) (
         (ask 1 (asks.Write (on 1 2) (page 0) (filled 77)))
         ∷ (events.Deliver 1)
         ∷ (events.Deliver 2)
@@ -66,9 +66,9 @@ pub fn one_sided_cut_is_safe()
 {}
 
 /// Every promise is kept in the row of the failed flush.
-#[tactic(auto, unfolding(crate::specs::WorldWords::world_words_open))]
+#[tactic(auto, unfolding(crate::specs::SafeWords::safe_words_open))]
 pub fn failed_flush_is_safe()
-    ensures { IsSafeRun (world_of 2 1 1 8) (
+    ensures { IsKeptRun (world_of 2 1 1 8) (
         (ask 1 (asks.Write (on 1 2) (page 0) (filled 77)))
         ∷ (events.Deliver 1)
         ∷ (events.Deliver 2)
@@ -102,9 +102,9 @@ pub fn failed_flush_is_safe()
 {}
 
 /// Every promise is kept in the row of the restart while a timer runs.
-#[tactic(auto, unfolding(crate::specs::WorldWords::world_words_open))]
+#[tactic(auto, unfolding(crate::specs::SafeWords::safe_words_open))]
 pub fn restart_is_safe()
-    ensures { IsSafeRun (world_of 2 1 1 8) (
+    ensures { IsKeptRun (world_of 2 1 1 8) (
         (ask 1 (asks.Write (on 1 2) (page 0) (filled 77)))
         ∷ (events.Deliver 1)
         ∷ (events.Deliver 2)

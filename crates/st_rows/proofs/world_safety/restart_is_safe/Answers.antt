@@ -2,12 +2,12 @@
 use Rattle.std.proofs.Common.{[], ◌∷◌, refl}
 use Rattle.st_base.specs.Page.{filled}
 use Rattle.st_rules.specs.declared.log.Fate.TheVariants as fates
-use Rattle.st_rows.specs.WorldWords.{world_words_open}
+use Rattle.st_rows.specs.SafeWords.{safe_words_open}
 use Rattle.st_rows.proofs.WorldLogs.{through, written}
 use Rattle.st_rows.proofs.world_safety.restart_is_safe.Goals as goal
 
 pub returns : goal.returns
-unfolding world_words_open
+unfolding safe_words_open
 returns c =
     record {
       alone = (refl, (refl, (refl, (refl, (refl, (refl, (refl, (refl, (refl, (refl, (refl, (refl, (refl, (refl, (refl, (refl, (refl, (refl, (refl, (refl, (refl, (refl, tt))))))))))))))))))))));
@@ -26,4 +26,8 @@ returns c =
       order = (refl, (refl, (refl, (refl, (refl, (refl, (refl, (refl, (refl, (refl, (refl, (refl, (refl, (refl, (refl, (refl, (refl, (refl, (refl, (refl, (refl, (refl, tt))))))))))))))))))))));
       emptied = (refl, (refl, (refl, (refl, (refl, (refl, (refl, (refl, (refl, (refl, (refl, (refl, (refl, (refl, (refl, (refl, (refl, (refl, (refl, (refl, (refl, (refl, tt))))))))))))))))))))));
       history = (record { timers = refl; dates = refl; grants = refl }, (record { timers = refl; dates = refl; grants = refl }, (record { timers = refl; dates = refl; grants = refl }, (record { timers = refl; dates = refl; grants = refl }, (record { timers = refl; dates = refl; grants = refl }, (record { timers = refl; dates = refl; grants = refl }, (record { timers = refl; dates = refl; grants = refl }, (record { timers = refl; dates = refl; grants = refl }, (record { timers = refl; dates = refl; grants = refl }, (record { timers = refl; dates = refl; grants = refl }, (record { timers = refl; dates = refl; grants = refl }, (record { timers = refl; dates = refl; grants = refl }, (record { timers = refl; dates = refl; grants = refl }, (record { timers = refl; dates = refl; grants = refl }, (record { timers = refl; dates = refl; grants = refl }, (record { timers = refl; dates = refl; grants = refl }, (record { timers = refl; dates = refl; grants = refl }, (record { timers = refl; dates = refl; grants = refl }, (record { timers = refl; dates = refl; grants = refl }, (record { timers = refl; dates = refl; grants = refl }, (record { timers = refl; dates = refl; grants = refl }, (record { timers = refl; dates = refl; grants = refl }, tt))))))))))))))))))))));
+      losses = ((tt, tt), ((tt, tt), ((tt, (tt, tt)), ((tt, tt), ((tt, tt), ((tt, tt), ((tt, (tt, tt)), ((tt, tt), ((tt, tt), ((tt, (tt, tt)), ((tt, (tt, tt)), (tt, ((tt, tt), (tt, (tt, (tt, ((tt, tt), ((tt, tt), ((tt, tt), ((tt, tt), ((tt, tt), ((tt, tt), tt))))))))))))))))))))));
+      held = (tt, (tt, (tt, (tt, (tt, ((through (filled 0) refl refl, tt), ((through (filled 0) refl refl, (through (filled 0) refl refl, tt)), ((through (filled 0) refl refl, (through (filled 0) refl refl, tt)), ((through (filled 0) refl refl, (through (filled 0) refl refl, tt)), ((through (filled 0) refl refl, (through (filled 0) refl refl, tt)), ((through (filled 0) refl refl, (through (filled 0) refl refl, tt)), ((through (filled 0) refl refl, (through (filled 0) refl refl, tt)), ((through (filled 0) refl refl, (through (filled 0) refl refl, tt)), ((through (filled 0) refl refl, (through (filled 0) refl refl, tt)), ((through (filled 0) refl refl, (through (filled 0) refl refl, tt)), ((through (filled 0) refl refl, (through (filled 0) refl refl, tt)), ((through (filled 0) refl refl, (through (filled 0) refl refl, tt)), ((through (filled 0) refl refl, (through (filled 0) refl refl, tt)), ((through (filled 0) refl refl, (through (filled 0) refl refl, tt)), ((through (filled 0) refl refl, (through (filled 0) refl refl, tt)), ((through (filled 0) refl refl, (through (filled 0) refl refl, tt)), ((through (filled 0) refl refl, (through (filled 0) refl refl, tt)), tt))))))))))))))))))))));
+      faults = (refl, (refl, (refl, (refl, (refl, (refl, (refl, (refl, (refl, (refl, (refl, (refl, (refl, (refl, (refl, (refl, (refl, (refl, (refl, (refl, (refl, (refl, tt))))))))))))))))))))));
+      numbers = (record { messages = refl; commands = refl; told = refl; counts = refl }, (record { messages = refl; commands = refl; told = refl; counts = refl }, (record { messages = refl; commands = refl; told = refl; counts = refl }, (record { messages = refl; commands = refl; told = refl; counts = refl }, (record { messages = refl; commands = refl; told = refl; counts = refl }, (record { messages = refl; commands = refl; told = refl; counts = refl }, (record { messages = refl; commands = refl; told = refl; counts = refl }, (record { messages = refl; commands = refl; told = refl; counts = refl }, (record { messages = refl; commands = refl; told = refl; counts = refl }, (record { messages = refl; commands = refl; told = refl; counts = refl }, (record { messages = refl; commands = refl; told = refl; counts = refl }, (record { messages = refl; commands = refl; told = refl; counts = refl }, (record { messages = refl; commands = refl; told = refl; counts = refl }, (record { messages = refl; commands = refl; told = refl; counts = refl }, (record { messages = refl; commands = refl; told = refl; counts = refl }, (record { messages = refl; commands = refl; told = refl; counts = refl }, (record { messages = refl; commands = refl; told = refl; counts = refl }, (record { messages = refl; commands = refl; told = refl; counts = refl }, (record { messages = refl; commands = refl; told = refl; counts = refl }, (record { messages = refl; commands = refl; told = refl; counts = refl }, (record { messages = refl; commands = refl; told = refl; counts = refl }, (record { messages = refl; commands = refl; told = refl; counts = refl }, tt))))))))))))))))))))));
     }
