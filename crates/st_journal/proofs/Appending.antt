@@ -14,7 +14,7 @@ use Rattle.st_journal.specs.declared.change.Change.{Change}
 use Rattle.st_journal.proofs.Parts.{written_parts}
 
 -- indexes outside a range
-before_range : (at count i : ℕ) → i < at → is_within at count i ≡ false
+pub before_range : (at count i : ℕ) → i < at → is_within at count i ≡ false
 before_range at count i l = and_left (nat_le at i) (nat_lt i (at + count)) (lt-leb at i l)
 
 behind_range : (at count i : ℕ) → at + count ≤ i → is_within at count i ≡ false

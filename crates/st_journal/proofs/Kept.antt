@@ -28,7 +28,7 @@ takes (b ∷ old) (suc at) new zero k e few within = absurd (omega arith)
 takes (b ∷ old) (suc at) new (suc i) k e few within = takes old at new i k (omega arith) few (omega arith)
 
 -- an index outside the ranges and outside one more
-loose_from : (loose : List Span) (s : Span) (i : ℕ) → is_loose loose i ≡ false → is_within s.at s.count i ≡ false → is_loose (loose ++ s ∷ []) i ≡ false
+pub loose_from : (loose : List Span) (s : Span) (i : ℕ) → is_loose loose i ≡ false → is_within s.at s.count i ≡ false → is_loose (loose ++ s ∷ []) i ≡ false
 loose_from loose s i e f =
     list_any-append (λ (r : Span). is_within r.at r.count i) loose (s ∷ []) ∙ or_from (is_loose loose i) (is_loose (s ∷ []) i) e (or_from (is_within s.at s.count i) false f refl)
 
@@ -77,7 +77,7 @@ length-all : (calls : List StoreCall) (h : Held) → length (after_all calls h).
 length-all [] h = refl
 length-all (c ∷ calls) h = length-all calls (after c h) ∙ length-after c h
 
-length-zeros : (size : ℕ) → length (zeros size) ≡ size
+pub length-zeros : (size : ℕ) → length (zeros size) ≡ size
 unfolding zeros
 length-zeros size = length-replicate size 0
 

@@ -1,4 +1,5 @@
 pub mod Kept
+pub mod Quiet
 pub mod Parts
 pub mod Moments
 pub mod Torn
@@ -6,6 +7,9 @@ pub mod Appending
 pub mod Exact
 pub mod Read
 pub mod Unique
+pub mod Opening
+pub mod Recording
+pub mod Stopping
 pub mod Removed
 pub mod Counters
 pub mod Scanning

@@ -33,19 +33,20 @@ module _ {D : Type 0} (moment : D → ℕ) (left_since : D → ℕ → List ℕ 
     before = λ t c le left. ⊎_elim (λ past. inl past) (λ now. inr (f c now)) (h.before t c le left);
   }
 
-  module _ (may_leave : D → List ℕ → Type 0) where
+  module _ (keeps : D → D → Type 0) (may_leave : D → List ℕ → Type 0) where
     -- nothing was called
-    pub rests : (s : D) → ((c : List ℕ) → left_since s (moment s) c → may_leave s c) → Rests may_leave moment left_since s s
-    rests s now = record { any_moment = started s (may_leave s) now; crash = λ c left. left }
+    pub rests : (s : D) → keeps s s → ((c : List ℕ) → left_since s (moment s) c → may_leave s c) → Rests keeps may_leave moment left_since s s
+    rests s kept now = record { any_moment = started s (may_leave s) now; crash = λ c left. left; kept = kept }
 
     -- a call that writes nothing
     pub rested : (old new : D) → ((c : List ℕ) → left_since old (moment old) c → may_leave old c) → Elapses (moment old) (moment new) (left_since old) (left_since new) (may_leave new)
-        → IsWithin (may_leave old) (may_leave new) → Rests may_leave moment left_since old new
-    rested old new now time within = record { any_moment = goes_on old old new (may_leave old) (may_leave new) (started old (may_leave old) now) time within; crash = within }
+        → IsWithin (may_leave old) (may_leave new) → keeps old new → Rests keeps may_leave moment left_since old new
+    rested old new now time within kept = record { any_moment = goes_on old old new (may_leave old) (may_leave new) (started old (may_leave old) now) time within; crash = within; kept = kept }
 
     -- and others behind it
-    pub rests_then : (old mid new : D) → Rests may_leave moment left_since old mid → Rests may_leave moment left_since mid new → Rests may_leave moment left_since old new
-    rests_then old mid new p q = record {
+    pub rests_then : ((a b c : D) → keeps a b → keeps b c → keeps a c) → (old mid new : D) → Rests keeps may_leave moment left_since old mid → Rests keeps may_leave moment left_since mid new → Rests keeps may_leave moment left_since old new
+    rests_then on old mid new p q = record {
       any_moment = goes_through old mid new (may_leave old) (may_leave mid) p.any_moment q.any_moment p.crash;
       crash = λ c left. p.crash c (q.crash c left);
+      kept = on old mid new p.kept q.kept;
     }

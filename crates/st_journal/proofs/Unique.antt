@@ -6,7 +6,8 @@ use Rattle.std.proofs.lemmas.Bool.{and_parts}
 use Rattle.std.proofs.lemmas.List.{drop_at}
 use Rattle.st_rules.specs.Server.{Stable}
 use Rattle.st_journal.specs.Changes.{fits, bytes_of, word32}
-use Rattle.st_journal.specs.Journal.{framed, opened, all_opened, IsJournal, IsDamaged, StandsFor, HasJournal, HasPrefix, IsPrefixState}
+use Rattle.st_journal.specs.Journal.{framed, opened, all_opened, IsJournal, IsDamaged, StandsFor}
+use Rattle.st_journal.specs.Opened.{HasPrefix, IsPrefixState, all_of}
 use Rattle.st_journal.specs.Reading.{change_at}
 use Rattle.st_journal.specs.Stable.{after_changes, then_apply, apply, kept}
 use Rattle.st_journal.specs.declared.change.Change.{Change}
@@ -133,28 +134,28 @@ undamaged start bytes at ys end s d =
     let from : after_changes (kept (apply d.state on.next)) on.later ≡ Some end = ap (λ (o : Option Stable). after_changes o (on.next ∷ on.later)) (sym d.applied) ∙ split in
     d.none on.next on.gate on.more on.ranges on.behind (not_refused (apply d.state on.next) on.later end from)
 
--- bytes stand for one stable part
-pub one_state : (start : Stable) (bytes : List ℕ) (xs ys : List Change) (s t : Stable) → StandsFor start bytes xs s → StandsFor start bytes ys t → (xs ≡ ys) × (s ≡ t)
-one_state start bytes xs ys s t p q =
-    let same = one_journal bytes xs ys p.journal q.journal in
-    let states : Some s ≡ Some t = sym p.leads ∙ ap (λ (l : List Change). after_changes (Some start) l) same ∙ q.leads in
-    (same, value s t states)
-  where
-    value : (s t : Stable) → Some s ≡ Some t → s ≡ t
-    value s t e = cc
-
-prefix_of : (start : Stable) (bytes : List ℕ) (acked xs : List Change) (s : Stable) → HasJournal start acked bytes → StandsFor start bytes xs s → after_changes (Some start) acked ≡ Some s
-prefix_of start bytes acked xs s has p =
-    let one = one_state start bytes acked xs has.0 s has.1 p in
-    has.1.leads ∙ ap (λ (t : Stable). Some t) one.1
+prefix_of : (start : Stable) (bytes : List ℕ) (acked xs : List Change) (s : Stable) → IsJournal bytes acked → StandsFor start bytes xs s → after_changes (Some start) acked ≡ Some s
+prefix_of start bytes acked xs s has p = ap (λ (l : List Change). after_changes (Some start) l) (one_journal bytes acked xs has p.journal) ∙ p.leads
 
 -- what is read of bytes that a crash left
-pub prefix_state : (start : Stable) (bytes : List ℕ) (acked : List Change) (under_way : Option Change) (xs : List Change) (s : Stable) → HasPrefix start acked under_way bytes → StandsFor start bytes xs s → IsPrefixState start acked under_way s
+pub prefix_state : (start : Stable) (bytes : List ℕ) (acked : List Change) (under_way : Option Change) (xs : List Change) (s : Stable) → HasPrefix acked under_way bytes → StandsFor start bytes xs s → IsPrefixState start acked under_way s
 prefix_state start bytes acked None xs s has p = prefix_of start bytes acked xs s has p
 prefix_state start bytes acked (Some x) xs s (inl has) p = inl (prefix_of start bytes acked xs s has p)
 prefix_state start bytes acked (Some x) xs s (inr has) p = inr (prefix_of start bytes (acked ++ x ∷ []) xs s has p)
 
-pub prefix_undamaged : (start : Stable) (bytes : List ℕ) (acked : List Change) (under_way : Option Change) (at : ℕ) → HasPrefix start acked under_way bytes → IsDamaged start bytes at → ⊥
-prefix_undamaged start bytes acked None at has d = undamaged start bytes at acked has.0 has.1 d
-prefix_undamaged start bytes acked (Some x) at (inl has) d = undamaged start bytes at acked has.0 has.1 d
-prefix_undamaged start bytes acked (Some x) at (inr has) d = undamaged start bytes at (acked ++ x ∷ []) has.0 has.1 d
+-- changes that lead to a state lead to one before the last of them
+some_before : (o : Option Stable) (ys : List Change) (last : Stable) → after_changes o ys ≡ Some last → (s : Stable) × (o ≡ Some s)
+some_before None ys last e = let none : nothing ≡ Some last = sym (after_none ys) ∙ e in absurd cc
+some_before (Some s) ys last e = (s, refl)
+
+leads_before : (start : Stable) (xs ys : List Change) (last : Stable) → after_changes (Some start) (xs ++ ys) ≡ Some last → (s : Stable) × (after_changes (Some start) xs ≡ Some s)
+leads_before start xs ys last e = some_before (after_changes (Some start) xs) ys last (sym (after_append (Some start) xs ys) ∙ e)
+
+-- and they are not damaged
+pub prefix_undamaged : (start : Stable) (bytes : List ℕ) (acked : List Change) (under_way : Option Change) (at : ℕ) (last : Stable) → after_changes (Some start) (all_of acked under_way) ≡ Some last
+    → HasPrefix acked under_way bytes → IsDamaged start bytes at → ⊥
+prefix_undamaged start bytes acked None at last leads has d = undamaged start bytes at acked last (record { journal = has; leads = leads }) d
+prefix_undamaged start bytes acked (Some x) at last leads (inl has) d =
+    let before = leads_before start acked (x ∷ []) last leads in
+    undamaged start bytes at acked before.0 (record { journal = has; leads = before.1 }) d
+prefix_undamaged start bytes acked (Some x) at last leads (inr has) d = undamaged start bytes at (acked ++ x ∷ []) last (record { journal = has; leads = leads }) d

@@ -177,3 +177,10 @@ Writes old new at bytes result = WriteBy (plans.outcome old.plan) old new (with_
 -- a sync
 abbrev pub Syncs : InMemory → InMemory → Result Unit Failed → Type 0
 Syncs old new result = SyncBy (plans.outcome old.plan) old new result
+
+-- What no call changes: the size; which calls fail; that no stop is set and none came; and that the store is starved.
+pub record Keeps (old new : InMemory) : Type 0 where
+  pub size : new.contents.size ≡ old.contents.size
+  pub failing : new.plan.failing ≡ old.plan.failing
+  pub quiet : plans.IsQuiet old.plan → plans.IsQuiet new.plan
+  pub starved : old.starved ≡ true → new.starved ≡ true

@@ -5,7 +5,7 @@ use Rattle.std.proofs.lemmas.List.{length-replicate, take_all}
 use Rattle.std.proofs.lemmas.List.Folds.{list_any-append}
 use Rattle.std.specs.Prelude.{nat_le, nat_lt}
 use Rattle.st_journal.specs.Store.{written, is_within}
-use Rattle.st_journal.specs.InMemory.{Held, Contents, MayLeave, LeftSince, filled, after_fill, after_write, after, after_all, fresh_held, is_loose, recorded, held}
+use Rattle.st_journal.specs.InMemory.{Held, Contents, InMemory, Keeps, MayLeave, LeftSince, filled, after_fill, after_write, after, after_all, fresh_held, is_loose, recorded, held}
 use Rattle.st_journal.specs.declared.history.Span.{Span}
 use Rattle.st_journal.specs.declared.history.StoreCall.{StoreCall}
 use Rattle.st_journal.specs.declared.history.StoreCall.TheVariants.{Write, Sync}
@@ -115,3 +115,9 @@ counts_now s t c le left = record {
 
 pub only_now : (s : Contents) (c : List ℕ) → LeftSince s (length s.history) c → MayLeave (recorded s) c
 only_now s c left = subst (λ (calls : List StoreCall). MayLeave (after_all calls (fresh_held s.size)) c) (take_all left.moment s.history (omega (arith, left.from))) left.left
+
+pub keeps_all : (s : InMemory) → Keeps s s
+keeps_all s = record { size = refl; failing = refl; quiet = λ q. q; starved = λ y. y }
+
+pub keeps_on : (a b c : InMemory) → Keeps a b → Keeps b c → Keeps a c
+keeps_on a b c ab bc = record { size = bc.size ∙ ab.size; failing = bc.failing ∙ ab.failing; quiet = λ q. bc.quiet (ab.quiet q); starved = λ y. bc.starved (ab.starved y) }

@@ -2,6 +2,7 @@ pub mod Store
 pub mod Plans
 pub mod InMemory
 pub mod Kept
+pub mod Stops
 pub mod Laws
 pub mod Writing
 pub mod Changes
@@ -9,4 +10,5 @@ pub mod Reading
 pub mod Stable
 pub mod Parts
 pub mod Journal
+pub mod Opened
 pub mod Scan

@@ -1,5 +1,5 @@
 -- Which calls of a store in memory fail, and in which one it stops.
-use Rattle.std.specs.Prelude.{ℕ, ◌-◌, true, false, ◌==◌, if◌then◌else◌, List, Option, Some, None, Vec}
+use Rattle.std.specs.Prelude.{◌≡◌, ℕ, ◌-◌, true, false, ◌==◌, if◌then◌else◌, List, Option, Some, None, Vec}
 use Rattle.std.specs.List.{list_any}
 use Rattle.std.specs.declared.alloc.Global.{Global}
 use Rattle.st_link.specs.InMemory.{raised}
@@ -11,6 +11,11 @@ use Rattle.st_journal.specs.declared.plan.Plan.{Plan}
 -- no call was made, and no stop is set
 abbrev pub fresh : Vec ℕ Global → Plan
 fresh failing = record { calls = 0; failing = failing; faults = 0; stop = None; stopped = false }
+
+-- no stop is set, and none came
+pub record IsQuiet (p : Plan) : Type 0 where
+  pub unset : p.stop ≡ None
+  pub runs : p.stopped ≡ false
 
 -- a call with one of these numbers fails
 abbrev pub planned : List ℕ → ℕ → Outcome

@@ -1,5 +1,6 @@
 -- What the calls of a store do to its bytes, and which bytes a crash may leave.
-use Rattle.std.specs.Prelude.{◌≡◌, ◌⊎◌, ℕ, zero, suc, ◌+◌, ◌≤◌, Bool, false, ◌&&◌, nat_le, nat_lt, List, [], ◌∷◌, length, get_or}
+use Rattle.std.specs.Prelude.{◌≡◌, ◌⊎◌, ℕ, zero, suc, ◌+◌, ◌≤◌, Bool, false, ◌&&◌, nat_le, nat_lt, List, [], ◌∷◌, length, get_or, Result, Ok, Err}
+use Rattle.st_link.specs.declared.link.Failed.{Failed}
 
 -- the list with these bytes from a place on, over what stood there; its length stays
 abbrev pub written : List ℕ → ℕ → List ℕ → List ℕ
@@ -44,6 +45,15 @@ pub record LeavesOnly {D : Type 0} (moment : D → ℕ) (left_since : D → ℕ 
   pub before : (t : ℕ) (c : List ℕ) → t ≤ moment old → left_since new t c → left_since old t c ⊎ P c
 
 -- calls that wrote nothing: a crash at any moment since leaves what it might have left before
-pub record Rests {D : Type 0} (may_leave : D → List ℕ → Type 0) (moment : D → ℕ) (left_since : D → ℕ → List ℕ → Type 0) (old new : D) : Type 0 where
+pub record Rests {D : Type 0} (keeps : D → D → Type 0) (may_leave : D → List ℕ → Type 0) (moment : D → ℕ) (left_since : D → ℕ → List ℕ → Type 0) (old new : D) : Type 0 where
   pub any_moment : LeavesOnly moment left_since old new (may_leave old)
   pub crash : IsWithin (may_leave old) (may_leave new)
+  pub kept : keeps old new
+
+-- a step of a store, with what it answered
+abbrev pub Step : Type 0 → Type 1
+Step D = D → Result Unit Failed → D → Type 0
+
+-- one step went well and the next one answered so; or the first one failed, and that was all
+abbrev pub Then : {D : Type 0} → Step D → Step D → Step D
+Then {D = D} first next old result new = ((mid : D) × first old (Ok tt) mid × next mid result new) ⊎ ((f : Failed) × (result ≡ Err f) × first old (Err f) new)

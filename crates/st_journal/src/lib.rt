@@ -6,6 +6,7 @@ mod change;
 mod contents;
 mod fault;
 mod history;
+mod journal;
 mod laws;
 mod memory;
 mod plan;
@@ -18,7 +19,11 @@ mod writing;
 pub use change::Change;
 pub use fault::JournalFault;
 pub use history::{Piece, StoreCall};
-pub use laws::{appends_survive_crashes, bytes_have_one_journal};
+pub use journal::Journal;
+pub use laws::{
+    a_stop_keeps_by_its_byte, appends_survive_crashes, bytes_have_one_journal,
+    zeros_are_an_empty_journal,
+};
 pub use memory::MemoryStore;
 pub use reading::decode;
 pub use st_link::Failed;

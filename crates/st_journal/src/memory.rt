@@ -205,6 +205,12 @@ impl Store for MemoryStore {
 
     ghost faults = { λ s. s.plan.faults };
 
+    ghost writes = { λ s at bytes r t. memory.Writes s t at bytes r };
+
+    ghost syncs = { λ s r t. memory.Syncs s t r };
+
+    ghost keeps = { λ s t. memory.Keeps s t };
+
     fn size(&self) -> u64
         ensures size { result ≡ self.now.contents.size }
         ensures seen { result ≡ length (memory.held self.now.contents).seen }
@@ -220,6 +226,7 @@ impl Store for MemoryStore {
         ensures seen { OnOk result ((memory.held self.new.contents).seen ≡ (memory.held self.old.contents).seen) }
         ensures crash { IsWithin (memory.MayLeave (memory.recorded self.old.contents)) (memory.MayLeave (memory.recorded self.new.contents)) }
         ensures time { Elapses (length self.old.contents.history) (length self.new.contents.history) (memory.LeftSince self.old.contents) (memory.LeftSince self.new.contents) (memory.MayLeave (memory.recorded self.new.contents)) }
+        ensures kept { memory.Keeps self.old self.new }
         ensures cause { HasCause self.old.plan.faults self.new.plan.faults result }
     {
         self.read_bytes(at, room)
@@ -233,6 +240,7 @@ impl Store for MemoryStore {
         ensures bytes { OnOk result ((memory.held self.new.contents).seen ≡ written (memory.held self.old.contents).seen at bytes.now) }
         ensures crash { Follows (Torn at (length bytes.now)) (memory.MayLeave (memory.recorded self.old.contents)) (memory.MayLeave (memory.recorded self.new.contents)) }
         ensures time { Elapses (length self.old.contents.history) (length self.new.contents.history) (memory.LeftSince self.old.contents) (memory.LeftSince self.new.contents) (memory.MayLeave (memory.recorded self.new.contents)) }
+        ensures kept { memory.Keeps self.old self.new }
         ensures cause { HasCause self.old.plan.faults self.new.plan.faults result }
     {
         self.write_bytes(at, bytes)
@@ -245,6 +253,7 @@ impl Store for MemoryStore {
         ensures seen { OnOk result ((memory.held self.new.contents).seen ≡ (memory.held self.old.contents).seen) }
         ensures crash { IsWithin (memory.MayLeave (memory.recorded self.old.contents)) (memory.MayLeave (memory.recorded self.new.contents)) }
         ensures time { Elapses (length self.old.contents.history) (length self.new.contents.history) (memory.LeftSince self.old.contents) (memory.LeftSince self.new.contents) (memory.MayLeave (memory.recorded self.new.contents)) }
+        ensures kept { memory.Keeps self.old self.new }
         ensures cause { HasCause self.old.plan.faults self.new.plan.faults result }
     {
         self.sync_bytes()
@@ -257,4 +266,8 @@ impl Store for MemoryStore {
     ghost counts_now = { λ s t c le left. laws.counts_now s.contents t c le left };
 
     ghost only_now = { λ s c left. laws.only_now s.contents c left };
+
+    ghost keeps_all = { λ s. laws.keeps_all s };
+
+    ghost keeps_on = { λ a b c ab bc. laws.keeps_on a b c ab bc };
 }

@@ -29,7 +29,7 @@ fn read_bytes<D: Store>(store: &mut D, at: u64, room: &mut [u8]) -> Result<(), F
     requires { at + length room.old ≤ length (D.seen store.old) }
     ensures bytes { OnOk result (room.new ≡ take (length room.old) (drop at (D.seen store.old))) }
     ensures seen { OnOk result (D.seen store.new ≡ D.seen store.old) }
-    ensures rests { Rests D.may_leave D.moment D.left_since store.old store.new }
+    ensures rests { Rests D.keeps D.may_leave D.moment D.left_since store.old store.new }
     ensures cause { HasCause (D.faults store.old) (D.faults store.new) result }
 {
     store.read(at, room)
@@ -40,7 +40,7 @@ fn is_open_at<D: Store>(store: &mut D, at: u64) -> Result<bool, Failed>
     requires { at < length (D.seen store.old) }
     ensures gate { IfOk result (λ b. scan.IsGateAt (D.seen store.old) at b) }
     ensures seen { OnOk result (D.seen store.new ≡ D.seen store.old) }
-    ensures rests { Rests D.may_leave D.moment D.left_since store.old store.new }
+    ensures rests { Rests D.keeps D.may_leave D.moment D.left_since store.old store.new }
     ensures cause { HasCause (D.faults store.old) (D.faults store.new) result }
 {
     let mut room = [0u8; 1];
@@ -63,7 +63,7 @@ fn length_at<D: Store>(store: &mut D, at: u64) -> Result<u64, Failed>
     ensures number { IfOk result (λ n. take 4 (drop at (D.seen store.old)) ≡ word32 n) }
     ensures small { IfOk result (λ n. n < 2 ^ 32) }
     ensures seen { OnOk result (D.seen store.new ≡ D.seen store.old) }
-    ensures rests { Rests D.may_leave D.moment D.left_since store.old store.new }
+    ensures rests { Rests D.keeps D.may_leave D.moment D.left_since store.old store.new }
     ensures cause { HasCause (D.faults store.old) (D.faults store.new) result }
 {
     let mut room = [0u8; 4];
@@ -85,7 +85,7 @@ fn change_at<D: Store>(
     ensures fault { IfErr result (scan.NotReached (D.faults store.old) (D.faults store.new)) }
     ensures later { D.faults store.old ≤ D.faults store.new }
     ensures seen { OnOk result (D.seen store.new ≡ D.seen store.old) }
-    ensures rests { Rests D.may_leave D.moment D.left_since store.old store.new }
+    ensures rests { Rests D.keeps D.may_leave D.moment D.left_since store.old store.new }
 {
     let mut room = [0u8; 521];
     let room = &mut room[..count as usize];
@@ -112,7 +112,7 @@ fn framed_at<D: Store>(
     ensures fault { IfErr result (scan.NotReached (D.faults store.old) (D.faults store.new)) }
     ensures later { D.faults store.old ≤ D.faults store.new }
     ensures seen { OnOk result (D.seen store.new ≡ D.seen store.old) }
-    ensures rests { Rests D.may_leave D.moment D.left_since store.old store.new }
+    ensures rests { Rests D.keeps D.may_leave D.moment D.left_since store.old store.new }
 {
     let left = store.size() - at;
     if left < 4 {
@@ -144,7 +144,7 @@ fn read_at<D: Store>(
     ensures fault { IfErr result (scan.NotRead (D.seen store.old) gate (D.faults store.old) (D.faults store.new)) }
     ensures later { D.faults store.old ≤ D.faults store.new }
     ensures seen { OnOk result (D.seen store.new ≡ D.seen store.old) }
-    ensures rests { Rests D.may_leave D.moment D.left_since store.old store.new }
+    ensures rests { Rests D.keeps D.may_leave D.moment D.left_since store.old store.new }
 {
     let Ok(open) = is_open_at(store, gate) else {
         return Err(JournalFault::Store);
@@ -187,7 +187,7 @@ fn read_one<D: Store>(
     ensures fault { IfErr result (scan.NotTaken (D.seen store.old) (parts.stable_of stable.old) scanned.old.gate (D.faults store.old) (D.faults store.new)) }
     ensures later { D.faults store.old ≤ D.faults store.new }
     ensures seen { OnOk result (D.seen store.new ≡ D.seen store.old) }
-    ensures rests { Rests D.may_leave D.moment D.left_since store.old store.new }
+    ensures rests { Rests D.keeps D.may_leave D.moment D.left_since store.old store.new }
 {
     let Some((change, count)) = read_at(alloc, store, scanned.gate)? else {
         return Ok(false);
@@ -211,7 +211,7 @@ pub(crate) fn read_all<D: Store>(
     ensures fault { IfErr result (scan.NotAllRead (D.seen store.old) (parts.stable_of stable.old) (D.faults store.old) (D.faults store.new)) }
     ensures later { D.faults store.old ≤ D.faults store.new }
     ensures seen { OnOk result (D.seen store.new ≡ D.seen store.old) }
-    ensures rests { Rests D.may_leave D.moment D.left_since store.old store.new }
+    ensures rests { Rests D.keeps D.may_leave D.moment D.left_since store.old store.new }
 {
     let mut scanned = Scanned {
         gate: 0,

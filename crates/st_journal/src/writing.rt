@@ -4,7 +4,7 @@ ghost use Rattle.st_link.specs.Causes.{HasCause};
 ghost use Rattle.st_journal.specs.Changes.{fits};
 ghost use Rattle.st_journal.specs.Journal.{framed};
 ghost use Rattle.st_journal.specs.Store.{LeavesOnly, Only, Torn, written};
-ghost use Rattle.st_journal.specs.Writing.{IsTornAppend, with_open_gate};
+ghost use Rattle.st_journal.specs.Writing.{IsTornAppend, Puts, WritesSynced, with_open_gate};
 
 use crate::change::{Change, put_byte, put_word32};
 use crate::store::Store;
@@ -31,6 +31,8 @@ fn write_synced<D: Store>(store: &mut D, at: u64, bytes: &[u8]) -> Result<(), Fa
     ensures seen { OnOk result (D.seen store.new ≡ written (D.seen store.old) at bytes.now) }
     ensures durable { OnOk result (Only (D.seen store.new) (D.may_leave store.new)) }
     ensures any_moment { LeavesOnly D.moment D.left_since store.old store.new (Torn at (length bytes.now) (D.seen store.old)) }
+    ensures exact { WritesSynced D.writes D.syncs at bytes.now store.old result store.new }
+    ensures kept { D.keeps store.old store.new }
     ensures cause { HasCause (D.faults store.old) (D.faults store.new) result }
 {
     store.write(at, bytes)?;
@@ -45,6 +47,8 @@ pub(crate) fn put_record<D: Store>(store: &mut D, gate: u64, bytes: &[u8]) -> Re
     ensures seen { OnOk result (D.seen store.new ≡ with_open_gate (D.seen store.old) gate bytes.now) }
     ensures durable { OnOk result (Only (D.seen store.new) (D.may_leave store.new)) }
     ensures any_moment { LeavesOnly D.moment D.left_since store.old store.new (IsTornAppend (D.seen store.old) gate bytes.now) }
+    ensures exact { Puts D.writes D.syncs gate bytes.now store.old result store.new }
+    ensures kept { D.keeps store.old store.new }
     ensures cause { HasCause (D.faults store.old) (D.faults store.new) result }
 {
     write_synced(store, gate + 1, bytes)?;

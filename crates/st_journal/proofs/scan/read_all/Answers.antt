@@ -14,5 +14,5 @@ changes-preserved g c =
           (rw c.changes.invariant.seen at read);
       seen = c.in_ok-read_one.ensures.seen ∙ c.changes.invariant.seen;
       later = omega (arith, c.changes.invariant.later, c.read_one.ensures.later);
-      rests = rests_then g.D.Store.moment g.D.Store.left_since g.D.Store.may_leave c.args.store.now c.changes.store c.read_one.new.store c.changes.invariant.rests c.read_one.ensures.rests;
+      rests = rests_then g.D.Store.moment g.D.Store.left_since g.D.Store.keeps g.D.Store.may_leave g.met.D.Store.keeps_on c.args.store.now c.changes.store c.read_one.new.store c.changes.invariant.rests c.read_one.ensures.rests;
     }

@@ -9,7 +9,7 @@ invariant-changes g l = record {
   read : IsReadTo (g.D.Store.seen l.fn.store) (stable_of l.fn.stable) (stable_of l.stable) l.scanned;
   seen : g.D.Store.seen l.store ≡ g.D.Store.seen l.fn.store;
   later : g.D.Store.faults l.fn.store ≤ g.D.Store.faults l.store;
-  rests : Rests g.D.Store.may_leave g.D.Store.moment g.D.Store.left_since l.fn.store l.store;
+  rests : Rests g.D.Store.keeps g.D.Store.may_leave g.D.Store.moment g.D.Store.left_since l.fn.store l.store;
 }
 
 abbrev pub decreases-changes : goal.decreases-changes

@@ -1,6 +1,7 @@
-use Rattle.std.proofs.Common.{arith}
+use Rattle.std.proofs.Common.{arith, refl}
 use Rattle.st_journal.specs.Plans as plans
 use Rattle.st_journal.proofs.Kept.{length-seen, read_seen, read_within, read_time, read_cause}
+use Rattle.st_journal.proofs.Quiet.{read_keeps}
 use Rattle.st_journal.proofs.memory.MemoryStoreStore.read.Goals as goal
 
 pub read_bytes-requires : goal.read_bytes-requires
@@ -17,3 +18,6 @@ returns-clause-time c = read_time c.args.self.now c.read_bytes.new.self (plans.o
 
 pub returns-clause-cause : goal.returns-clause-cause
 returns-clause-cause c = read_cause c.args.self.now c.read_bytes.new.self c.read_bytes.ensures.later (plans.outcome c.args.self.now.plan) c.read_bytes.result c.read_bytes.ensures.exact
+
+pub returns-clause-kept : goal.returns-clause-kept
+returns-clause-kept c = read_keeps c.args.self.now c.read_bytes.new.self (plans.outcome c.args.self.now.plan) c.read_bytes.result refl c.read_bytes.ensures.exact

@@ -1,0 +1,9 @@
+use Rattle.st_journal.proofs.Kept.{length-zeros}
+use Rattle.st_journal.proofs.Stopping.{zeros_journal}
+use Rattle.st_journal.proofs.laws.zeros_are_an_empty_journal.Goals as goal
+
+pub returns-clause-journal : goal.returns-clause-journal
+returns-clause-journal c = zeros_journal
+
+pub returns-clause-length : goal.returns-clause-length
+returns-clause-length c = length-zeros
