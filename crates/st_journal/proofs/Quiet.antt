@@ -1,6 +1,6 @@
 -- What the calls of a store in memory never change.
-use Rattle.std.proofs.Common.{◌≡◌, ◌⊎◌, ℕ, Bool, true, false, List, Option, None, Result, Ok, Err, refl, sym, ap, ◌∙◌, subst, inl, inr, cond}
-use Rattle.std.proofs.lemmas.Bool.{cases_Bool, cond-true, cond-false}
+use Rattle.std.proofs.Common.{◌≡◌, ℕ, Bool, true, false, Option, Result, Ok, Err, refl, sym, ap, ◌∙◌, subst, inl, inr, cond}
+use Rattle.std.proofs.lemmas.Bool.{cond-false}
 use Rattle.std.specs.List.{list_any}
 use Rattle.st_link.specs.InMemory.{raised}
 use Rattle.st_link.specs.declared.link.Failed.{Failed}

@@ -1,5 +1,5 @@
 -- What an opened journal records after an append.
-use Rattle.std.proofs.Common.{◌≡◌, ◌⊎◌, ℕ, ◌+◌, ◌≤◌, ◌<◌, Bool, false, true, List, [], ◌∷◌, ◌++◌, length, Option, Some, None, refl, sym, ap, ◌∙◌, subst, inl, inr, arith, length-append}
+use Rattle.std.proofs.Common.{◌≡◌, ℕ, ◌+◌, ◌≤◌, ◌<◌, Bool, false, true, List, [], ◌∷◌, ◌++◌, length, Option, Some, None, refl, sym, ap, ◌∙◌, subst, inl, arith, length-append}
 use Rattle.std.specs.Prelude.{is_some}
 use Rattle.std.proofs.lemmas.List.{append-nil}
 use Rattle.st_journal.specs.Changes.{bytes_of, fits}
@@ -15,7 +15,6 @@ use Rattle.st_journal.proofs.Appending.{opened_push, torn_append, done_append}
 use Rattle.st_journal.proofs.Moments.{started, weaker}
 use Rattle.st_journal.proofs.Scanning.{length-framed}
 use Rattle.st_journal.proofs.Torn.{not_torn}
-use Rattle.st_journal.proofs.Unique.{one_journal}
 
 -- The gate of a journal stands in its bytes, and not before as many bytes as it has changes.
 

@@ -1,5 +1,5 @@
 -- What becomes of an append in which a store in memory stops.
-use Rattle.std.specs.Prelude.{◌≡◌, ◌⊎◌, ℕ, Bool, true, false, ◌&&◌, ◌==◌, if◌then◌else◌, nat_le, List, [], ◌∷◌, ◌++◌, Option, Some, Result, Ok, Err}
+use Rattle.std.specs.Prelude.{◌≡◌, ◌⊎◌, ℕ, Bool, true, false, ◌&&◌, ◌==◌, if◌then◌else◌, nat_le, List, [], ◌∷◌, ◌++◌, Some, Result, Ok, Err}
 use Rattle.st_journal.specs.InMemory.{InMemory, held}
 use Rattle.st_journal.specs.Journal.{IsJournal}
 use Rattle.st_journal.specs.declared.change.Change.{Change}
