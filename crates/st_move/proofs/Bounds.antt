@@ -1,6 +1,6 @@
 -- What the calls of a server need stands after every list of events.
-use Rattle.std.proofs.Common.{◌≡◌, ◌≢◌, ℕ, suc, ◌+◌, ◌≤◌, ◌<◌, ◌⊎◌, Bool, true, false, cond, List, [], ◌∷◌, ◌++◌, length, map, Option, Some, None, refl, sym, ap, ◌∙◌, subst, inl, inr, arith, lt-ltb}
-use Rattle.std.specs.Prelude.{zero, pred, if◌then◌else◌, ◌&&◌, ◌==◌, nat_lt, slice_get, Result, Ok, Err}
+use Rattle.std.proofs.Common.{◌≡◌, ◌≢◌, ℕ, suc, ◌+◌, ◌≤◌, ◌<◌, ◌⊎◌, Bool, true, false, List, [], ◌∷◌, ◌++◌, length, map, Option, Some, None, refl, sym, ap, ◌∙◌, subst, inl, inr, arith, lt-ltb}
+use Rattle.std.specs.Prelude.{zero, pred, if◌then◌else◌, ◌==◌, Result, Ok, Err}
 use Rattle.std.specs.List.{list_all}
 use Rattle.st_base.specs.declared.ids.ServerId.{ServerId}
 use Rattle.st_rules.specs.Locks.{Locks}
@@ -17,11 +17,14 @@ use Rattle.st_move.specs.declared.refusal.MoveRefusal.{MoveRefusal}
 use Rattle.st_move.specs.declared.world.MoveEvent.{MoveEvent}
 use Rattle.st_move.specs.declared.world.MoveEvent.TheVariants as events
 use Rattle.st_move.specs.declared.world.SentMove.{SentMove}
+use Rattle.st_move.specs.declared.site.MoveSite.{MoveSite}
+use Rattle.st_move.specs.declared.world.MoveAnswer.TheVariants.{Done, LostMessage, NoLock}
 use Rattle.st_move.specs.Containers.{after_order, after_put, after_take, after_tick, answer_to, answered, beginning, beginnings, begins_at, container_of, gone_by, has_next, held, images, is_below, leaves, listed, recorded, sent_from, sent_if, sent_on, taken_at, taken_in, with_image, with_records, with_standing, with_updates}
 use Rattle.st_move.specs.Conditions.{CanGoOn, MovesGoOn}
 use Rattle.st_move.specs.Law.{MoveHistory, fresh_history, known, noted, record_at, record_in, run_moves}
-use Rattle.st_move.specs.World.{Done, LostMessage, MoveSite, MoveWorld, NoLock, answer_sent, deliver_at, fresh_site, fresh_world, happens, has_lock, list_at, list_told, lock_at, lock_told, locked, lose_at, lost_move, order_at, order_for, order_told, put_at, put_told, sent_move, server, sites_behind, taken_by, tick_at, ticked, told, unlock_at, unlocked, with_locks, with_lost}
+use Rattle.st_move.specs.World.{MoveWorld, answer_sent, deliver_at, fresh_world, happens, has_lock, list_at, list_told, lock_at, lock_told, locked, lose_at, lost_move, order_at, order_for, order_told, put_at, put_told, sent_move, server, sites_behind, taken_by, tick_at, ticked, told, unlock_at, unlocked, with_locks, with_lost}
 use Rattle.st_move.proofs.Loops.{beginnings_length}
+use Rattle.st_move.proofs.Ones.{AreOnes, ones_can, ones_fresh, ones_later, ones_locked, ones_unlocked}
 use Rattle.st_move.proofs.Says.{IsHeldAt, IsImageAt, held_says, images_at, numbered_set_has, order_says, put_says, sent_length, with_changed}
 use Rattle.st_move.proofs.Stands.{IsContainer, site_locked, site_with}
 
@@ -52,6 +55,7 @@ IsFineMessage containers n (Taken c v) = IsContainer containers c
 record IsFineSite (servers containers n : ℕ) (x : MoveSite) : Type 0 where
   whole : length x.containers.records ≡ containers
   records : AreFine servers n x.containers.records
+  locks : AreOnes containers n x.locks
 
 record IsFineSent (servers containers n : ℕ) (m : SentMove) : Type 0 where
   from : IsThere servers m.from
@@ -73,7 +77,7 @@ message_later containers n (Image c v us) f = let a : v ≤ n + 1 = f.1 in let b
 message_later containers n (Taken c v) f = f
 
 site_later : (servers containers n : ℕ) (x : MoveSite) → IsFineSite servers containers n x → IsFineSite servers containers (n + 1) x
-site_later servers containers n x f = record { whole = f.whole; records = λ o i. record_later servers n o (f.records o i) }
+site_later servers containers n x f = record { whole = f.whole; records = λ o i. record_later servers n o (f.records o i); locks = ones_later containers n x.locks f.locks }
 
 sent_later : (servers containers n : ℕ) (m : SentMove) → IsFineSent servers containers n m → IsFineSent servers containers (n + 1) m
 sent_later servers containers n m f = record { from = f.from; to = f.to; message = message_later containers n m.message f.message }
@@ -177,7 +181,8 @@ module _ (servers containers n : ℕ) (w : MoveWorld) (f : Fine servers containe
   -- one record of a server changes
   replaced_fine : (x : MoveSite) → IsFineSite servers containers n x → (c : ℕ) (q : Option ContainerRecord) → IsFine servers (n + 1) q
       → IsFineSite servers containers (n + 1) (site_with x (with_records x.containers (with_numbered c q x.containers.records)))
-  replaced_fine x i c q g = record { whole = set_length x.containers.records (pred c) q ∙ i.whole; records = λ o j. go o (numbered_set_has x.containers.records c q o j) }
+  replaced_fine x i c q g =
+      record { whole = set_length x.containers.records (pred c) q ∙ i.whole; records = λ o j. go o (numbered_set_has x.containers.records c q o j); locks = ones_later containers n x.locks i.locks }
     where
       go : (o : Option ContainerRecord) → (o ≡ q) ⊎ Has o x.containers.records → IsFine servers (n + 1) o
       go o (inl e) = subst (IsFine servers (n + 1)) (sym e) g
@@ -222,17 +227,23 @@ module _ (servers containers n : ℕ) (w : MoveWorld) (f : Fine servers containe
       go (Ok us) = later
       go (Err g) = later
 
-  locks_fine : (s : ServerId) (x : MoveSite) → numbered w.sites s.0 ≡ Some x → (l : Locks) → Fine servers containers (n + 1) (with_locks s x l w)
-  locks_fine s x e l = changed_fine s.0 (site_locked x l) w.sent (record { whole = (found_fine s.0 x e).whole; records = λ o i. record_later servers n o ((found_fine s.0 x e).records o i) }) sent_still
+  locks_fine : (s : ServerId) (x : MoveSite) → numbered w.sites s.0 ≡ Some x → (l : Locks) → AreOnes containers (n + 1) l → Fine servers containers (n + 1) (with_locks s x l w)
+  locks_fine s x e l a =
+      changed_fine s.0 (site_locked x l) w.sent (record { whole = (found_fine s.0 x e).whole; records = λ o i. record_later servers n o ((found_fine s.0 x e).records o i); locks = a }) sent_still
 
   lock_event : (s : ServerId) (c : ℕ) (o : Option MoveSite) → numbered w.sites s.0 ≡ o → Fine servers containers (n + 1) (lock_at w s c o).world
   unfolding lock_at lock_told
   lock_event s c None e = later
-  lock_event s c (Some x) e = go (held x.containers c)
+  lock_event s c (Some x) e = go (held_says x.containers c)
     where
-      go : (r : Result ContainerRecord MoveRefusal) → Fine servers containers (n + 1) (lock_told w s x c r).world
-      go (Ok r) = locks_fine s x e (locked x.locks c)
-      go (Err g) = later
+      by : (r : ContainerRecord) → IsHeldAt x.containers.records c r → Fine servers containers (n + 1) (with_locks s x (locked x.locks c) w)
+      by r h =
+          let b : (1 ≤ c) × (c ≤ length x.containers.records) = numbered_below x.containers.records c (Some r) h.0 in
+          locks_fine s x e (locked x.locks c) (ones_locked containers n x.locks c b.0 (subst (λ k. c ≤ k) (found_fine s.0 x e).whole b.1) (found_fine s.0 x e).locks)
+
+      go : ((r : ContainerRecord) × IsHeldAt x.containers.records c r × (held x.containers c ≡ Ok r)) ⊎ ((g : MoveRefusal) × (held x.containers c ≡ Err g)) → Fine servers containers (n + 1) (lock_told w s x c (held x.containers c)).world
+      go (inl h) = subst (λ r. Fine servers containers (n + 1) (lock_told w s x c r).world) (sym h.2) (by h.0 h.1)
+      go (inr g) = subst (λ r. Fine servers containers (n + 1) (lock_told w s x c r).world) (sym g.1) later
 
   unlock_event : (s : ServerId) (c : ℕ) (o : Option MoveSite) → numbered w.sites s.0 ≡ o → Fine servers containers (n + 1) (unlock_at w s c o).world
   unfolding unlock_at
@@ -240,14 +251,14 @@ module _ (servers containers n : ℕ) (w : MoveWorld) (f : Fine servers containe
   unlock_event s c (Some x) e = go (has_lock x.locks c)
     where
       go : (b : Bool) → Fine servers containers (n + 1) (if b then told (with_locks s x (unlocked x.locks c) w) Done else told w NoLock).world
-      go true = locks_fine s x e (unlocked x.locks c)
+      go true = locks_fine s x e (unlocked x.locks c) (ones_unlocked containers n x.locks c (found_fine s.0 x e).locks)
       go false = later
 
   tick_event : (s : ServerId) (o : Option MoveSite) → numbered w.sites s.0 ≡ o → Fine servers containers (n + 1) (tick_at w s o).world
   unfolding tick_at ticked
   tick_event s None e = later
   tick_event s (Some x) e = changed_fine s.0 (site_with x (after_tick x.containers x.locks)) (w.sent ++ map (sent_move s) (images (after_tick x.containers x.locks)))
-      (record { whole = whole; records = records }) (λ m i. go m (has_append w.sent (map (sent_move s) (images (after_tick x.containers x.locks))) m i))
+      (record { whole = whole; records = records; locks = ones_later containers n x.locks (found_fine s.0 x e).locks }) (λ m i. go m (has_append w.sent (map (sent_move s) (images (after_tick x.containers x.locks))) m i))
     where
       whole : length (after_tick x.containers x.locks).records ≡ containers
       whole = sent_length x.locks 0 x.containers.records ∙ (found_fine s.0 x e).whole
@@ -275,7 +286,11 @@ module _ (servers containers n : ℕ) (w : MoveWorld) (f : Fine servers containe
       (at (numbered x.containers.records (container_of m.message)) refl) (λ z j. go z (has_append w.sent (answer_sent m (answer_to m.message)) z j))
     where
       at : (o : Option (Option ContainerRecord)) → numbered x.containers.records (container_of m.message) ≡ o → IsFineSite servers containers (n + 1) (site_with x (with_records x.containers (taken_at m.message o x.containers.records)))
-      at None g = record { whole = (found_fine m.to.0 x e).whole; records = λ o j. record_later servers n o ((found_fine m.to.0 x e).records o j) }
+      at None g = record {
+        whole = (found_fine m.to.0 x e).whole;
+        records = λ o j. record_later servers n o ((found_fine m.to.0 x e).records o j);
+        locks = ones_later containers n x.locks (found_fine m.to.0 x e).locks;
+      }
       at (Some r) g = replaced_fine x (found_fine m.to.0 x e) (container_of m.message) (taken_in m.message r)
           (taken_fine servers containers n m.message (f.sent m i).message r ((found_fine m.to.0 x e).records r (numbered_has x.containers.records (container_of m.message) r g)))
 
@@ -349,7 +364,8 @@ fresh_sites : (servers containers s n : ℕ) (x : MoveSite) → Has x (sites_beh
 unfolding sites_behind
 fresh_sites servers containers s zero x h = absurd h
 fresh_sites servers containers s (suc n) x (inl e) =
-    subst (IsFineSite servers containers 0) (sym e) (record { whole = beginnings_length (server (s + 1)) servers 0 containers; records = fresh_records (server (s + 1)) servers 0 containers })
+    subst (IsFineSite servers containers 0) (sym e)
+    (record { whole = beginnings_length (server (s + 1)) servers 0 containers; records = fresh_records (server (s + 1)) servers 0 containers; locks = ones_fresh containers (record { 0 = 1 }) })
 fresh_sites servers containers s (suc n) x (inr h) = fresh_sites servers containers (s + 1) n x h
 
 sites_count : (servers containers s n : ℕ) → length (sites_behind servers containers s n) ≡ n
@@ -391,6 +407,7 @@ module _ (servers containers n : ℕ) (w : MoveWorld) (f : Fine servers containe
     whole = λ s x e. (f.sites x (numbered_has w.sites s x e)).whole;
     versions = version_at;
     ticks = λ s x e l. all_next servers n x.containers.records (f.sites x (numbered_has w.sites s x e)).records l;
+    locks = λ s x e k l. ones_can containers n x.locks k (f.sites x (numbered_has w.sites s x e)).locks l;
     known = λ k m e. container_is m.message (f.sent m (numbered_has w.sent k m e)).message;
     there = λ k m e. let t : IsThere servers m.to = (f.sent m (numbered_has w.sent k m e)).to in (t.some, t.within);
   }

@@ -1,11 +1,11 @@
 -- How many bytes updates have.
-use Rattle.std.proofs.Common.{◌≡◌, ℕ, suc, ◌+◌, ◌≤◌, ◌<◌, Bool, true, false, List, [], ◌∷◌, ◌++◌, length, take, drop, get_or, refl, sym, ap, ◌∙◌, subst, arith, leb-true}
-use Rattle.std.specs.Prelude.{zero, ◌&&◌, nat_le, sum_by}
+use Rattle.std.proofs.Common.{◌≡◌, ℕ, suc, ◌+◌, ◌≤◌, ◌<◌, Bool, true, List, [], ◌∷◌, ◌++◌, length, take, get_or, refl, ap, ◌∙◌, arith, leb-true}
+use Rattle.std.specs.Prelude.{zero, nat_le}
 use Rattle.std.specs.List.{list_all}
 use Rattle.std.proofs.lemmas.List.{take_more}
 use Rattle.std.proofs.lemmas.List.Sums.{sum_by-append}
 use Rattle.st_lemmas.proofs.Tables.{and_both, and_true}
-use Rattle.st_move.specs.Updates.{AreUpdates, bytes_of, is_update, most_bytes}
+use Rattle.st_move.specs.Updates.{bytes_of, is_update}
 
 bytes_one : (u : List ℕ) → bytes_of (u ∷ []) ≡ length u
 bytes_one u = omega arith

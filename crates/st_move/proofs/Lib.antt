@@ -4,6 +4,8 @@ mod Lifts
 mod Locked
 mod Loops
 mod Moved
+mod Networks
+mod Ones
 mod Runs
 mod Says
 mod Stands

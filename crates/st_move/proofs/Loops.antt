@@ -1,6 +1,6 @@
 -- The turns of the loops over records.
-use Rattle.std.proofs.Common.{◌≡◌, ℕ, suc, ◌+◌, ◌-◌, ◌≤◌, ◌<◌, Bool, true, false, List, [], ◌∷◌, ◌++◌, length, take, drop, get_or, set, Option, refl, sym, ap, ◌∙◌, subst, arith, append_assoc}
-use Rattle.std.specs.Prelude.{zero, ◌&&◌}
+use Rattle.std.proofs.Common.{◌≡◌, ℕ, suc, ◌+◌, ◌-◌, ◌≤◌, ◌<◌, Bool, true, List, [], ◌∷◌, ◌++◌, length, take, drop, get_or, set, Option, refl, sym, ap, ◌∙◌, subst, arith, append_assoc}
+use Rattle.std.specs.Prelude.{zero}
 use Rattle.std.specs.List.{list_all}
 use Rattle.std.proofs.Math.Seq.{drop-cons}
 use Rattle.std.proofs.lemmas.List.{drop-set-lt, take_more_set}
@@ -10,6 +10,7 @@ use Rattle.st_rules.specs.Locks.{Locks}
 use Rattle.st_move.specs.declared.record.ContainerRecord.{ContainerRecord}
 use Rattle.st_move.specs.Calls.{leaving_from, sent_by}
 use Rattle.st_move.specs.Containers.{beginning, beginnings, has_next, image_of, images_from, leaves, sent_from, sent_if}
+use Rattle.st_move.specs.World.{fresh_site, sites_behind}
 
 one_more : (p : ℕ) → suc p ≡ p + 1
 one_more p = omega arith
@@ -95,3 +96,12 @@ pub beginnings_length : (s : ServerId) (servers p n : ℕ) → length (beginning
 unfolding beginnings
 beginnings_length s servers p zero = refl
 beginnings_length s servers p (suc n) = ap suc (beginnings_length s servers (p + 1) n)
+
+-- how servers begin
+pub sites_next : (servers containers p n : ℕ) → p < n → sites_behind servers containers p (n - p) ≡ fresh_site servers containers (p + 1) ∷ sites_behind servers containers (p + 1) (n - (p + 1))
+unfolding sites_behind
+sites_next servers containers p n h = let e : n - p ≡ suc (n - (p + 1)) = omega arith in ap (sites_behind servers containers p) e
+
+pub sites_end : (servers containers p n : ℕ) → n ≤ p → sites_behind servers containers p (n - p) ≡ []
+unfolding sites_behind
+sites_end servers containers p n h = let e : n - p ≡ 0 = omega arith in ap (sites_behind servers containers p) e

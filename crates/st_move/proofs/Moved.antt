@@ -1,5 +1,5 @@
 -- What stands of one container through ticks and messages.
-use Rattle.std.proofs.Common.{◌≡◌, ◌≢◌, ℕ, ◌+◌, ◌≤◌, ◌<◌, ◌⊎◌, Bool, true, false, cond, List, [], ◌∷◌, ◌++◌, Option, Some, None, refl, sym, ap, ◌∙◌, subst, inl, inr, arith, eqb, ltb, true≢false, lt-ltb, le-ltb}
+use Rattle.std.proofs.Common.{◌≡◌, ◌≢◌, ℕ, ◌+◌, ◌≤◌, ◌<◌, ◌⊎◌, Bool, true, false, List, Option, Some, None, refl, sym, ap, ◌∙◌, subst, inl, inr, arith, eqb, lt-ltb, le-ltb}
 use Rattle.std.specs.Prelude.{if◌then◌else◌, ◌&&◌, not, ◌==◌, nat_lt}
 use Rattle.std.proofs.lemmas.Bool.Decides.{eqb_tells}
 use Rattle.st_base.specs.declared.ids.ServerId.{ServerId}
@@ -12,9 +12,8 @@ use Rattle.st_move.specs.declared.record.MoveMessage.TheVariants.{Image, Taken}
 use Rattle.st_move.specs.declared.record.Standing.{Standing}
 use Rattle.st_move.specs.declared.record.Standing.TheVariants.{Holding, Leaving, Sent, Gone}
 use Rattle.st_move.specs.declared.world.SentMove.{SentMove}
-use Rattle.st_move.specs.Containers.{answered, gone_by, is_below, is_leaving, recorded, sent_if, sent_on, with_image}
-use Rattle.st_move.specs.Law.{is_held}
-use Rattle.st_move.proofs.Token.{Grow, IsHeard, IsNewest, IsOlder, IsPast, Keeps, Records, Token, grow_at, keep, same}
+use Rattle.st_move.specs.Containers.{answered, gone_by, is_leaving, recorded, sent_if, sent_on, with_image}
+use Rattle.st_move.proofs.Token.{Grow, IsHeard, IsNewest, IsOlder, IsPast, Records, Token, grow_at, keep, same}
 
 -- the message is the image of this record of the container
 abbrev pub IsImageOf : ℕ → Option ContainerRecord → ServerId → MoveMessage → Type 0

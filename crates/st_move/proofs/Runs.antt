@@ -1,9 +1,8 @@
 -- Every list of events keeps what stands, and from that the law.
-use Rattle.std.proofs.Common.{◌≡◌, ◌≢◌, ℕ, suc, ◌+◌, ◌-◌, ◌%◌, ◌≤◌, ◌<◌, ◌⊎◌, Bool, true, false, cond, List, [], ◌∷◌, ◌++◌, length, map, Option, Some, None, refl, sym, ap, ◌∙◌, subst, inl, inr, arith, eqb, true≢false}
-use Rattle.std.specs.Prelude.{zero, if◌then◌else◌, ◌==◌, slice_get, Result, Ok, Err}
+use Rattle.std.proofs.Common.{◌≡◌, ◌≢◌, ℕ, suc, ◌+◌, ◌%◌, ◌≤◌, ◌<◌, ◌⊎◌, Bool, true, false, List, [], ◌∷◌, ◌++◌, length, Option, Some, None, refl, sym, ap, ◌∙◌, subst, inl, inr, arith, eqb, true≢false}
+use Rattle.std.specs.Prelude.{zero, if◌then◌else◌, slice_get, Result, Ok, Err}
 use Rattle.std.proofs.lemmas.Bool.Decides.{eqb_tells}
 use Rattle.st_base.specs.declared.ids.ServerId.{ServerId}
-use Rattle.st_rules.specs.Locks.{Locks}
 use Rattle.st_rules.specs.World.{numbered, with_numbered}
 use Rattle.st_lemmas.specs.Lists.{Has}
 use Rattle.st_lemmas.proofs.Lookups.{some_is}
@@ -16,12 +15,15 @@ use Rattle.st_move.specs.declared.refusal.MoveRefusal.{MoveRefusal}
 use Rattle.st_move.specs.declared.world.MoveEvent.{MoveEvent}
 use Rattle.st_move.specs.declared.world.MoveEvent.TheVariants as events
 use Rattle.st_move.specs.declared.world.SentMove.{SentMove}
-use Rattle.st_move.specs.Containers.{Containers, after_order, after_put, beginning, beginnings, begins_at, held, listed, recorded, with_standing, with_updates}
-use Rattle.st_move.specs.Law.{IsKeptBy, MoveHistory, NoUpdateIsLost, OneHolder, accepted_after, accepts, fresh_history, has_row, holds, holds_by, is_held, known, locked_in, noted, record_at, record_in, run_moves}
-use Rattle.st_move.specs.World.{Done, Listed, LostMessage, NoLock, MoveAnswer, MoveSite, MoveTurn, MoveWorld, deliver_at, fresh_site, fresh_world, happens, has_lock, list_at, list_told, lock_at, lock_told, lose_at, lost_move, order_at, order_for, order_told, put_at, put_told, server, sites_behind, taken_by, tick_at, ticked, told, unlock_at, unlocked, with_locks, with_lost}
+use Rattle.st_move.specs.declared.site.MoveSite.{MoveSite}
+use Rattle.st_move.specs.declared.world.MoveAnswer.{MoveAnswer}
+use Rattle.st_move.specs.declared.world.MoveAnswer.TheVariants.{Done, Listed, LostMessage, NoLock}
+use Rattle.st_move.specs.Containers.{after_order, after_put, beginning, beginnings, begins_at, held, listed, recorded, with_standing, with_updates}
+use Rattle.st_move.specs.Law.{IsKeptBy, MoveHistory, NoUpdateIsLost, OneHolder, accepts, fresh_history, has_row, holds, holds_by, is_held, known, locked_in, noted, record_at, record_in, run_moves}
+use Rattle.st_move.specs.World.{MoveWorld, deliver_at, fresh_site, fresh_world, happens, has_lock, list_at, list_told, lock_at, lock_told, lose_at, lost_move, order_at, order_for, order_told, put_at, put_told, server, sites_behind, taken_by, tick_at, ticked, told, unlock_at, unlocked, with_locks, with_lost}
 use Rattle.st_move.proofs.Says.{IsHeldAt, held_says, listed_says, numbered_set_has, order_says, put_says, with_changed}
-use Rattle.st_move.proofs.Stands.{IsContainer, IsSite, Stands, TokenOf, accepts_other, accepts_own, bool_true, heard_more, lock_stands, replaced, take_stands, tick_stands, unlock_stands}
-use Rattle.st_move.proofs.Token.{IsGoing, IsNewest, IsOlder, Token, held_here}
+use Rattle.st_move.proofs.Stands.{IsContainer, IsSite, Stands, TokenOf, accepts_other, accepts_own, heard_more, lock_stands, replaced, take_stands, tick_stands, unlock_stands}
+use Rattle.st_move.proofs.Token.{IsGoing, IsNewest, IsOlder, held_here}
 
 module _ (containers : ℕ) (h : MoveHistory) (st : Stands containers h) where
   put_event : (s : ServerId) (c : ℕ) (u : List ℕ) (o : Option MoveSite) → numbered h.world.sites s.0 ≡ o → Stands containers (noted h (events.Put s c u) (put_at h.world s c u o))

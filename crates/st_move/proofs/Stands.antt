@@ -1,28 +1,24 @@
 -- What stands of every container in every run, event by event.
-use Rattle.std.proofs.Common.{◌≡◌, ◌≢◌, ℕ, suc, ◌+◌, ◌≤◌, ◌<◌, ◌⊎◌, Bool, true, false, cond, List, [], ◌∷◌, ◌++◌, length, map, Option, Some, None, refl, sym, ap, ◌∙◌, subst, inl, inr, arith, eqb}
-use Rattle.std.specs.Prelude.{zero, if◌then◌else◌, ◌==◌, Result, Ok, Err}
+use Rattle.std.proofs.Common.{◌≡◌, ◌≢◌, ℕ, suc, ◌≤◌, ◌⊎◌, Bool, true, false, List, [], ◌∷◌, ◌++◌, length, map, Option, Some, None, refl, sym, ap, ◌∙◌, subst, inl, inr, arith, eqb}
+use Rattle.std.specs.Prelude.{zero, ◌==◌}
 use Rattle.std.proofs.lemmas.Bool.Decides.{eqb_tells}
 use Rattle.st_base.specs.declared.ids.ServerId.{ServerId}
 use Rattle.st_rules.specs.Locks.{Locks}
 use Rattle.st_rules.specs.World.{numbered, with_numbered}
 use Rattle.st_lemmas.specs.Lists.{Has}
 use Rattle.st_lemmas.proofs.Lookups.{some_is}
-use Rattle.st_lemmas.proofs.Numbers.{get_there, numbered_below, numbered_has, numbered_other, numbered_own, set_length}
+use Rattle.st_lemmas.proofs.Numbers.{get_there, numbered_below, numbered_other, numbered_own, set_length}
 use Rattle.st_lemmas.proofs.Tables.{cond_true, cond_false, has_append, has_map, same_or_not}
 use Rattle.st_move.specs.declared.record.ContainerRecord.{ContainerRecord}
 use Rattle.st_move.specs.declared.record.MoveMessage.{MoveMessage}
 use Rattle.st_move.specs.declared.record.MoveMessage.TheVariants.{Image, Taken}
-use Rattle.st_move.specs.declared.record.Standing.TheVariants.{Holding, Leaving}
-use Rattle.st_move.specs.declared.refusal.MoveRefusal.{MoveRefusal}
-use Rattle.st_move.specs.declared.world.MoveEvent.{MoveEvent}
-use Rattle.st_move.specs.declared.world.MoveEvent.TheVariants as events
 use Rattle.st_move.specs.declared.world.SentMove.{SentMove}
-use Rattle.st_move.specs.Containers.{Containers, after_order, after_put, after_take, after_tick, answer_to, answered, container_of, held, images, images_from, is_locked, listed, sent_from, sent_if, taken_at, taken_in, with_image, with_record, with_records, with_standing, with_updates}
-use Rattle.st_move.specs.Law.{MoveHistory, accepted_after, accepts, fresh_history, has_row, known, locked_in, noted, record_at, record_in, run_moves}
-use Rattle.st_move.specs.World as world
-use Rattle.st_move.specs.World.{MoveSite, MoveTurn, MoveWorld, answer_sent, deliver_at, happens, has_lock, list_at, list_told, lock_at, lock_told, locked, lose_at, lost_move, order_at, order_for, order_told, put_at, put_told, sent_move, taken_by, tick_at, ticked, unlock_at, unlocked}
+use Rattle.st_move.specs.declared.site.MoveSite.{MoveSite}
+use Rattle.st_move.specs.Containers.{Containers, after_take, after_tick, answer_to, container_of, images, is_locked, sent_if, taken_at, taken_in}
+use Rattle.st_move.specs.Law.{MoveHistory, accepts, has_row, known, locked_in, record_at, record_in}
+use Rattle.st_move.specs.World.{MoveWorld, answer_sent, locked, sent_move, unlocked}
 use Rattle.st_move.proofs.Moved.{IsImageOf, Sends, answers_come, images_come, leaves_if, ticks}
-use Rattle.st_move.proofs.Says.{IsHeldAt, IsImageAt, held_says, images_at, listed_says, locked_other, numbered_set_has, order_says, put_says, sent_known, sent_length, unlocked_any, with_changed}
+use Rattle.st_move.proofs.Says.{IsHeldAt, IsImageAt, images_at, locked_other, sent_known, sent_length, unlocked_any, with_changed}
 use Rattle.st_move.proofs.Token.{IsGoing, IsHeard, Records, Token, changes, locks, same}
 
 -- the container exists

@@ -1,18 +1,16 @@
 -- What stands of one container in every run, by its records at the servers: one server has the accepted updates, and every other has an older
 -- record, or none. What each thing that happens to a record does to that.
-use Rattle.std.proofs.Common.{◌≡◌, ◌≢◌, ℕ, ◌+◌, ◌≤◌, ◌<◌, ◌⊎◌, Bool, true, false, cond, List, [], ◌∷◌, ◌++◌, Option, Some, None, refl, sym, ap, ◌∙◌, subst, inl, inr, arith, eqb, ltb}
-use Rattle.std.specs.Prelude.{if◌then◌else◌, ◌&&◌, not, ◌==◌, nat_lt}
+use Rattle.std.proofs.Common.{◌≡◌, ◌≢◌, ℕ, ◌+◌, ◌≤◌, ◌⊎◌, Bool, true, false, List, Option, Some, None, refl, sym, ap, ◌∙◌, subst, inl, inr, arith}
 use Rattle.st_base.specs.declared.ids.ServerId.{ServerId}
 use Rattle.st_lemmas.specs.Lists.{Has}
 use Rattle.st_lemmas.proofs.Lookups.{some_is}
-use Rattle.st_lemmas.proofs.Tables.{same_or_not, cond_true, cond_false}
+use Rattle.st_lemmas.proofs.Tables.{same_or_not}
 use Rattle.st_move.specs.declared.record.ContainerRecord.{ContainerRecord}
 use Rattle.st_move.specs.declared.record.MoveMessage.{MoveMessage}
 use Rattle.st_move.specs.declared.record.MoveMessage.TheVariants.{Image, Taken}
 use Rattle.st_move.specs.declared.record.Standing.{Standing}
 use Rattle.st_move.specs.declared.record.Standing.TheVariants.{Holding, Leaving, Sent, Gone}
 use Rattle.st_move.specs.declared.world.SentMove.{SentMove}
-use Rattle.st_move.specs.Containers.{answered, gone_by, is_below, is_leaving, recorded, sent_if, sent_on, with_image}
 use Rattle.st_move.specs.Law.{is_held}
 
 -- the record of a container at each server

@@ -1,14 +1,17 @@
 -- No update of a container is lost, and one server holds it, whatever is put, ordered, locked, delivered, lost or repeated.
-use Rattle.std.specs.Prelude.{◌≡◌, ◌≤◌, ℕ, Bool, true, false, ◌==◌, ◌||◌, if◌then◌else◌, List, [], ◌∷◌, ◌++◌, Option, Some, None}
+use Rattle.std.specs.Prelude.{◌≡◌, ◌≤◌, ℕ, Bool, true, false, ◌==◌, if◌then◌else◌, List, [], ◌∷◌, ◌++◌, Option, Some, None}
 use Rattle.st_base.specs.declared.ids.ServerId.{ServerId}
 use Rattle.st_rules.specs.World.{numbered}
 use Rattle.st_move.specs.declared.record.ContainerRecord.{ContainerRecord}
 use Rattle.st_move.specs.declared.record.Standing.{Standing}
-use Rattle.st_move.specs.declared.record.Standing.TheVariants.{Holding, Leaving, Sent, Gone}
+use Rattle.st_move.specs.declared.record.Standing.TheVariants.{Holding, Leaving}
 use Rattle.st_move.specs.declared.world.MoveEvent.{MoveEvent}
 use Rattle.st_move.specs.declared.world.MoveEvent.TheVariants as events
+use Rattle.st_move.specs.declared.site.MoveSite.{MoveSite}
+use Rattle.st_move.specs.declared.world.MoveAnswer.{MoveAnswer}
+use Rattle.st_move.specs.declared.world.MoveAnswer.TheVariants.{Counted, Listed}
 use Rattle.st_move.specs.Containers.{is_locked}
-use Rattle.st_move.specs.World.{MoveAnswer, Counted, Listed, MoveSite, MoveTurn, MoveWorld, fresh_world, happens, server}
+use Rattle.st_move.specs.World.{MoveTurn, MoveWorld, fresh_world, happens}
 
 -- The world, and of each container the list of its accepted updates: those whose put was answered with their number.
 pub record MoveHistory : Type 0 where

@@ -1,5 +1,5 @@
 -- The script of the command `move`: the line of each event, and the text of all answers. docs/PROTOCOL.md, "A container moves by order".
-use Rattle.std.specs.Prelude.{ℕ, ◌+◌, Bool, true, false, ◌&&◌, nat_le, List, [], ◌∷◌, ◌++◌, length, flat_map, codes, ⊤}
+use Rattle.std.specs.Prelude.{ℕ, ◌+◌, Bool, ◌&&◌, nat_le, List, [], ◌∷◌, ◌++◌, length, flat_map, codes, ⊤}
 use Rattle.std.specs.Fmt.{decimal}
 use Rattle.std.specs.List.{list_all}
 use Rattle.st_base.specs.declared.ids.ServerId.{ServerId}
@@ -9,8 +9,9 @@ use Rattle.st_move.specs.declared.refusal.MoveRefusal.{MoveRefusal}
 use Rattle.st_move.specs.declared.refusal.MoveRefusal.TheVariants as refusals
 use Rattle.st_move.specs.declared.world.MoveEvent.{MoveEvent}
 use Rattle.st_move.specs.declared.world.MoveEvent.TheVariants as events
-use Rattle.st_move.specs.declared.world.SentMove.{SentMove}
-use Rattle.st_move.specs.World.{MoveAnswer, Done, Counted, Listed, Refused, NoServer, NoLock, NoMessage, LostMessage, Sends, MoveTurn, MoveWorld, fresh_world, happens}
+use Rattle.st_move.specs.declared.world.MoveAnswer.{MoveAnswer}
+use Rattle.st_move.specs.declared.world.MoveAnswer.TheVariants.{Done, Counted, Listed, Refused, NoServer, NoLock, NoMessage, LostMessage, Sends}
+use Rattle.st_move.specs.World.{MoveWorld, fresh_world, happens}
 
 -- Words.
 

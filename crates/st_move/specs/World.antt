@@ -1,43 +1,28 @@
 -- Servers with containers, their lock tables, and the messages between them: what may happen, and what is answered.
 -- docs/PROTOCOL.md, "A container moves by order".
-use Rattle.std.specs.Prelude.{ℕ, zero, suc, ◌+◌, Bool, true, false, ◌==◌, if◌then◌else◌, List, [], ◌∷◌, ◌++◌, length, find, map, Option, Some, None, is_some, Result, Ok, Err, ⊤}
+use Rattle.std.specs.Prelude.{ℕ, zero, suc, ◌+◌, Bool, true, false, if◌then◌else◌, List, [], ◌∷◌, ◌++◌, length, map, Option, Some, None, is_some, Result, Ok, Err, ⊤}
 use Rattle.st_base.specs.declared.ids.ClientId.{ClientId}
 use Rattle.st_base.specs.declared.ids.ServerId.{ServerId}
 use Rattle.st_base.specs.declared.ids.Life.{Life}
-use Rattle.st_base.specs.declared.ids.Epoch.{Epoch}
 use Rattle.st_base.specs.declared.mode.Mode.TheVariants as modes
-use Rattle.st_rules.specs.Locks.{Locks, grant, is_row_of, no_locks, row_of, without_row}
+use Rattle.st_rules.specs.Locks.{Locks, grant, no_locks, row_of, without_row}
 use Rattle.st_rules.specs.World.{numbered, with_numbered}
 use Rattle.st_move.specs.declared.record.ContainerRecord.{ContainerRecord}
 use Rattle.st_move.specs.declared.record.MoveMessage.{MoveMessage}
 use Rattle.st_move.specs.declared.refusal.MoveRefusal.{MoveRefusal}
+use Rattle.st_move.specs.declared.site.MoveSite.{MoveSite}
+use Rattle.st_move.specs.declared.world.MoveAnswer.{MoveAnswer}
+use Rattle.st_move.specs.declared.world.MoveAnswer.TheVariants.{Done, Counted, Listed, Refused, NoServer, NoLock, NoMessage, LostMessage, Sends}
 use Rattle.st_move.specs.declared.world.MoveEvent.{MoveEvent}
 use Rattle.st_move.specs.declared.world.MoveEvent.TheVariants as events
 use Rattle.st_move.specs.declared.world.SentMove.{SentMove}
 use Rattle.st_move.specs.Calls.{count_at}
 use Rattle.st_move.specs.Containers.{Containers, after_order, after_put, after_take, after_tick, answer_to, fresh_containers, held, images, listed}
 
--- A server with its containers and its lock table.
-pub record MoveSite : Type 0 where
-  pub containers : Containers
-  pub locks : Locks
-
 -- The servers by their numbers from 1, and every message that was sent, by its number from 1.
 pub record MoveWorld : Type 0 where
   pub sites : List MoveSite
   pub sent : List SentMove
-
--- What is answered to an event.
-pub data MoveAnswer : Type 0 where
-  Done : MoveAnswer
-  Counted : (updates : ℕ) → MoveAnswer
-  Listed : (updates : List (List ℕ)) → MoveAnswer
-  Refused : (why : MoveRefusal) → MoveAnswer
-  NoServer : (s : ServerId) → MoveAnswer
-  NoLock : MoveAnswer
-  NoMessage : (k : ℕ) → MoveAnswer
-  LostMessage : (k : ℕ) → MoveAnswer
-  Sends : (k : ℕ) → (m : SentMove) → MoveAnswer
 
 -- The world after an event, and the answers.
 pub record MoveTurn : Type 0 where
@@ -102,13 +87,17 @@ list_at w s c (Some x) = list_told w (listed x.containers c)
 abbrev pub one : ClientId
 one = record { 0 = 1 }
 
+-- the life of client 1
+abbrev pub first : Life
+first = record { 0 = 1 }
+
 -- client 1 has a lock of the container
 abbrev pub has_lock : Locks → ℕ → Bool
 has_lock l c = is_some (row_of l one c)
 
 -- the lock table in which client 1 has a lock of the container
 unfoldable pub locked : Locks → ℕ → Locks
-locked l c = if has_lock l c then l else grant l one (record { 0 = 1 }) c modes.X
+locked l c = if has_lock l c then l else grant l one first c modes.X
 
 -- the lock is granted, or refused
 unfoldable pub lock_told : MoveWorld → ServerId → MoveSite → ℕ → Result ContainerRecord MoveRefusal → MoveTurn

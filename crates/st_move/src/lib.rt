@@ -3,8 +3,11 @@
 #![tactic(auto)]
 
 mod mover;
+mod network;
+mod parts;
 mod record;
 mod refusal;
+mod site;
 mod ticks;
 mod updates;
 mod world;
@@ -13,10 +16,12 @@ ghost use Rattle.st_move.specs.Conditions.{MovesGoOn};
 ghost use Rattle.st_move.specs.Law.{NoUpdateIsLost};
 
 pub use mover::Mover;
+pub use network::MoveNetwork;
 pub use record::{ContainerRecord, MoveMessage, Standing};
 pub use refusal::MoveRefusal;
+pub use site::MoveSite;
 pub use updates::{Update, Updates};
-pub use world::{MoveEvent, SentMove};
+pub use world::{MoveAnswer, MoveEvent, SentMove};
 
 /// Whatever is put, ordered, locked, delivered, lost or repeated: at most one server holds a container; what a list is answered
 /// is the list of accepted updates; a server with a lock row of a container holds it, and no other server does; and some server

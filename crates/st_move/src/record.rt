@@ -1,5 +1,5 @@
 // What a server has of a container, and what the calls do to it.
-ghost use Rattle.std.specs.Prelude.{◌≡◌, ◌<◌, ◌+◌, OnOk, OnErr, Ok, Some, true, ℕ, ◌^◌};
+ghost use Rattle.std.specs.Prelude.{◌≡◌, ◌<◌, ◌+◌, IfOk, OnOk, OnErr, Ok, Some, true, ℕ, ◌^◌};
 ghost use Rattle.st_move.specs.Calls as calls;
 ghost use Rattle.st_move.specs.Containers as containers;
 ghost use Rattle.st_move.specs.Updates.{added, is_update};
@@ -38,6 +38,20 @@ pub enum MoveMessage {
     Image(u32, u64, Updates),
     /// An image of this version came.
     Taken(u32, u64),
+}
+
+impl MoveMessage {
+    /// Returns a copy of the message.
+    pub(crate) fn copy(&self) -> Result<MoveMessage, AllocError>
+        ensures { IfOk result (λ m. m ≡ self.now) }
+    {
+        match self {
+            MoveMessage::Image(c, version, updates) => {
+                Ok(MoveMessage::Image(*c, *version, updates.copy()?))
+            }
+            MoveMessage::Taken(c, version) => Ok(MoveMessage::Taken(*c, *version)),
+        }
+    }
 }
 
 fn is_holding(standing: Standing) -> bool

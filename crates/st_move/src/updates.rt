@@ -7,11 +7,12 @@ ghost use Rattle.st_move.specs.Calls.{Adds};
 use crate::refusal::MoveRefusal;
 use std::alloc::{AllocError, Global};
 use std::marker::Model;
+use std::rc::Rc;
 
-/// An update of a container: 1 to 139 bytes. Contracts see it as the list of these bytes.
+/// An update of a container: 1 to 139 bytes, which its copies share. Contracts see it as the list of these bytes.
 #[derive(Drop)]
 pub struct Update {
-    bytes: Vec<u8>,
+    bytes: Rc<Vec<u8>>,
 }
 
 impl Model for Update {
@@ -20,9 +21,9 @@ impl Model for Update {
 
     ghost Value = { List ℕ };
 
-    ghost view = { λ u. u.bytes.items };
+    ghost view = { λ u. u.bytes.value.items };
 
-    ghost invariant = { λ u. is_update u.bytes.items ≡ true };
+    ghost invariant = { λ u. is_update u.bytes.value.items ≡ true };
 }
 
 impl Update {
@@ -31,8 +32,9 @@ impl Update {
         requires { updates.is_update bytes.now ≡ true }
         ensures { IfOk result (λ u. u ≡ bytes.now) }
     {
+        let bytes = Vec::from_slice(alloc, bytes)?;
         Ok(Update {
-            bytes: Vec::from_slice(alloc, bytes)?,
+            bytes: Rc::new(alloc, bytes)?,
         })
     }
 
@@ -44,7 +46,7 @@ impl Update {
         self.bytes.as_slice()
     }
 
-    /// Returns a copy of the update.
+    /// Returns a copy of the update. It copies no bytes and allocates nothing.
     pub fn copy(&self) -> Result<Update, AllocError>
         ensures { IfOk result (λ u. u ≡ self.now) }
     {

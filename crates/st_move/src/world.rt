@@ -1,6 +1,10 @@
+ghost use Rattle.std.specs.Prelude.{◌≡◌, IfOk};
+
 use crate::record::MoveMessage;
-use crate::updates::Update;
+use crate::refusal::MoveRefusal;
+use crate::updates::{Update, Updates};
 use st_base::ServerId;
+use std::alloc::AllocError;
 
 /// A message that was sent from one server to another. A lost message is never delivered again.
 #[derive(Drop)]
@@ -9,6 +13,20 @@ pub struct SentMove {
     pub to: ServerId,
     pub message: MoveMessage,
     pub lost: bool,
+}
+
+impl SentMove {
+    /// Returns a copy of the message.
+    pub(crate) fn copy(&self) -> Result<SentMove, AllocError>
+        ensures { IfOk result (λ m. m ≡ self.now) }
+    {
+        Ok(SentMove {
+            from: self.from,
+            to: self.to,
+            message: self.message.copy()?,
+            lost: self.lost,
+        })
+    }
 }
 
 /// What may happen to servers with containers. A server comes first, then a container.
@@ -30,4 +48,27 @@ pub enum MoveEvent {
     Deliver(u32),
     /// The message of this number is lost.
     Lose(u32),
+}
+
+/// What is answered to an event.
+#[derive(Drop)]
+pub enum MoveAnswer {
+    /// It was done.
+    Done,
+    /// The number of updates after a put.
+    Counted(u32),
+    /// The updates of a list.
+    Listed(Updates),
+    /// The server refused it.
+    Refused(MoveRefusal),
+    /// There is no server of this number.
+    NoServer(ServerId),
+    /// Client 1 has no lock to release.
+    NoLock,
+    /// No message of this number was sent.
+    NoMessage(u32),
+    /// The message of this number was lost.
+    LostMessage(u32),
+    /// A message was sent, under this number from 1.
+    Sends(u64, SentMove),
 }

@@ -1,4 +1,4 @@
-use Rattle.std.proofs.Common.{◌≡◌, ◌++◌, take, drop, length, true}
+use Rattle.std.proofs.Common.{◌≡◌, ◌++◌, take, drop, true}
 use Rattle.std.specs.List.{list_all}
 use Rattle.st_move.specs.Calls.{sent_by}
 use Rattle.st_move.specs.Containers.{has_next}

@@ -5,7 +5,7 @@ use Rattle.st_rules.specs.World.{numbered}
 use Rattle.st_move.specs.declared.refusal.MoveRefusal.TheVariants as refusals
 use Rattle.std.proofs.lemmas.Option.{slice_get-get_or}
 use Rattle.st_move.specs.Calls.{Answers}
-use Rattle.st_move.specs.Containers.{Containers, after_order, with_records}
+use Rattle.st_move.specs.Containers.{Containers, after_order}
 use Rattle.st_move.proofs.Lifts.{order_nowhere, order_answers}
 use Rattle.st_move.proofs.mover.Mover.order.Goals as goal
 

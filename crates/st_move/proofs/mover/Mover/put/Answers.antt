@@ -5,7 +5,7 @@ use Rattle.st_rules.specs.World.{numbered}
 use Rattle.st_move.specs.declared.refusal.MoveRefusal.TheVariants as refusals
 use Rattle.std.proofs.lemmas.Option.{slice_get-get_or}
 use Rattle.st_move.specs.Calls.{Counts, count_at}
-use Rattle.st_move.specs.Containers.{Containers, after_put, with_records}
+use Rattle.st_move.specs.Containers.{Containers, after_put}
 use Rattle.st_move.proofs.Lifts.{put_nowhere, put_counts}
 use Rattle.st_move.proofs.mover.Mover.put.Goals as goal
 

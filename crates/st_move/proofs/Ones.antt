@@ -1,0 +1,167 @@
+-- Client 1 may always lock: each row is an exclusive lock of its own, of a container that is there, and nobody waits.
+use Rattle.std.proofs.Common.{◌≡◌, ℕ, ◌+◌, ◌≤◌, ◌<◌, ◌^◌, ◌⊎◌, Bool, true, false, List, [], ◌∷◌, ◌++◌, length, map, filter, Option, Some, None, refl, sym, ap, ◌∙◌, subst, inl, inr, arith, lt-ltb}
+use Rattle.std.specs.Prelude.{if◌then◌else◌, ◌&&◌, ◌||◌, ◌==◌, not, is_some, Ok}
+use Rattle.std.specs.List.{list_any}
+use Rattle.st_base.specs.declared.ids.Epoch.{Epoch}
+use Rattle.st_base.specs.declared.mode.Mode.TheVariants as modes
+use Rattle.st_base.specs.Mode.{conflicts, covers}
+use Rattle.st_rules.specs.declared.locks.LockRow.{LockRow}
+use Rattle.st_rules.specs.declared.locks.Verdict.{Verdict}
+use Rattle.st_rules.specs.declared.locks.Verdict.TheVariants.{Granted}
+use Rattle.st_rules.specs.Keys.{put, rising, same_client}
+use Rattle.st_rules.specs.Locks.{Locks, acquire, acquire_at, acquire_granted, acquire_held, acquire_more, acquire_new, acquire_over, files_of, grant, has_place, ino_of_row, ino_of_wait, is_row_by, is_row_of, is_wait_by, may_grant, new_row, next_grant, no_locks, row_of, stands_against, wait_of, waits_besides, without_wait}
+use Rattle.st_lemmas.specs.Lists.{Has, Rises}
+use Rattle.st_lemmas.proofs.Keys.{rising_has, rising_rises}
+use Rattle.st_lemmas.proofs.Lookups.{if_true, or_right}
+use Rattle.st_lemmas.proofs.Tables.{found_at, has_filter, has_map}
+use Rattle.st_locks.specs.Calls.{acquired}
+use Rattle.st_move.specs.Conditions.{CanLock}
+use Rattle.st_move.specs.World.{first, has_lock, locked, one, unlocked}
+
+-- an exclusive lock of client 1
+pub record IsOnes (containers : ℕ) (r : LockRow) : Type 0 where
+  pub client : r.client ≡ one
+  pub life : r.life ≡ first
+  pub mode : r.mode ≡ modes.X
+  pub some : 1 ≤ r.ino
+  pub known : r.ino ≤ containers
+
+-- all rows are such, and nobody waits
+pub record AreOnes (containers n : ℕ) (l : Locks) : Type 0 where
+  pub grants : l.grants ≤ n
+  pub rows : (r : LockRow) → Has r l.rows → IsOnes containers r
+  pub waiters : l.waiters ≡ []
+
+pub ones_later : (containers n : ℕ) (l : Locks) → AreOnes containers n l → AreOnes containers (n + 1) l
+ones_later containers n l a = let g : l.grants ≤ n = a.grants in record { grants = omega arith; rows = a.rows; waiters = a.waiters }
+
+pub ones_fresh : (containers : ℕ) (epoch : Epoch) → AreOnes containers 0 (no_locks epoch)
+ones_fresh containers epoch = record { grants = omega arith; rows = λ r i. absurd i; waiters = refl }
+
+-- members of a list in which one was put
+put_has : {A : Type 0} (p : A → Bool) (x : A) (xs : List A) (v : A) → Has v (put p x xs) → (v ≡ x) ⊎ Has v xs
+unfolding put
+put_has p x [] v (inl e) = inl e
+put_has p x [] v (inr h) = absurd h
+put_has {A} p x (y ∷ ys) v h = go (p y) h (put_has p x ys v)
+  where
+    go : (b : Bool) → Has v (if b then x ∷ ys else y ∷ put p x ys) → (Has v (put p x ys) → (v ≡ x) ⊎ Has v ys) → (v ≡ x) ⊎ Has v (y ∷ ys)
+    go true (inl e) f = inl e
+    go true (inr i) f = inr (inr i)
+    go false (inl e) f = inr (inl e)
+    go false (inr i) f = later (f i)
+      where
+        later : (v ≡ x) ⊎ Has v ys → (v ≡ x) ⊎ Has v (y ∷ ys)
+        later (inl e) = inl e
+        later (inr j) = inr (inr j)
+
+-- a lock that is granted
+pub ones_locked : (containers n : ℕ) (l : Locks) (c : ℕ) → 1 ≤ c → c ≤ containers → AreOnes containers n l → AreOnes containers (n + 1) (locked l c)
+unfolding locked grant
+ones_locked containers n l c some known a = go (has_lock l c)
+  where
+    row : LockRow
+    row = new_row l one first c modes.X
+
+    rows : (r : LockRow) → (r ≡ row) ⊎ Has r l.rows → IsOnes containers r
+    rows r (inl e) = subst (IsOnes containers) (sym e) (record { client = refl; life = refl; mode = refl; some = some; known = known })
+    rows r (inr i) = a.rows r i
+
+    go : (b : Bool) → AreOnes containers (n + 1) (if b then l else grant l one first c modes.X)
+    go true = ones_later containers n l a
+    go false =
+        let g : l.grants ≤ n = a.grants in
+        record {
+          grants = omega arith;
+          rows = λ r i. rows r (put_has (is_row_of one c) row l.rows r i);
+          waiters = ap (without_wait one c) a.waiters;
+        }
+
+-- a lock that is released
+pub ones_unlocked : (containers n : ℕ) (l : Locks) (c : ℕ) → AreOnes containers n l → AreOnes containers (n + 1) (unlocked l c)
+unfolding unlocked
+ones_unlocked containers n l c a =
+    let g : l.grants ≤ n = a.grants in
+    record {
+      grants = omega arith;
+      rows = λ r i. a.rows r (has_filter (λ q. not (is_row_of one c q)) l.rows r i).0;
+      waiters = a.waiters;
+    }
+
+-- rising numbers from 1 to a bound are no more than the bound
+few_between : (n m : ℕ) (xs : List ℕ) → n ≤ m → ((x : ℕ) → Has x xs → n < x) → ((x : ℕ) → Has x xs → x ≤ m) → Rises xs → length xs + n ≤ m
+few_between n m [] l f g r = omega (arith, l)
+few_between n m (x ∷ xs) l f g r =
+    let a = few_between x m xs (g x (inl refl)) r.first (λ y i. g y (inr i)) r.rest in let b = f x (inl refl) in omega (arith, a, b)
+
+few_files : (containers n : ℕ) (l : Locks) → AreOnes containers n l → length (files_of l one) ≤ containers
+few_files containers n l a =
+    let e : files_of l one ≡ rising (map ino_of_row (filter (is_row_by one) l.rows)) = waits ∙ ap rising (none (map ino_of_row (filter (is_row_by one) l.rows))) in
+    let f : length (rising (map ino_of_row (filter (is_row_by one) l.rows))) + 0 ≤ containers =
+    few_between 0 containers (rising (map ino_of_row (filter (is_row_by one) l.rows))) (omega arith) (λ x i. (at x i).0) (λ x i. (at x i).1)
+    (rising_rises (map ino_of_row (filter (is_row_by one) l.rows))) in
+    subst (λ xs. length xs ≤ containers) (sym e) (omega arith)
+  where
+    none : (xs : List ℕ) → xs ++ [] ≡ xs
+    none [] = refl
+    none (x ∷ xs) = ap (λ ys. x ∷ ys) (none xs)
+
+    waits : files_of l one ≡ rising (map ino_of_row (filter (is_row_by one) l.rows) ++ [])
+    waits = ap (λ ws. rising (map ino_of_row (filter (is_row_by one) l.rows) ++ map ino_of_wait (filter (is_wait_by one) ws))) a.waiters
+
+    at : (x : ℕ) → Has x (rising (map ino_of_row (filter (is_row_by one) l.rows))) → (0 < x) × (x ≤ containers)
+    at x i =
+        let h : (r : LockRow) × Has r (filter (is_row_by one) l.rows) × (x ≡ ino_of_row r) = has_map ino_of_row (filter (is_row_by one) l.rows) x (rising_has _ x i) in
+        let o : IsOnes containers h.0 = a.rows h.0 (has_filter (is_row_by one) l.rows h.0 h.1).0 in
+        let p : 1 ≤ h.0.ino = o.some in
+        let q : h.0.ino ≤ containers = o.known in
+        let e : x ≡ h.0.ino = h.2 in
+        (omega arith, omega arith)
+
+-- no row of client 1 stands against it
+none_against : (c : ℕ) (rows : List LockRow) → ((r : LockRow) → Has r rows → r.client ≡ one) → list_any (stands_against one c modes.X) rows ≡ false
+none_against c [] f = refl
+none_against c (r ∷ rows) f = ap (λ b. b || list_any (stands_against one c modes.X) rows) (alone (r.ino == c)) ∙ none_against c rows (λ q i. f q (inr i))
+  where
+    alone : (b : Bool) → (b && (not (same_client r.client one) && conflicts r.mode modes.X)) ≡ false
+    alone true = ap (λ z. not (same_client z one) && conflicts r.mode modes.X) (f r (inl refl))
+    alone false = refl
+
+-- one more lock is granted wherever it is asked for
+module _ (containers n : ℕ) (l : Locks) (few : containers < 1024) (a : AreOnes containers n l) where
+  place : (c : ℕ) → has_place l one c ≡ true
+  place c = let f : length (files_of l one) ≤ containers = few_files containers n l a in or_right (is_some (wait_of l one c)) _ (lt-ltb (length (files_of l one)) 1024 (omega arith))
+
+  grants : (c : ℕ) → may_grant l one c modes.X true ≡ true
+  grants c =
+      ap (λ ws. not (list_any (waits_besides one c) ws) && not (list_any (stands_against one c modes.X) l.rows)) a.waiters
+      ∙ ap not (none_against c l.rows (λ r i. (a.rows r i).client))
+
+  acquires_new : (c : ℕ) → row_of l one c ≡ None → acquire l one first c modes.X true ≡ Ok (acquired (grant l one first c modes.X) (Granted (next_grant l) modes.X))
+  unfolding acquire acquire_at acquire_new acquire_more acquire_granted
+  acquires_new c e =
+      ap (acquire_at l one first c modes.X true) e
+      ∙ if_true (has_place l one c) _ _ (place c)
+      ∙ ap Ok (if_true (may_grant l one c modes.X true) _ _ (grants c))
+
+  acquires_held : (c : ℕ) (r : LockRow) → row_of l one c ≡ Some r → acquire l one first c modes.X true ≡ Ok (acquired l (Granted r.g r.mode))
+  unfolding acquire acquire_at acquire_over acquire_held
+  acquires_held c r e =
+      ap (acquire_at l one first c modes.X true) e
+      ∙ ap Ok (if_true (covers r.mode modes.X) _ _ (ap (λ m. covers m modes.X) (a.rows r (found_at (is_row_of one c) l.rows r e).1).mode))
+
+  acquires : (c : ℕ) → (v : Verdict) × (acquire l one first c modes.X true ≡ Ok (acquired (locked l c) v))
+  unfolding locked
+  acquires c = go (row_of l one c) refl
+    where
+      go : (o : Option LockRow) → row_of l one c ≡ o → (v : Verdict) × (acquire l one first c modes.X true ≡ Ok (acquired (if is_some o then l else grant l one first c modes.X) v))
+      go None e = (Granted (next_grant l) modes.X, acquires_new c e)
+      go (Some r) e = (Granted r.g r.mode, acquires_held c r e)
+
+  pub ones_can : n + 1 < 2 ^ 32 → CanLock l
+  unfolding locked
+  ones_can k = let g : l.grants ≤ n = a.grants in record {
+    room = omega arith;
+    acquires = acquires;
+    releases = λ c r e. (a.rows r (found_at (is_row_of one c) l.rows r e).1).life;
+  }
