@@ -54,7 +54,8 @@ pub record CanHappen (w : MoveWorld) : Type 0 where
   pub ticks : (s : ℕ) (x : MoveSite) → numbered w.sites s ≡ Some x → list_all has_next x.containers.records ≡ true
   pub locks : (s : ℕ) (x : MoveSite) → numbered w.sites s ≡ Some x → CanLock x.locks
   pub some : (k : ℕ) (m : SentMove) → numbered w.sent k ≡ Some m → 1 ≤ container_of m.message
-  pub known : (k : ℕ) (m : SentMove) → numbered w.sent k ≡ Some m → (s : ℕ) (x : MoveSite) → numbered w.sites s ≡ Some x → container_of m.message ≤ length x.containers.records
+  pub known : (k : ℕ) (m : SentMove) → numbered w.sent k ≡ Some m
+      → (s : ℕ) (x : MoveSite) → numbered w.sites s ≡ Some x → container_of m.message ≤ length x.containers.records
 
 -- A world, and how many events led to it.
 pub record MoveRun : Type 0 where
@@ -77,4 +78,7 @@ pub record IsReached (r : MoveRun) : Type 0 where
 
 -- no update is lost in a run that leads here
 abbrev pub AreKept : MoveRun → Type 0
-AreKept r = (servers containers : ℕ) (es : List MoveEvent) → IsRun servers containers es r → OneHolder containers (run_moves (fresh_history servers containers) es)
+AreKept r =
+    (servers containers : ℕ) (es : List MoveEvent)
+    → IsRun servers containers es r
+    → OneHolder containers (run_moves (fresh_history servers containers) es)

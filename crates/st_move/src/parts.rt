@@ -183,7 +183,8 @@ impl MoveParts {
     /// The order comes to a server that is there, for one that may be there or not.
     fn order_at(&mut self, at: usize, c: u32, to: ServerId) -> Result<MoveAnswer, AllocError>
         requires { at < length self.old.sites }
-        ensures { IfOk result (λ a. (s : ServerId) (x : MoveSite) → s.0 ≡ at + 1 → slice_get self.old.sites at ≡ Some x → worlds.order_for self.old s x c to (numbered self.old.sites to.0) ≡ worlds.told self.new a) }
+        ensures { IfOk result (λ a. (s : ServerId) (x : MoveSite) → s.0 ≡ at + 1 → slice_get self.old.sites at ≡ Some x →
+            worlds.order_for self.old s x c to (numbered self.old.sites to.0) ≡ worlds.told self.new a) }
     {
         match self.site_at(to) {
             None => Ok(MoveAnswer::NoServer(to)),
@@ -236,7 +237,8 @@ impl MoveParts {
     /// A message that is not lost is delivered.
     fn take(&mut self, message: &SentMove) -> Result<Vec<MoveAnswer>, AllocError>
         requires some { 1 ≤ containers.container_of message.now.message }
-        requires known { (s : ℕ) (x : MoveSite) → numbered self.old.sites s ≡ Some x → containers.container_of message.now.message ≤ length x.containers.records }
+        requires known { (s : ℕ) (x : MoveSite) → numbered self.old.sites s ≡ Some x →
+            containers.container_of message.now.message ≤ length x.containers.records }
         ensures { IfOk result (λ v. worlds.taken_by self.old message.now (numbered self.old.sites message.now.to.0) ≡ turned self.new v.items) }
     {
         match self.site_at(message.to) {
@@ -249,7 +251,8 @@ impl MoveParts {
     #[tactic(auto, unfolding(crate::specs::World::deliver_at))]
     fn deliver_message(&mut self, k: u32, message: &SentMove) -> Result<Vec<MoveAnswer>, AllocError>
         requires some { 1 ≤ containers.container_of message.now.message }
-        requires known { (s : ℕ) (x : MoveSite) → numbered self.old.sites s ≡ Some x → containers.container_of message.now.message ≤ length x.containers.records }
+        requires known { (s : ℕ) (x : MoveSite) → numbered self.old.sites s ≡ Some x →
+            containers.container_of message.now.message ≤ length x.containers.records }
         ensures { IfOk result (λ v. worlds.deliver_at self.old k (Some message.now) ≡ turned self.new v.items) }
     {
         if message.lost {
