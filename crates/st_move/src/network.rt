@@ -49,8 +49,8 @@ impl MoveNetwork {
     /// One event happens. The result is what is answered to it, in order. Where memory runs out nothing is known of the network, and
     /// every later event runs out of memory too: discard it.
     ///
-    /// A put takes the time of a copy of its update. A list, an order and a delivery take constant time; a lock and an unlock that
-    /// of the lock table; a tick looks at every container.
+    /// A put takes the time of a copy of its update, and an order constant time. A list and a delivered image take the time of a
+    /// look at each update; a lock and an unlock that of the lock table; a tick looks at every container, and at the updates that it sends.
     pub fn happens(&mut self, event: &MoveEvent) -> Result<Vec<MoveAnswer>, AllocError>
         requires { self.old.events < 2 ^ 31 }
         ensures exact { IfOk result (λ v. worlds.happens self.old.world event.now ≡ turned self.new.world v.items) }

@@ -3,9 +3,25 @@ use Rattle.std.specs.Prelude.{List, [], ⊤}
 use Rattle.st_messages.specs.declared.event.Event.{Event}
 use Rattle.st_rules.specs.History.{traced}
 use Rattle.st_rules.specs.Safety.{
-  Step, Throughout, steps, DirtyPagesStandAlone, ReadsReturnLastWrites, DropsHaveACause, HardStaysHard, HardIsHard,
-  TheftsComeLate, LeasesAreDatedFromRequests, GraceWaits, NoConflictIsSent, TheReportTellsTheLog, AnswersAreLogged, AsksAreAnsweredOnce,
-  ChangesAreLocked, ChangesGoInTheOrderOfLocks, ExpiredLeasesEmptyClients, TheHistoryIsTheWorlds
+  Step,
+  Throughout,
+  steps,
+  DirtyPagesStandAlone,
+  ReadsReturnLastWrites,
+  DropsHaveACause,
+  HardStaysHard,
+  HardIsHard,
+  TheftsComeLate,
+  LeasesAreDatedFromRequests,
+  GraceWaits,
+  NoConflictIsSent,
+  TheReportTellsTheLog,
+  AnswersAreLogged,
+  AsksAreAnsweredOnce,
+  ChangesAreLocked,
+  ChangesGoInTheOrderOfLocks,
+  ExpiredLeasesEmptyClients,
+  TheHistoryIsTheWorlds,
 }
 use Rattle.st_rules.specs.World.{World}
 use Rattle.st_promises.specs.Faults.{FaultsHaveACause}
