@@ -1,4 +1,5 @@
 pub mod Words
+pub mod LineFronts
 pub mod LineEnds
 pub mod Increments
 pub mod Numbers

@@ -5,8 +5,8 @@ ghost use Rattle.st_schedule.specs.Reading.{Gives};
 ghost use Rattle.st_schedule.specs.Reading as reading;
 
 use crate::ask_line::app_at;
-use crate::fault::{Fault, ReadError};
-use crate::next_word::{ends, node_at, number_at, result_at};
+use crate::fault::ReadError;
+use crate::next_word::{ends, node_at, number_at, result_at, unknown_word};
 use crate::verb::{Verb, verb_of};
 use crate::word_values::{MOST_NUMBER, is, split_word};
 use st_base::NodeId;
@@ -182,13 +182,13 @@ fn event_at(
 }
 
 /// The verb that the first word of a line is.
-#[tactic(auto, using(crate::proofs::Words::left_split), unfolding(crate::specs::Reading::verb_in))]
+#[tactic(auto, unfolding(crate::specs::Reading::verb_in))]
 fn verb_in(word: &[u8], line: &[u8]) -> Result<Verb, ReadError>
     ensures { Gives (λ x. x) result (reading.verb_in word.now (split line.now)) }
 {
     match verb_of(word) {
         Some(verb) => Ok(verb),
-        None => Err(ReadError::Fault(Fault::Syntax(line.len()))),
+        None => Err(unknown_word(line)),
     }
 }
 

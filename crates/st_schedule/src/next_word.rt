@@ -1,5 +1,5 @@
 ghost use Rattle.std.specs.Prelude.{◌≡◌, ◌≤◌, IfOk};
-ghost use Rattle.st_schedule.specs.Words.{words_behind};
+ghost use Rattle.st_schedule.specs.Words.{split, words_behind};
 ghost use Rattle.st_schedule.specs.Words as words;
 ghost use Rattle.st_schedule.specs.Reading.{Gives};
 ghost use Rattle.st_schedule.specs.Reading as reading;
@@ -30,14 +30,23 @@ pub(crate) fn syntax(rest: &[u8]) -> ReadError
     ReadError::Fault(Fault::Syntax(left(rest)))
 }
 
+/// The fault of a line whose first word is none of those that may stand there.
+#[tactic(auto, using(crate::proofs::Words::left_split))]
+pub fn unknown_word(line: &[u8]) -> ReadError
+    ensures { result ≡ ReadError.Fault (Fault.Syntax (words.left (split line.now))) }
+{
+    ReadError::Fault(Fault::Syntax(line.len()))
+}
+
 fn number_fault(rest: &[u8]) -> ReadError
     ensures { result ≡ ReadError.Fault (Fault.Number (words.left (words_behind rest.now))) }
 {
     ReadError::Fault(Fault::Number(left(rest)))
 }
 
-/// The next word, and what follows it.
-fn word_at(rest: &[u8]) -> Result<(&[u8], &[u8]), ReadError>
+/// The next word of a line, and what follows it. `rest` is what follows a word: nothing, or a space and more. A line without
+/// another word is `Syntax`.
+pub fn word_at(rest: &[u8]) -> Result<(&[u8], &[u8]), ReadError>
     ensures { Gives (λ x. (x.0.now, words_behind x.1.now)) result (reading.word_at (words_behind rest.now)) }
 {
     match rest {
@@ -46,8 +55,10 @@ fn word_at(rest: &[u8]) -> Result<(&[u8], &[u8]), ReadError>
     }
 }
 
+/// The next word of a line as a number from `least` to `most`, and what follows it. A word of digits with a leading zero, or out
+/// of range, is `Number`; another word, or none, is `Syntax`.
 #[tactic(auto, unfolding(crate::specs::Reading::number_at))]
-pub(crate) fn number_at(least: u64, most: u64, rest: &[u8]) -> Result<(u64, &[u8]), ReadError>
+pub fn number_at(least: u64, most: u64, rest: &[u8]) -> Result<(u64, &[u8]), ReadError>
     ensures value { Gives (λ x. (x.0, words_behind x.1.now)) result (reading.number_at least most (words_behind rest.now)) }
     ensures range { IfOk result (λ x. (least ≤ x.0) × (x.0 ≤ most)) }
 {
@@ -94,8 +105,9 @@ pub(crate) fn file_at(rest: &[u8]) -> Result<(FileId, &[u8]), ReadError>
     }
 }
 
+/// The next word of a line as a name, of 1 to 100 visible bytes, and what follows it. Another word, or none, is `Syntax`.
 #[tactic(auto, unfolding(crate::specs::Reading::name_at))]
-pub(crate) fn name_at(alloc: Global, rest: &[u8]) -> Result<(Name, &[u8]), ReadError>
+pub fn name_at(alloc: Global, rest: &[u8]) -> Result<(Name, &[u8]), ReadError>
     ensures { Gives (λ x. (x.0, words_behind x.1.now)) result (reading.name_at (words_behind rest.now)) }
 {
     let (word, after) = word_at(rest)?;
@@ -125,8 +137,9 @@ pub(crate) fn after_at(alloc: Global, rest: &[u8]) -> Result<(Name, &[u8]), Read
     Ok((name, after))
 }
 
+/// The next word of a line as a result, `ok` or `fail`, and what follows it. Another word, or none, is `Syntax`.
 #[tactic(auto, unfolding(crate::specs::Reading::result_at))]
-pub(crate) fn result_at(rest: &[u8]) -> Result<(bool, &[u8]), ReadError>
+pub fn result_at(rest: &[u8]) -> Result<(bool, &[u8]), ReadError>
     ensures { Gives (λ x. (x.0, words_behind x.1.now)) result (reading.result_at (words_behind rest.now)) }
 {
     let (word, after) = word_at(rest)?;
@@ -168,9 +181,9 @@ pub(crate) fn place_at(rest: &[u8]) -> Result<((FileId, PageNo), &[u8]), ReadErr
     Ok(((file, PageNo(page as u32)), rest))
 }
 
-/// The end of the line, or the fault of a superfluous word.
+/// The end of a line. A further word is `Syntax`.
 #[tactic(auto, using(crate::proofs::LineEnds::too_much), unfolding(crate::specs::Reading::ends))]
-pub(crate) fn ends(rest: &[u8]) -> Result<(), ReadError>
+pub fn ends(rest: &[u8]) -> Result<(), ReadError>
     ensures { Gives (λ x. x) result (reading.ends (words_behind rest.now)) }
 {
     if rest.is_empty() {

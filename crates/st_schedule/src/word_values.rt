@@ -17,14 +17,15 @@ const MOST_SERVER: u64 = 65_535;
 /// The greatest value of most numbers in a line.
 pub(crate) const MOST_NUMBER: u64 = 4_294_967_295;
 
-pub(crate) fn is_long(line: &[u8]) -> bool
+/// Whether a line has more than 256 bytes.
+pub fn is_long(line: &[u8]) -> bool
     ensures { result ≡ words.is_long line.now }
 {
     LONGEST_LINE < line.len()
 }
 
-/// The first word, and what follows it: nothing, or a space and more.
-pub(crate) fn split_word(bytes: &[u8]) -> (&[u8], &[u8])
+/// The first word of a line, and what follows it: nothing, or a space and more.
+pub fn split_word(bytes: &[u8]) -> (&[u8], &[u8])
     ensures { words.split bytes.now ≡ result.0.now ∷ words.words_behind result.1.now }
 {
     let mut at = 0;
