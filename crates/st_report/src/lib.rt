@@ -16,4 +16,5 @@ mod words;
 pub use last::put_ended;
 pub use observations::{put_lines, put_opening};
 pub use refusals::{put_refusal, put_refused};
-pub use words::{put_field, put_text};
+pub use runs::put_page;
+pub use words::{put_field, put_number, put_text};

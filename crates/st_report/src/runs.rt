@@ -56,7 +56,7 @@ fn put_filled(out: &mut Vec<u8>, byte: u8) -> Result<(), AllocError>
 }
 
 /// Appends the runs of equal bytes in a page. It counts no bytes of a page of one byte repeated.
-pub(crate) fn put_page(out: &mut Vec<u8>, bytes: &PageBytes) -> Result<(), AllocError>
+pub fn put_page(out: &mut Vec<u8>, bytes: &PageBytes) -> Result<(), AllocError>
     ensures { OnOk result (out.new.items ≡ out.old.items ++ text.runs bytes.now) }
 {
     match bytes.repeated() {
