@@ -1,15 +1,19 @@
 -- Steps made by hand, each of which breaks one promise and keeps the others.
-use Rattle.std.specs.Prelude.{ℕ, ◌==◌, Bool, true, false, List, [], ◌∷◌, ◌++◌, map, Option, Some, None, ⊤}
+use Rattle.std.specs.Prelude.{ℕ, ◌+◌, ◌==◌, Bool, true, false, List, [], ◌∷◌, ◌++◌, map, Option, Some, None, ⊤}
 use Rattle.std.specs.List.{list_any}
 use Rattle.st_base.specs.Page.{filled}
+use Rattle.st_base.specs.declared.disk.Command.TheVariants as commands
 use Rattle.st_base.specs.declared.mode.Mode.TheVariants as modes
 use Rattle.st_messages.specs.declared.answer.AppAnswer.TheVariants as answers
 use Rattle.st_messages.specs.declared.ask.Ask.TheVariants as asks
 use Rattle.st_messages.specs.declared.event.Event.{Event}
 use Rattle.st_messages.specs.declared.event.Event.TheVariants as events
 use Rattle.st_messages.specs.declared.message.Body.TheVariants as bodies
+use Rattle.st_messages.specs.declared.message.Message.{Message}
 use Rattle.st_messages.specs.declared.message.Why.TheVariants as why
 use Rattle.st_rules.specs.declared.client.HeldLock.{HeldLock}
+use Rattle.st_rules.specs.declared.disks.DiskCommand.{DiskCommand}
+use Rattle.st_rules.specs.declared.disks.Report.TheVariants as reports
 use Rattle.st_rules.specs.declared.locks.LockRow.{LockRow}
 use Rattle.st_rules.specs.declared.log.Cause.TheVariants as causes
 use Rattle.st_rules.specs.declared.log.Fate.{Fate}
@@ -18,11 +22,13 @@ use Rattle.st_rules.specs.declared.log.LogEntry.{LogEntry}
 use Rattle.st_rules.specs.declared.observation.Observation.{Observation}
 use Rattle.st_rules.specs.declared.observation.Observation.TheVariants as seen
 use Rattle.st_rules.specs.declared.authority.Suspect.{Suspect}
+use Rattle.st_rules.specs.declared.world.IssuedCommand.{IssuedCommand}
 use Rattle.st_rules.specs.declared.world.LeaseLife.{LeaseLife}
 use Rattle.st_rules.specs.Grace.{Grace}
 use Rattle.st_rules.specs.ClientState.{ClientState, ClientSession, Association}
 use Rattle.st_rules.specs.FlatLog.{accept, cut as cut_log}
 use Rattle.st_rules.specs.Client.{emptied}
+use Rattle.st_rules.specs.Events.{counted}
 use Rattle.st_rules.specs.Server.{ServerNode}
 use Rattle.st_rules.specs.World.{World, ClientSite}
 use Rattle.st_rules.specs.History.{Traced, History, TimerStart, LeaseDate, led_to, trace, traced, with_grant}
@@ -46,9 +52,14 @@ use Rattle.st_rules.specs.Safety.{
   ExpiredLeasesEmptyClients,
   TheHistoryIsTheWorlds,
 }
-use Rattle.st_rows.specs.Words.{c, life, epoch, page, stamp, g}
-use Rattle.st_rows.specs.ClientWords.{on, server}
-use Rattle.st_rows.specs.WorldWords.{ask, client_node, world_of, answered, cut, dropped, failed, read_out, sent, stolen, wrote, world_words_open}
+use Rattle.st_promises.specs.Faults.{FaultsHaveACause}
+use Rattle.st_promises.specs.Held.{DisksHoldWhatIsHard}
+use Rattle.st_promises.specs.Losses.{LossesAreTold}
+use Rattle.st_promises.specs.Numbers.{LinesGiveTheNextNumbers}
+use Rattle.st_rows.specs.Words.{at, c, life, epoch, page, stamp, g}
+use Rattle.st_rows.specs.ClientWords.{lost_row, on, server}
+use Rattle.st_rows.specs.WorldWords.{ask, client_node, world_of, answered, cut, dropped, failed, read_out, sent, stolen, wrote}
+use Rattle.st_rows.specs.SafeWords.{safe_words_open}
 
 -- The promises but for some, by their numbers.
 abbrev pub unless_so : Bool → Type 0 → Type 0
@@ -61,7 +72,7 @@ is_same m n = n == m
 abbrev pub unless : List ℕ → ℕ → Type 0 → Type 0
 unless ns m fact = unless_so (list_any (is_same m) ns) fact
 
--- every promise is kept but for those of these numbers
+-- every promise is kept but for those of these numbers; the counts are said by numbers
 pub record IsKeptBut (ns : List ℕ) (past : List Step) (x : Step) : Type 0 where
   pub alone : unless ns 1 (DirtyPagesStandAlone past x)
   pub reads : unless ns 2 (ReadsReturnLastWrites past x)
@@ -79,6 +90,10 @@ pub record IsKeptBut (ns : List ℕ) (past : List Step) (x : Step) : Type 0 wher
   pub order : unless ns 14 (ChangesGoInTheOrderOfLocks past x)
   pub emptied : unless ns 15 (ExpiredLeasesEmptyClients past x)
   pub history : unless ns 16 (TheHistoryIsTheWorlds past x)
+  pub losses : unless ns 17 (LossesAreTold past x)
+  pub held : unless ns 18 (DisksHoldWhatIsHard past x)
+  pub faults : unless ns 19 (FaultsHaveACause past x)
+  pub numbers : unless ns 20 (LinesGiveTheNextNumbers past x)
 
 -- A run in which a client writes a page, its lease is dated from a request that was sent at 400 and answered at 450, and an
 -- ask follows.
@@ -127,9 +142,32 @@ past_met = steps met (traced (world_of 2 1 1 8))
 unfoldable pub here_met : Traced
 here_met = led_to (trace met (traced (world_of 2 1 1 8)))
 
--- A step in which nothing happens, and changes of it.
+-- The same run, after which the client's write out failed, and it lost its lease with the page dirty.
+unfoldable pub lost_run : List Event
+lost_run =
+    (ask 1 (asks.Write (on 1 2) (page 0) (filled 77)))
+    ∷ (events.Deliver 1)
+    ∷ (events.Deliver 2)
+    ∷ (events.Deliver 3)
+    ∷ (events.Deliver 4)
+    ∷ (events.Deliver 5)
+    ∷ (events.Deliver 6)
+    ∷ (events.Advance (850 ∷ 850 ∷ 850 ∷ []))
+    ∷ (events.Tick (client_node 1))
+    ∷ (events.Report 1 false)
+    ∷ (events.Advance (150 ∷ 150 ∷ 150 ∷ []))
+    ∷ (events.Tick (client_node 1))
+    ∷ []
+
+unfoldable pub past_lost : List Step
+past_lost = steps lost_run (traced (world_of 2 1 1 8))
+
+unfoldable pub here_lost : Traced
+here_lost = led_to (trace lost_run (traced (world_of 2 1 1 8)))
+
+-- A step in which nothing happens but that the event is counted, and changes of it.
 abbrev pub still : Traced → Step
-still t = record { before = t; event = events.Tick (client_node 2); seen = []; after = t }
+still t = record { before = t; event = events.Tick (client_node 2); seen = []; after = record t { world = counted t.world } }
 
 -- with these observations
 abbrev pub seeing : List Observation → Step → Step
@@ -146,6 +184,27 @@ coming change x = record x { before = record x.before { world = change x.before.
 -- it leaves another history
 abbrev pub recalling : (History → History) → Step → Step
 recalling change x = record x { after = record x.after { history = change x.after.history } }
+
+-- it counts a read, or a theft
+abbrev pub one_read : World → World
+one_read w = record w { tally = record w.tally { reads = w.tally.reads + 1 } }
+
+abbrev pub one_theft : World → World
+one_theft w = record w { tally = record w.tally { stolen = w.tally.stolen + 1 } }
+
+-- a message is on its way
+abbrev pub with_message : Message → World → World
+with_message m w = record w { net = record w.net { messages = w.net.messages ++ record { message = m; lost = false } ∷ [] } }
+
+-- a client has a read under way
+abbrev pub reading_command : DiskCommand
+reading_command = record { what = commands.Read (at 1 0); effected = false; report = reports.Open; sample = None }
+
+abbrev pub issued_read : IssuedCommand
+issued_read = record { client = c 1; number = 1; starts = 0; server = server 1; life = life 1; carries = None }
+
+abbrev pub with_command : World → World
+with_command w = record w { disks = record w.disks { commands = w.disks.commands ++ reading_command ∷ [] }; commands = w.commands ++ issued_read ∷ [] }
 
 -- another client has a row of the file
 abbrev pub other_row : LockRow
@@ -281,7 +340,7 @@ ticking x = record x { event = events.Tick (client_node 1) }
 
 -- the steps that break a promise each
 unfoldable pub stale_read : Step
-stale_read = by_event reading (seeing (answered 1 3 (answers.Read (filled 0)) ∷ []) (still (here reading)))
+stale_read = by_event reading (seeing (answered 1 3 (answers.Read (filled 0)) ∷ []) (leaving one_read (still (here reading))))
 
 unfoldable pub beside_a_lock : Step
 beside_a_lock = leaving with_other_row (still (here reading))
@@ -305,10 +364,10 @@ unfoldable pub hard_too_early : Step
 hard_too_early = seeing (answered 1 2 answers.Hard ∷ []) (still (here syncing))
 
 unfoldable pub stolen_early : Step
-stolen_early = seeing (stolen 1 1 1 ∷ []) (still (here reading))
+stolen_early = seeing (stolen 1 1 1 ∷ []) (leaving one_theft (still (here reading)))
 
 unfoldable pub stolen_as_another_life : Step
-stolen_as_another_life = seeing (stolen 1 1 7 ∷ []) (coming with_leaseless (still (here reading)))
+stolen_as_another_life = seeing (stolen 1 1 7 ∷ []) (coming with_leaseless (leaving one_theft (still (here reading))))
 
 unfoldable pub dated_from_the_arrival : Step
 dated_from_the_arrival = recalling (dates_ended 1450) (leaving (all_dated 450) (still (here reading)))
@@ -322,8 +381,11 @@ grace_too_short = leaving (second_epoch short_grace) (still (here reading))
 unfoldable pub grace_never_begun : Step
 grace_never_begun = leaving (second_epoch never_grace) (still (here reading))
 
+abbrev pub conflict : Message
+conflict = record { header = record { from = 32769; to = 1; life = 1; epoch = 1; number = 1; stamp = 400 }; body = bodies.Nack why.Conflict 2 2 }
+
 unfoldable pub conflict_sent : Step
-conflict_sent = seeing (sent 7 32769 1 1 1 1 400 (bodies.Nack why.Conflict 2 2) ∷ []) (still (here reading))
+conflict_sent = seeing (sent 7 32769 1 1 1 1 400 (bodies.Nack why.Conflict 2 2) ∷ []) (leaving (with_message conflict) (still (here reading)))
 
 unfoldable pub hard_and_pending : Step
 hard_and_pending = seeing (seen.Hardened 1 ∷ []) (still (here reading))
@@ -378,10 +440,10 @@ unfoldable pub kept_after_the_end : Step
 kept_after_the_end = late (still (here reading))
 
 unfoldable pub submitted_after_the_end : Step
-submitted_after_the_end = seeing (read_out 1 1 1 1 0 ∷ []) (leaving all_emptied (late (still (here reading))))
+submitted_after_the_end = seeing (read_out 1 1 1 1 0 ∷ []) (leaving with_command (leaving all_emptied (late (still (here reading)))))
 
 unfoldable pub read_after_the_end : Step
-read_after_the_end = by_event reading (seeing (answered 1 3 (answers.Read (filled 77)) ∷ []) (leaving all_emptied (late (still (here reading)))))
+read_after_the_end = by_event reading (seeing (answered 1 3 (answers.Read (filled 77)) ∷ []) (leaving one_read (leaving all_emptied (late (still (here reading))))))
 
 unfoldable pub timer_unknown : Step
 timer_unknown = leaving suspecting (still (here reading))
@@ -395,6 +457,30 @@ date_unknown = recalling without_dates (still (here reading))
 unfoldable pub grant_unknown : Step
 grant_unknown = recalling without_grants (still (here reading))
 
+unfoldable pub loss_not_told : Step
+loss_not_told = by_event syncing (seeing (answered 1 2 answers.Hard ∷ []) (still here_lost))
+
+unfoldable pub loss_told_in_part : Step
+loss_told_in_part = by_event syncing (seeing (answered 1 2 (answers.Lost []) ∷ []) (still here_lost))
+
+unfoldable pub told_and_not_lost : Step
+told_and_not_lost = seeing (answered 1 2 (answers.Lost (lost_row 0 1 ∷ [])) ∷ []) (still (here syncing))
+
+unfoldable pub hard_and_not_held : Step
+hard_and_not_held = seeing (seen.Hardened 1 ∷ []) (leaving (all_fated fates.Hard) (still (here reading)))
+
+unfoldable pub fault_without_a_report : Step
+fault_without_a_report = seeing (answered 1 2 (answers.DiskFault 1) ∷ []) (still (here syncing))
+
+unfoldable pub full_without_operations : Step
+full_without_operations = seeing (answered 1 2 answers.OpsFull ∷ []) (still (here syncing))
+
+unfoldable pub told_and_not_sent : Step
+told_and_not_sent = seeing (sent 7 32769 1 1 1 1 400 bodies.Ack ∷ []) (still (here reading))
+
+unfoldable pub counted_and_not_told : Step
+counted_and_not_told = leaving one_theft (still (here reading))
+
 unfoldable pub broken_open : ⊤
-unfolding world_words_open prepared past here met past_met here_met past_cut stale_read beside_a_lock beside_a_held_lock dropped_without_a_crash dropped_by_another_command dropped_without_a_report hard_no_more hard_too_early stolen_early stolen_as_another_life dated_from_the_arrival replied_behind_a_timer grace_too_short grace_never_begun conflict_sent hard_and_pending hard_twice written_and_not_logged cut_and_not_logged written_under_another_number written_and_not_answered answered_twice written_without_a_lock written_under_a_lesser_grant cut_without_a_lock kept_after_the_end submitted_after_the_end read_after_the_end timer_unknown timer_without_a_suspect date_unknown grant_unknown
+unfolding safe_words_open prepared past here met past_met here_met lost_run past_lost here_lost past_cut stale_read beside_a_lock beside_a_held_lock dropped_without_a_crash dropped_by_another_command dropped_without_a_report hard_no_more hard_too_early stolen_early stolen_as_another_life dated_from_the_arrival replied_behind_a_timer grace_too_short grace_never_begun conflict_sent hard_and_pending hard_twice written_and_not_logged cut_and_not_logged written_under_another_number written_and_not_answered answered_twice written_without_a_lock written_under_a_lesser_grant cut_without_a_lock kept_after_the_end submitted_after_the_end read_after_the_end timer_unknown timer_without_a_suspect date_unknown grant_unknown loss_not_told loss_told_in_part told_and_not_lost hard_and_not_held fault_without_a_report full_without_operations told_and_not_sent counted_and_not_told
 broken_open = tt

@@ -1,5 +1,9 @@
 ghost use Rattle.std.specs.Prelude.{◌∷◌, []};
-ghost use Rattle.st_rows.specs.Broken.{IsKeptBut, answered_twice, beside_a_held_lock, beside_a_lock, conflict_sent, cut_and_not_logged, cut_without_a_lock, cutting, date_unknown, dated_from_the_arrival, dropped_by_another_command, dropped_without_a_crash, dropped_without_a_report, grace_never_begun, grace_too_short, grant_unknown, hard_and_pending, hard_no_more, hard_too_early, hard_twice, kept_after_the_end, past, past_cut, past_met, read_after_the_end, reading, replied_behind_a_timer, stale_read, stolen_as_another_life, stolen_early, submitted_after_the_end, syncing, timer_unknown, timer_without_a_suspect, writing, written_and_not_answered, written_and_not_logged, written_under_a_lesser_grant, written_under_another_number, written_without_a_lock};
+ghost use Rattle.st_promises.specs.Counts.{TheCountsAreTrue};
+ghost use Rattle.st_promises.specs.Faults.{FaultsHaveACause};
+ghost use Rattle.st_promises.specs.Held.{DisksHoldWhatIsHard};
+ghost use Rattle.st_promises.specs.Losses.{LossesAreTold};
+ghost use Rattle.st_rows.specs.Broken.{IsKeptBut, answered_twice, beside_a_held_lock, beside_a_lock, conflict_sent, counted_and_not_told, cut_and_not_logged, cut_without_a_lock, cutting, date_unknown, dated_from_the_arrival, dropped_by_another_command, dropped_without_a_crash, dropped_without_a_report, fault_without_a_report, full_without_operations, grace_never_begun, grace_too_short, grant_unknown, hard_and_not_held, hard_and_pending, hard_no_more, hard_too_early, hard_twice, kept_after_the_end, loss_not_told, loss_told_in_part, past, past_cut, past_lost, past_met, read_after_the_end, reading, replied_behind_a_timer, stale_read, stolen_as_another_life, stolen_early, submitted_after_the_end, syncing, timer_unknown, timer_without_a_suspect, told_and_not_lost, told_and_not_sent, writing, written_and_not_answered, written_and_not_logged, written_under_a_lesser_grant, written_under_another_number, written_without_a_lock};
 ghost use Rattle.st_rules.specs.Safety.{AnswersAreLogged, AsksAreAnsweredOnce, ChangesAreLocked, ChangesGoInTheOrderOfLocks, DirtyPagesStandAlone, DropsHaveACause, ExpiredLeasesEmptyClients, GraceWaits, HardIsHard, HardStaysHard, LeasesAreDatedFromRequests, NoConflictIsSent, ReadsReturnLastWrites, TheHistoryIsTheWorlds, TheReportTellsTheLog, TheftsComeLate};
 
 /// A page that is dirty while another client has a row of its file.
@@ -44,11 +48,11 @@ pub fn a_drop_without_a_report_is_refused()
     ensures kept { IsKeptBut (3 ∷ []) (past reading) dropped_without_a_report }
 {}
 
-/// A write that was hard and is so no more. No line tells that, so the report doesn't tell the log either.
+/// A write that was hard and is so no more. No line tells that, so the report doesn't tell the log either, and the counts are not true.
 #[tactic(auto, unfolding(crate::specs::Broken::broken_open))]
 pub fn a_write_that_is_hard_no_more_is_refused()
     ensures broken { ¬ HardStaysHard (past reading) hard_no_more }
-    ensures kept { IsKeptBut (4 ∷ 10 ∷ []) (past reading) hard_no_more }
+    ensures kept { IsKeptBut (4 ∷ 10 ∷ 20 ∷ []) (past reading) hard_no_more }
 {}
 
 /// A sync that is answered hard while a write of its file is pending.
@@ -107,18 +111,18 @@ pub fn a_conflict_that_is_sent_is_refused()
     ensures kept { IsKeptBut (9 ∷ []) (past reading) conflict_sent }
 {}
 
-/// A write that is told to be hard and stays pending.
+/// A write that is told to be hard and stays pending. The counts are not true then.
 #[tactic(auto, unfolding(crate::specs::Broken::broken_open))]
 pub fn a_hard_entry_that_stays_pending_is_refused()
     ensures broken { ¬ TheReportTellsTheLog (past reading) hard_and_pending }
-    ensures kept { IsKeptBut (10 ∷ []) (past reading) hard_and_pending }
+    ensures kept { IsKeptBut (10 ∷ 20 ∷ []) (past reading) hard_and_pending }
 {}
 
-/// A write that is told to be hard and was hard before.
+/// A write that is told to be hard and was hard before, on disks that carry zeros. The counts are not true then.
 #[tactic(auto, unfolding(crate::specs::Broken::broken_open))]
 pub fn an_entry_told_hard_twice_is_refused()
     ensures broken { ¬ TheReportTellsTheLog (past reading) hard_twice }
-    ensures kept { IsKeptBut (10 ∷ []) (past reading) hard_twice }
+    ensures kept { IsKeptBut (10 ∷ 18 ∷ 20 ∷ []) (past reading) hard_twice }
 {}
 
 /// A write that is told under a number that is not the next one.
@@ -231,4 +235,60 @@ pub fn a_lease_without_a_date_is_refused()
 pub fn an_entry_without_a_grant_is_refused()
     ensures broken { ¬ TheHistoryIsTheWorlds (past reading) grant_unknown }
     ensures kept { IsKeptBut (16 ∷ []) (past reading) grant_unknown }
+{}
+
+/// A sync that is answered hard though a page of its file was lost, of which nobody was told.
+#[tactic(auto, unfolding(crate::specs::Broken::broken_open))]
+pub fn a_loss_that_is_not_told_is_refused()
+    ensures broken { ¬ LossesAreTold past_lost loss_not_told }
+    ensures kept { IsKeptBut (17 ∷ []) past_lost loss_not_told }
+{}
+
+/// A sync that is told fewer pages than were lost.
+#[tactic(auto, unfolding(crate::specs::Broken::broken_open))]
+pub fn a_loss_that_is_told_in_part_is_refused()
+    ensures broken { ¬ LossesAreTold past_lost loss_told_in_part }
+    ensures kept { IsKeptBut (17 ∷ []) past_lost loss_told_in_part }
+{}
+
+/// A sync that is told of a page that was not lost.
+#[tactic(auto, unfolding(crate::specs::Broken::broken_open))]
+pub fn a_loss_that_never_was_is_refused()
+    ensures broken { ¬ LossesAreTold (past syncing) told_and_not_lost }
+    ensures kept { IsKeptBut (17 ∷ []) (past syncing) told_and_not_lost }
+{}
+
+/// A write that becomes hard while the disks carry zeros in its page.
+#[tactic(auto, unfolding(crate::specs::Broken::broken_open))]
+pub fn a_hard_page_of_zeros_is_refused()
+    ensures broken { ¬ DisksHoldWhatIsHard (past reading) hard_and_not_held }
+    ensures kept { IsKeptBut (18 ∷ []) (past reading) hard_and_not_held }
+{}
+
+/// A sync that is answered with a fault of a command that was not reported failed.
+#[tactic(auto, unfolding(crate::specs::Broken::broken_open))]
+pub fn a_fault_without_a_report_is_refused()
+    ensures broken { ¬ FaultsHaveACause (past syncing) fault_without_a_report }
+    ensures kept { IsKeptBut (19 ∷ []) (past syncing) fault_without_a_report }
+{}
+
+/// An ask that is refused because of pending operations, of which there is one.
+#[tactic(auto, unfolding(crate::specs::Broken::broken_open))]
+pub fn a_full_client_without_operations_is_refused()
+    ensures broken { ¬ FaultsHaveACause (past syncing) full_without_operations }
+    ensures kept { IsKeptBut (19 ∷ []) (past syncing) full_without_operations }
+{}
+
+/// The line of a message that was not sent.
+#[tactic(auto, unfolding(crate::specs::Broken::broken_open))]
+pub fn a_line_without_its_message_is_refused()
+    ensures broken { ¬ TheCountsAreTrue (past reading) told_and_not_sent }
+    ensures kept { IsKeptBut (20 ∷ []) (past reading) told_and_not_sent }
+{}
+
+/// A theft that is counted, and of which no line tells.
+#[tactic(auto, unfolding(crate::specs::Broken::broken_open))]
+pub fn a_theft_without_a_line_is_refused()
+    ensures broken { ¬ TheCountsAreTrue (past reading) counted_and_not_told }
+    ensures kept { IsKeptBut (20 ∷ []) (past reading) counted_and_not_told }
 {}
