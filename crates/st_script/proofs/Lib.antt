@@ -1,0 +1,4 @@
+pub mod Outcomes
+pub mod Causes
+pub mod SnapAnswers
+pub mod SnapLines

@@ -1,0 +1,4 @@
+pub mod Scripts
+pub mod Ends
+pub mod Playing
+pub mod SnapScripts

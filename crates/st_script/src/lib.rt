@@ -1,0 +1,19 @@
+//! Scripts: a command reads the lines of a script from a source, plays its events one after another, and writes their answers to a
+//! sink. `docs/PROTOCOL.md`, "Scripts".
+#![tactic(auto)]
+
+mod answers;
+mod fault;
+mod lines;
+mod play;
+mod runner;
+mod script;
+mod snap_event;
+mod snap_script;
+
+pub use answers::{begin_answer, end_answer, put_answer};
+pub use fault::ScriptFault;
+pub use runner::{run, run_headed};
+pub use script::Script;
+pub use snap_event::SnapEvent;
+pub use snap_script::snap;

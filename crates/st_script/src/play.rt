@@ -1,0 +1,133 @@
+ghost use Rattle.std.specs.Prelude.{◌≡◌, ◌≤◌, ◌+◌, ◌++◌, OnOk, OnErr, IfErr, Err};
+ghost use Rattle.std.specs.Io.KnownBytes.{Appends};
+ghost use Rattle.st_link.specs.Prefixes.{AppendsPrefix};
+ghost use Rattle.st_schedule.specs.Lines.{lines_of};
+ghost use Rattle.st_script.specs.Ends.{Refuses, Reports, WriteCauses, Writes};
+ghost use Rattle.st_script.specs.Scripts as scripts;
+ghost use Rattle.st_script.specs.Scripts.{answer_lines, stopped_text};
+
+use crate::fault::{ScriptFault, Stop};
+use crate::lines::read_line;
+use crate::script::Script;
+use st_link::{Sink, put_all};
+use st_report::{put_refused, put_text};
+use st_schedule::take_line;
+use std::alloc::{AllocError, Global};
+
+/// Writes a text.
+fn write<O: Sink>(out: &mut O, text: &[u8]) -> Result<(), ScriptFault>
+    ensures exact { Writes result (O.written out.old) (O.written out.new) text.now }
+    ensures cause { WriteCauses result (O.faults out.old) (O.faults out.new) }
+{
+    match put_all(out, text) {
+        Ok(()) => Ok(()),
+        Err(_) => Err(ScriptFault::Write),
+    }
+}
+
+/// Appends the line of a script that stops at this line.
+#[tactic(auto, unfolding(st_rules::specs::Report::refused))]
+fn put_stopped(text: &mut Vec<u8>, line: u64) -> Result<(), AllocError>
+    ensures { OnOk result (text.new.items ≡ text.old.items ++ stopped_text line) }
+{
+    put_refused(text, line)?;
+    put_text(text, b" Malformed\n")
+}
+
+/// Ends the text of a script that stops at this line.
+pub(crate) fn refuse<O: Sink>(alloc: Global, line: u64, out: &mut O) -> ScriptFault
+    ensures exact { Refuses result line (O.written out.old) (O.written out.new) }
+    ensures cause { WriteCauses (Err result) (O.faults out.old) (O.faults out.new) }
+{
+    let mut text = Vec::new(alloc);
+    let Ok(()) = put_stopped(&mut text, line) else {
+        return ScriptFault::Memory;
+    };
+    match put_all(out, text.as_slice()) {
+        Ok(()) => ScriptFault::Line(line),
+        Err(_) => ScriptFault::Write,
+    }
+}
+
+/// Plays the event of this number, and writes its answers.
+fn play_event<S: Script, O: Sink>(
+    alloc: Global,
+    script: &mut S,
+    number: u64,
+    event: S::Event,
+    out: &mut O,
+) -> Result<(), ScriptFault>
+    ensures exact { (s : S.State) → S.stands s script.old → Writes result (O.written out.old) (O.written out.new) (answer_lines number (S.rules.answers s event)) }
+    ensures stands { (s : S.State) → S.stands s script.old → OnOk result (S.stands (S.rules.next s event) script.new) }
+    ensures cause { WriteCauses result (O.faults out.old) (O.faults out.new) }
+{
+    let mut text = Vec::new(alloc);
+    script.play(alloc, number, event, &mut text)?;
+    write(out, text.as_slice())
+}
+
+/// Writes the last line, behind this number of events.
+fn write_last<S: Script, O: Sink>(
+    alloc: Global,
+    script: &S,
+    done: u64,
+    out: &mut O,
+) -> Result<(), ScriptFault>
+    ensures exact { (s : S.State) → S.stands s script.now → Writes result (O.written out.old) (O.written out.new) (S.rules.last done s) }
+    ensures cause { WriteCauses result (O.faults out.old) (O.faults out.new) }
+{
+    let mut text = Vec::new(alloc);
+    script.finish(done, &mut text)?;
+    write(out, text.as_slice())
+}
+
+/// Ends a script at the line `end`, which has this number, with the bytes behind it.
+fn conclude<S: Script, O: Sink>(
+    alloc: Global,
+    script: &S,
+    done: u64,
+    line: u64,
+    after: &[u8],
+    out: &mut O,
+) -> Result<(), ScriptFault>
+    requires { line ≤ 10002 }
+    ensures exact { (s : S.State) → S.stands s script.now → Reports (λ t. S.stands t script.now) result (O.written out.old) (O.written out.new)
+        (scripts.ended S.rules done line s (lines_of after.now)) }
+    ensures cause { WriteCauses result (O.faults out.old) (O.faults out.new) }
+{
+    match take_line(after) {
+        None => write_last(alloc, script, done, out),
+        Some(_) => Err(refuse(alloc, line + 1, out)),
+    }
+}
+
+/// Plays lines, the first of which has this number.
+pub(crate) fn play_lines<S: Script, O: Sink>(
+    alloc: Global,
+    script: &mut S,
+    first: u64,
+    bytes: &[u8],
+    out: &mut O,
+) -> Result<(), ScriptFault>
+    requires { first ≤ 2 }
+    ensures exact { (s : S.State) → S.stands s script.old → Reports (λ t. S.stands t script.new) result (O.written out.old) (O.written out.new)
+        (scripts.play_from S.rules 0 first s (lines_of bytes.now)) }
+    ensures cause { WriteCauses result (O.faults out.old) (O.faults out.new) }
+{
+    let mut done = 0u64;
+    let mut rest = bytes;
+    'lines: while let Some((line, after)) = take_line(rest) {
+        match read_line::<S>(alloc, done, line) {
+            Ok(Some(event)) => match play_event(alloc, script, done + 1, event, out) {
+                Ok(()) => {}
+                Err(fault) => return Err(fault),
+            },
+            Ok(None) => return conclude(alloc, script, done, first + done, after, out),
+            Err(Stop::Malformed) => return Err(refuse(alloc, first + done, out)),
+            Err(Stop::Memory) => return Err(ScriptFault::Memory),
+        }
+        rest = after;
+        done += 1;
+    }
+    Err(refuse(alloc, first + done, out))
+}
