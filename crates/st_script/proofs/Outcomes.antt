@@ -1,5 +1,5 @@
 -- What was written, next to the outcome of a script.
-use Rattle.std.proofs.Common.{◌≡◌, ℕ, ◌+◌, List, [], ◌∷◌, ◌++◌, length, take, drop, refl, sym, ◌∙◌, ap, subst, arith, append-nil, take-append-drop}
+use Rattle.std.proofs.Common.{◌≡◌, ℕ, ◌+◌, List, [], ◌∷◌, ◌++◌, length, take, drop, sym, ◌∙◌, ap, subst, arith, append-nil, take-append-drop}
 use Rattle.std.specs.Prelude.{Option, Some, None, Result, Ok, Err, IfSome, ⊤}
 use Rattle.std.specs.Io.KnownBytes.{Appends, Consumes, IsAtEnd}
 use Rattle.std.proofs.KnownBytes.{Appends-nil, Appends-trans}
@@ -215,21 +215,21 @@ pub bad_head_reports : {State Event : Type 0} (holds : State → Type 0) (head :
 bad_head_reports holds head rules before now bytes line after e is none h =
     subst (Reports holds (Err e) before now) (head_played head rules bytes line after None is none) (refused_reports holds e 1 before now h)
 
-some_state : {State : Type 0} (holds : State → Type 0) (ending : Ending State) → IsWhole holds ending → IsWhole (λ s. ⊤) ending
-some_state holds (Whole s) h = tt
-some_state holds (Stopped n) h = absurd h
+weaker_ending : {State : Type 0} (holds after : State → Type 0) (ending : Ending State) → ((s : State) → holds s → after s) → IsWhole holds ending → IsWhole after ending
+weaker_ending holds after (Whole s) f h = f s h
+weaker_ending holds after (Stopped n) f h = absurd h
 
--- of whatever state it is
-pub any_state : {State : Type 0} (holds : State → Type 0) (r : Result Unit ScriptFault) (before now : Option (List ℕ)) (o : Outcome State) → Reports holds r before now o →
-    Reports (λ s. ⊤) r before now o
-any_state holds (Ok u) before now o h = (some_state holds o.ending h.0, h.1)
-any_state holds (Err (faults.Line n)) before now o h = h
-any_state holds (Err faults.Read) before now o h = h
-any_state holds (Err faults.Write) before now o h = h
-any_state holds (Err faults.Memory) before now o h = h
+-- of a state of which less is known
+pub weaker : {State : Type 0} (holds after : State → Type 0) (r : Result Unit ScriptFault) (before now : Option (List ℕ)) (o : Outcome State) →
+    ((s : State) → holds s → after s) → Reports holds r before now o → Reports after r before now o
+weaker holds after (Ok u) before now o f h = (weaker_ending holds after o.ending f h.0, h.1)
+weaker holds after (Err (faults.Line n)) before now o f h = h
+weaker holds after (Err faults.Read) before now o f h = h
+weaker holds after (Err faults.Write) before now o f h = h
+weaker holds after (Err faults.Memory) before now o f h = h
 
 pub head_reports : {State Event : Type 0} (holds : State → Type 0) (head : List (List ℕ) → Result State Fault) (rules : Rules State Event) (before now : Option (List ℕ))
     (bytes line after : List ℕ) (s : State) (r : Result Unit ScriptFault) → lines_of bytes ≡ line ∷ lines_of after → first_line head line ≡ Some s →
     Reports holds r before now (play_from rules 0 2 s (lines_of after)) → Reports (λ s. ⊤) r before now (headed_lines head rules (lines_of bytes))
 head_reports holds head rules before now bytes line after s r is first h =
-    subst (Reports (λ s. ⊤) r before now) (head_played head rules bytes line after (Some s) is first) (any_state holds r before now _ h)
+    subst (Reports (λ s. ⊤) r before now) (head_played head rules bytes line after (Some s) is first) (weaker holds (λ s. ⊤) r before now _ (λ s k. tt) h)

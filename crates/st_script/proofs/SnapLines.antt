@@ -1,5 +1,5 @@
 -- The lines of a script of images.
-use Rattle.std.proofs.Common.{◌≡◌, ℕ, ap}
+use Rattle.std.proofs.Common.{ℕ, ap}
 use Rattle.std.specs.Prelude.{Result, Ok, Err}
 use Rattle.st_schedule.specs.Reading.{Gives}
 use Rattle.st_schedule.specs.declared.fault.Fault.{Fault}

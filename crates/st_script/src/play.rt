@@ -1,4 +1,4 @@
-ghost use Rattle.std.specs.Prelude.{◌≡◌, ◌≤◌, ◌+◌, ◌++◌, OnOk, OnErr, IfErr, Err};
+ghost use Rattle.std.specs.Prelude.{ℕ, ◌≡◌, ◌≤◌, ◌<◌, ◌+◌, ◌++◌, OnOk, OnErr, IfErr, Err};
 ghost use Rattle.std.specs.Io.KnownBytes.{Appends};
 ghost use Rattle.st_link.specs.Prefixes.{AppendsPrefix};
 ghost use Rattle.st_schedule.specs.Lines.{lines_of};
@@ -49,20 +49,22 @@ pub(crate) fn refuse<O: Sink>(alloc: Global, line: u64, out: &mut O) -> ScriptFa
     }
 }
 
-/// Plays the event of this number, and writes its answers.
+/// Plays an event behind so many others, and writes its answers.
 fn play_event<S: Script, O: Sink>(
     alloc: Global,
     script: &mut S,
-    number: u64,
+    done: u64,
     event: S::Event,
     out: &mut O,
 ) -> Result<(), ScriptFault>
-    ensures exact { (s : S.State) → S.stands s script.old → Writes result (O.written out.old) (O.written out.new) (answer_lines number (S.rules.answers s event)) }
-    ensures stands { (s : S.State) → S.stands s script.old → OnOk result (S.stands (S.rules.next s event) script.new) }
+    requires few { done < 10000 }
+    ensures exact { (s : S.State) → S.stands done s script.old →
+        Writes result (O.written out.old) (O.written out.new) (answer_lines (done + 1) (S.rules.answers s event)) }
+    ensures stands { (s : S.State) → S.stands done s script.old → OnOk result (S.stands (done + 1) (S.rules.next s event) script.new) }
     ensures cause { WriteCauses result (O.faults out.old) (O.faults out.new) }
 {
     let mut text = Vec::new(alloc);
-    script.play(alloc, number, event, &mut text)?;
+    script.play(alloc, done, event, &mut text)?;
     write(out, text.as_slice())
 }
 
@@ -73,7 +75,7 @@ fn write_last<S: Script, O: Sink>(
     done: u64,
     out: &mut O,
 ) -> Result<(), ScriptFault>
-    ensures exact { (s : S.State) → S.stands s script.now → Writes result (O.written out.old) (O.written out.new) (S.rules.last done s) }
+    ensures exact { (s : S.State) → S.stands done s script.now → Writes result (O.written out.old) (O.written out.new) (S.rules.last done s) }
     ensures cause { WriteCauses result (O.faults out.old) (O.faults out.new) }
 {
     let mut text = Vec::new(alloc);
@@ -91,7 +93,7 @@ fn conclude<S: Script, O: Sink>(
     out: &mut O,
 ) -> Result<(), ScriptFault>
     requires { line ≤ 10002 }
-    ensures exact { (s : S.State) → S.stands s script.now → Reports (λ t. S.stands t script.now) result (O.written out.old) (O.written out.new)
+    ensures exact { (s : S.State) → S.stands done s script.now → Reports (λ t. S.stands done t script.now) result (O.written out.old) (O.written out.new)
         (scripts.ended S.rules done line s (lines_of after.now)) }
     ensures cause { WriteCauses result (O.faults out.old) (O.faults out.new) }
 {
@@ -110,7 +112,7 @@ pub(crate) fn play_lines<S: Script, O: Sink>(
     out: &mut O,
 ) -> Result<(), ScriptFault>
     requires { first ≤ 2 }
-    ensures exact { (s : S.State) → S.stands s script.old → Reports (λ t. S.stands t script.new) result (O.written out.old) (O.written out.new)
+    ensures exact { (s : S.State) → S.stands 0 s script.old → Reports (λ t. (n : ℕ) × S.stands n t script.new) result (O.written out.old) (O.written out.new)
         (scripts.play_from S.rules 0 first s (lines_of bytes.now)) }
     ensures cause { WriteCauses result (O.faults out.old) (O.faults out.new) }
 {
@@ -118,7 +120,7 @@ pub(crate) fn play_lines<S: Script, O: Sink>(
     let mut rest = bytes;
     'lines: while let Some((line, after)) = take_line(rest) {
         match read_line::<S>(alloc, done, line) {
-            Ok(Some(event)) => match play_event(alloc, script, done + 1, event, out) {
+            Ok(Some(event)) => match play_event(alloc, script, done, event, out) {
                 Ok(()) => {}
                 Err(fault) => return Err(fault),
             },

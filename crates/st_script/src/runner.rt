@@ -1,4 +1,4 @@
-ghost use Rattle.std.specs.Prelude.{◌≡◌, ⊤, OnOk, IfOk, IfErr, IfSome};
+ghost use Rattle.std.specs.Prelude.{ℕ, ◌≡◌, ⊤, OnOk, IfOk, IfErr, IfSome};
 ghost use Rattle.std.specs.Io.KnownBytes.{Consumes, IsAtEnd};
 ghost use Rattle.st_schedule.specs.Lines.{lines_of};
 ghost use Rattle.st_script.specs.Ends.{HasCauses, Reports, WriteCauses};
@@ -29,7 +29,7 @@ fn read<I: Source>(alloc: Global, input: &mut I) -> Result<Vec<u8>, ScriptFault>
 /// Begins a script by its first line.
 #[tactic(auto, unfolding(crate::specs::Scripts::first_line))]
 fn begin<S: Script>(alloc: Global, line: &[u8]) -> Result<S, Stop>
-    ensures { IsBegun S.stands result (scripts.first_line S.head line.now) }
+    ensures { IsBegun (S.stands 0) result (scripts.first_line S.head line.now) }
 {
     if is_long(line) {
         return Err(Stop::Malformed);
@@ -75,8 +75,8 @@ pub fn run<S: Script, I: Source, O: Sink>(
 ) -> Result<(), ScriptFault>
     // The text over all the bytes that the source held: all of it where the script went through its end or stopped at a line, and
     // otherwise a front of it.
-    ensures report { (s : S.State) → S.stands s script.old → IfSome (I.left input.old) (λ bytes.
-        Reports (λ t. S.stands t script.new) result (O.written out.old) (O.written out.new) (scripts.script_from S.rules s bytes)) }
+    ensures report { (s : S.State) → S.stands 0 s script.old → IfSome (I.left input.old) (λ bytes.
+        Reports (λ t. (n : ℕ) × S.stands n t script.new) result (O.written out.old) (O.written out.new) (scripts.script_from S.rules s bytes)) }
     ensures through { OnOk result (IsAtEnd (I.left input.new)) }
     // `Read` and `Write` come only where a count of faults rose; at `Ok` and at `Line` none did.
     ensures causes { HasCauses result (I.faults input.old) (I.faults input.new) (O.faults out.old) (O.faults out.new) }

@@ -1,4 +1,4 @@
-ghost use Rattle.std.specs.Prelude.{◌≡◌, ◌++◌, OnOk};
+ghost use Rattle.std.specs.Prelude.{◌≡◌, ◌<◌, ◌+◌, ◌++◌, OnOk};
 ghost use Rattle.st_schedule.specs.Reading.{Gives};
 ghost use Rattle.st_schedule.specs.Words.{split};
 ghost use Rattle.st_script.specs.Ends.{Begins};
@@ -25,29 +25,31 @@ pub trait Script: Drop {
     /// The rules of the command.
     ghost rules: { Rules State Self.Event };
 
-    /// The value stands for this state.
-    ghost stands: { State → Self → Type 0 };
+    /// The value stands for this state, behind so many events.
+    ghost stands: { ℕ → State → Self → Type 0 };
 
     /// Begins a script by its first line, of at most 256 bytes.
     fn begin(alloc: Global, line: &[u8]) -> Result<Self, ReadError>
-        ensures { Begins stands result (head (split line.now)) };
+        ensures { Begins (stands 0) result (head (split line.now)) };
 
     /// Reads the event of a line of at most 256 bytes.
     fn event(alloc: Global, line: &[u8]) -> Result<Self::Event, ReadError>
         ensures { Gives (λ e. e) result (rules.event (split line.now)) };
 
-    /// Plays the event of this number, and appends its answers. After an error nothing is promised of the value and the text.
+    /// Plays an event behind so many others, fewer than 10,000, and appends its answers. After an error nothing is promised of the
+    /// value and the text.
     fn play(
         &mut self,
         alloc: Global,
-        number: u64,
+        done: u64,
         event: Self::Event,
         text: &mut Vec<u8>,
     ) -> Result<(), AllocError>
-        ensures text { (s : State) → stands s self.old → OnOk result (text.new.items ≡ text.old.items ++ answer_lines number (rules.answers s event)) }
-        ensures stands { (s : State) → stands s self.old → OnOk result (stands (rules.next s event) self.new) };
+        requires few { done < 10000 }
+        ensures text { (s : State) → stands done s self.old → OnOk result (text.new.items ≡ text.old.items ++ answer_lines (done + 1) (rules.answers s event)) }
+        ensures stands { (s : State) → stands done s self.old → OnOk result (stands (done + 1) (rules.next s event) self.new) };
 
-    /// Appends the last line, behind this number of events.
+    /// Appends the last line, behind so many events.
     fn finish(&self, events: u64, text: &mut Vec<u8>) -> Result<(), AllocError>
-        ensures { (s : State) → stands s self.now → OnOk result (text.new.items ≡ text.old.items ++ rules.last events s) };
+        ensures { (s : State) → stands events s self.now → OnOk result (text.new.items ≡ text.old.items ++ rules.last events s) };
 }

@@ -173,7 +173,7 @@ impl Script for SnapScript {
 
     ghost rules = { snap_rules };
 
-    ghost stands = { λ s x. IsAfter s.blocks s.changes x.volume };
+    ghost stands = { λ n s x. IsAfter s.blocks s.changes x.volume };
 
     fn begin(alloc: Global, line: &[u8]) -> Result<SnapScript, ReadError> {
         let blocks = blocks_of(line)?;
@@ -189,10 +189,11 @@ impl Script for SnapScript {
     fn play(
         &mut self,
         _alloc: Global,
-        number: u64,
+        done: u64,
         event: SnapEvent,
         text: &mut Vec<u8>,
     ) -> Result<(), AllocError> {
+        let number = done + 1;
         match event {
             SnapEvent::Write { file, page, byte } => {
                 play_write(&mut self.volume, number, file, page, byte, text)

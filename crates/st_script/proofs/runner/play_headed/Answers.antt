@@ -1,4 +1,4 @@
-use Rattle.std.proofs.Common.{refl}
+use Rattle.std.proofs.Common.{ℕ, refl}
 use Rattle.st_script.proofs.Outcomes.{bad_head_reports, head_reports, no_head_reports}
 use Rattle.st_script.proofs.runner.play_headed.Goals as goal
 
@@ -9,7 +9,7 @@ returns-in_default-clause-exact g c =
 pub returns-in-Ok-clause-exact : goal.returns-in-Ok-clause-exact
 returns-in-Ok-clause-exact g c =
     let begun = c.in-Ok.ensures in
-    head_reports (λ t. g.S.Script.stands t c.play_lines.new.script) g.S.Script.head g.S.Script.rules _ _ c.args.bytes.now c.in-Some.line.now c.in-Some.after.now
+    head_reports (λ t. (n : ℕ) × g.S.Script.stands n t c.play_lines.new.script) g.S.Script.head g.S.Script.rules _ _ c.args.bytes.now c.in-Some.line.now c.in-Some.after.now
     begun.0 c.play_lines.result c.in-Some.ensures.lines begun.1.0 (c.play_lines.ensures.exact begun.0 begun.1.1)
 
 pub returns-in-Err-Malformed-clause-exact : goal.returns-in-Err-Malformed-clause-exact
