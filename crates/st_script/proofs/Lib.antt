@@ -2,3 +2,4 @@ pub mod Outcomes
 pub mod Causes
 pub mod SnapAnswers
 pub mod SnapLines
+pub mod JournalTexts
