@@ -2,4 +2,3 @@ pub mod Outcomes
 pub mod Causes
 pub mod SnapAnswers
 pub mod SnapLines
-pub mod JournalTexts

@@ -2,5 +2,3 @@ pub mod Scripts
 pub mod Ends
 pub mod Playing
 pub mod SnapScripts
-pub mod Stops
-pub mod JournalScripts

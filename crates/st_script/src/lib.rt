@@ -4,8 +4,6 @@
 
 mod answers;
 mod fault;
-mod journal_event;
-mod journal_text;
 mod lines;
 mod play;
 mod runner;
@@ -15,7 +13,6 @@ mod snap_script;
 
 pub use answers::{begin_answer, end_answer, put_answer};
 pub use fault::ScriptFault;
-pub use journal_event::{JournalEvent, RangedChange, SetStop};
 pub use runner::{run, run_headed};
 pub use script::Script;
 pub use snap_event::SnapEvent;
