@@ -2,3 +2,5 @@ pub mod Scripts
 pub mod Ends
 pub mod Playing
 pub mod SnapScripts
+pub mod SharedScripts
+pub mod SharedCalls

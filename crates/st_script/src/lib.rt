@@ -8,6 +8,9 @@ mod lines;
 mod play;
 mod runner;
 mod script;
+mod shared_answers;
+mod shared_event;
+mod shared_script;
 mod snap_event;
 mod snap_script;
 
@@ -15,5 +18,7 @@ pub use answers::{begin_answer, end_answer, put_answer};
 pub use fault::ScriptFault;
 pub use runner::{run, run_headed};
 pub use script::Script;
+pub use shared_event::{ClientAct, SharedEvent, SharedHead};
+pub use shared_script::{every_script_is_right, shared};
 pub use snap_event::SnapEvent;
 pub use snap_script::snap;
