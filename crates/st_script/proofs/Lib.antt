@@ -4,3 +4,4 @@ pub mod SnapAnswers
 pub mod SnapLines
 pub mod SharedPlays
 pub mod EveryScript
+pub mod MoveAnswers

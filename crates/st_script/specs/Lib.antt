@@ -4,3 +4,4 @@ pub mod Playing
 pub mod SnapScripts
 pub mod SharedScripts
 pub mod SharedCalls
+pub mod MoveScripts

@@ -5,6 +5,8 @@
 mod answers;
 mod fault;
 mod lines;
+mod move_event;
+mod move_script;
 mod play;
 mod runner;
 mod script;
@@ -16,6 +18,7 @@ mod snap_script;
 
 pub use answers::{begin_answer, end_answer, put_answer};
 pub use fault::ScriptFault;
+pub use move_script::move_containers;
 pub use runner::{run, run_headed};
 pub use script::Script;
 pub use shared_event::{ClientAct, SharedEvent, SharedHead};
