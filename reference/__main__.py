@@ -6,9 +6,10 @@ from .clocks import ListedClock
 from .generator import generate, work_text
 from .node import Node, serve
 from .report import replay
+from .scripts import WORDS, run_script
 from .sources import Failed, Sink, pieces_of
 
-USAGE = "usage: tank replay | generate N SEED | work N SEED | node server|client ID NAME"
+USAGE = "usage: tank replay | generate N SEED | work N SEED | node server|client ID NAME | move | snap | shared"
 
 
 def decimal(word, low, high):
@@ -32,6 +33,10 @@ def main(words, source, output, errors):
     try:
         if words == ["replay"]:
             status = 0 if replay(pieces_of(source), sink.write) else 1
+            sink.flush()
+            return status
+        if len(words) == 1 and words[0] in WORDS:
+            status = 0 if run_script(words[0], pieces_of(source), sink.write) else 1
             sink.flush()
             return status
         if words[:1] in (["generate"], ["work"]):

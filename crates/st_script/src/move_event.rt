@@ -192,12 +192,7 @@ fn other_of(word: &[u8], line: &[u8], rest: &[u8]) -> Result<MoveEvent, ReadErro
 
 /// Reads the event of a line with this first word.
 #[tactic(auto, unfolding(crate::specs::MoveScripts::event_of))]
-fn event_of(
-    alloc: Global,
-    word: &[u8],
-    line: &[u8],
-    rest: &[u8],
-) -> Result<MoveEvent, ReadError>
+fn event_of(alloc: Global, word: &[u8], line: &[u8], rest: &[u8]) -> Result<MoveEvent, ReadError>
     ensures { Gives (λ x. x) result (scripts.event_of word.now (split line.now) (words_behind rest.now)) }
 {
     if is(word, b"put") {

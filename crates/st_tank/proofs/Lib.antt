@@ -1,5 +1,6 @@
 mod Prefixed
 mod Statuses
 mod Made
+mod Played
 mod Nodes
 pub mod NodeTold

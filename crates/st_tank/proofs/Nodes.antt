@@ -3,7 +3,8 @@ use Rattle.std.proofs.Common.{◌≡◌, ◌≤◌, ℕ, List, [], ◌∷◌, re
 use Rattle.std.specs.Prelude.{◌⊎◌, Option, Some, None, IfSome}
 use Rattle.st_base.specs.declared.ids.NodeId.{NodeId}
 use Rattle.st_tank.specs.NodeWords.{node_of}
-use Rattle.st_tank.specs.Words.{OnMade, OnReplay, job_in}
+use Rattle.st_tank.specs.Words.{OnMade, OnReplay, OnScript, job_in}
+use Rattle.st_tank.specs.declared.words.Command.{Command}
 use Rattle.st_tank.specs.declared.words.Job.{Job}
 
 pub some_is : {A : Type 0} (P : A → Type 0) (o : Option A) (x : A) → Some x ≡ o → P x → IfSome o P
@@ -22,6 +23,9 @@ no_job (a ∷ (b ∷ (c ∷ (d ∷ ws)))) id e = refl
 
 pub nothing_replayed : (words : List (List ℕ)) (id : NodeId) (fact : Type 0) → Some id ≡ node_of words → OnReplay (job_in words) fact
 nothing_replayed words id fact e = subst (λ j. OnReplay j fact) (sym (no_job words id e)) tt
+
+pub nothing_scripted : (words : List (List ℕ)) (id : NodeId) (fact : Command → Type 0) → Some id ≡ node_of words → OnScript (job_in words) fact
+nothing_scripted words id fact e = subst (λ j. OnScript j fact) (sym (no_job words id e)) tt
 
 pub nothing_made : (words : List (List ℕ)) (id : NodeId) (fact : List ℕ → Type 0) → Some id ≡ node_of words → OnMade (job_in words) fact
 nothing_made words id fact e = subst (λ j. OnMade j fact) (sym (no_job words id e)) tt

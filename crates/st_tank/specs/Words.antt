@@ -4,12 +4,15 @@ use Rattle.std.specs.Str.{bytes_eq}
 use Rattle.st_generate.specs.GeneratedText.{generate_text, work_text}
 use Rattle.st_link.specs.Causes.{Rose}
 use Rattle.st_schedule.specs.Words.{plain}
+use Rattle.st_tank.specs.declared.words.Command.{Command}
+use Rattle.st_tank.specs.declared.words.Command.TheVariants as commands
 use Rattle.st_tank.specs.declared.words.Job.{Job}
 use Rattle.st_tank.specs.declared.words.Job.TheVariants as jobs
 
 -- a fact of the length of a schedule: it has at most 100,000 events
 abbrev pub HasFew : Job → Type 0
 HasFew jobs.Replay = Unit {0}
+HasFew (jobs.Script command) = Unit {0}
 HasFew (jobs.Generate n seed) = n ≤ 100000
 HasFew (jobs.Work n seed) = n ≤ 100000
 
@@ -31,13 +34,27 @@ abbrev pub numbered : List ℕ → Option ℕ → Option ℕ → Option Job
 numbered word (Some n) (Some seed) = named word n seed
 numbered word n seed = None
 
+-- the command of a script, if the word is one
+abbrev pub shared_in : List ℕ → Option Command
+shared_in word = if bytes_eq word (codes "shared") then Some commands.Shared else None
+
+abbrev pub snap_in : List ℕ → Option Command
+snap_in word = if bytes_eq word (codes "snap") then Some commands.Snap else shared_in word
+
+abbrev pub command_in : List ℕ → Option Command
+command_in word = if bytes_eq word (codes "move") then Some commands.Move else snap_in word
+
+abbrev pub scripted : Option Command → Option Job
+scripted None = None
+scripted (Some command) = Some (jobs.Script command)
+
 -- what a word asks for alone
-abbrev pub replayed : List ℕ → Option Job
-replayed word = if bytes_eq word (codes "replay") then Some jobs.Replay else None
+abbrev pub alone : List ℕ → Option Job
+alone word = if bytes_eq word (codes "replay") then Some jobs.Replay else scripted (command_in word)
 
 -- what the words ask for, if they are right
 abbrev pub job_in : List (List ℕ) → Option Job
-job_in (word ∷ []) = replayed word
+job_in (word ∷ []) = alone word
 job_in (word ∷ (n ∷ (seed ∷ []))) = numbered word (length_of n) (seed_of seed)
 job_in words = None
 
@@ -53,6 +70,11 @@ abbrev pub OnReplay : Option Job → Type 0 → Type 0
 OnReplay (Some jobs.Replay) fact = fact
 OnReplay job fact = Unit {0}
 
+-- a fact of a script
+abbrev pub OnScript : Option Job → (Command → Type 0) → Type 0
+OnScript (Some (jobs.Script command)) fact = fact command
+OnScript job fact = Unit {0}
+
 -- a fact of the text that is made of a length and a seed
 abbrev pub OnMade : Option Job → (List ℕ → Type 0) → Type 0
 OnMade (Some (jobs.Generate n seed)) fact = fact (generate_text n seed)
@@ -63,7 +85,7 @@ OnMade job fact = Unit {0}
 -- memory, and no text for 0 and 1.
 
 unfoldable pub USAGE : List ℕ
-USAGE = codes "usage: tank replay | generate N SEED | work N SEED | node server|client ID NAME\n"
+USAGE = codes "usage: tank replay | generate N SEED | work N SEED | node server|client ID NAME | move | snap | shared\n"
 
 abbrev pub memory_text : ℕ → List ℕ
 memory_text status = if status == 5 then codes "tank: out of memory\n" else []

@@ -11,22 +11,25 @@ ghost use Rattle.st_promises.specs.Safe.{IsAllPromised};
 ghost use Rattle.st_tank.specs.NodeEnds.{Completes, IsAttached, IsServed};
 ghost use Rattle.st_tank.specs.NodeWords as services;
 ghost use Rattle.st_tank.specs.NodeWords.{starts_node};
+ghost use Rattle.st_tank.specs.Scripts.{IsPlayed, played, status_scripted};
 ghost use Rattle.st_tank.specs.Status.{IsMade, status_in, status_made, status_of};
 ghost use Rattle.st_tank.specs.Words as words_of;
-ghost use Rattle.st_tank.specs.Words.{HasFew, OnMade, OnReplay, complaint};
+ghost use Rattle.st_tank.specs.Words.{HasFew, OnMade, OnReplay, OnScript, complaint};
+ghost use Rattle.st_tank.specs.declared.words.Command.TheVariants as commands;
 
 use crate::node_service::serve_node;
 use crate::node_words::{name_of, node_of};
-use crate::words::{Job, job_of};
+use crate::words::{Command, Job, job_of};
 use st_clock::Clock;
 use st_generate_run::WorkFault;
 use st_link::{Link, Sink, Source, put_all};
 use st_replay::{ReplayFault, Summary, World};
 use st_runs::{all_is_promised, schedules_run_safely};
+use st_script::ScriptFault;
 use std::alloc::Global;
 
 const USAGE: &[u8] =
-    b"usage: tank replay | generate N SEED | work N SEED | node server|client ID NAME\n";
+    b"usage: tank replay | generate N SEED | work N SEED | node server|client ID NAME | move | snap | shared\n";
 
 /// The status of a replay that ended so.
 fn status_after(ended: &Result<(Summary, World), ReplayFault>) -> u8
@@ -87,6 +90,66 @@ fn work<O: Sink>(alloc: Global, n: u32, seed: u64, out: &mut O) -> u8
     status_of_made(made)
 }
 
+/// The status of a script that ended so.
+fn status_of_script<T: Drop>(ended: Result<T, ScriptFault>) -> u8
+    ensures { result ≡ status_scripted ended }
+{
+    match ended {
+        Ok(_) => 0,
+        Err(ScriptFault::Line(_)) => 1,
+        Err(ScriptFault::Read) => 3,
+        Err(ScriptFault::Write) => 4,
+        Err(ScriptFault::Memory) => 5,
+    }
+}
+
+/// Plays a script of containers that move.
+#[tactic(auto, unfolding(crate::specs::Scripts::played))]
+fn move_containers<I: Source, O: Sink>(alloc: Global, input: &mut I, out: &mut O) -> u8
+    ensures { IsPlayed result (I.left input.old) (I.left input.new) (O.written out.old) (O.written out.new) (I.faults input.old) (I.faults input.new)
+        (O.faults out.old) (O.faults out.new) (played commands.Move) }
+{
+    let ended = st_script::move_containers(alloc, input, out);
+    status_of_script(ended)
+}
+
+/// Plays a script of a volume with images.
+#[tactic(auto, unfolding(crate::specs::Scripts::played))]
+fn snap<I: Source, O: Sink>(alloc: Global, input: &mut I, out: &mut O) -> u8
+    ensures { IsPlayed result (I.left input.old) (I.left input.new) (O.written out.old) (O.written out.new) (I.faults input.old) (I.faults input.new)
+        (O.faults out.old) (O.faults out.new) (played commands.Snap) }
+{
+    let ended = st_script::snap(alloc, input, out);
+    status_of_script(ended)
+}
+
+/// Plays a script of a shared file.
+#[tactic(auto, unfolding(crate::specs::Scripts::played))]
+fn shared<I: Source, O: Sink>(alloc: Global, input: &mut I, out: &mut O) -> u8
+    ensures { IsPlayed result (I.left input.old) (I.left input.new) (O.written out.old) (O.written out.new) (I.faults input.old) (I.faults input.new)
+        (O.faults out.old) (O.faults out.new) (played commands.Shared) }
+{
+    let ended = st_script::shared(alloc, input, out);
+    status_of_script(ended)
+}
+
+/// Plays a script.
+fn play_script<I: Source, O: Sink>(
+    alloc: Global,
+    command: Command,
+    input: &mut I,
+    out: &mut O,
+) -> u8
+    ensures { IsPlayed result (I.left input.old) (I.left input.new) (O.written out.old) (O.written out.new) (I.faults input.old) (I.faults input.new)
+        (O.faults out.old) (O.faults out.new) (played command) }
+{
+    match command {
+        Command::Move => move_containers(alloc, input, out),
+        Command::Snap => snap(alloc, input, out),
+        Command::Shared => shared(alloc, input, out),
+    }
+}
+
 /// Does what was asked for.
 fn run_job<I: Source, O: Sink>(alloc: Global, job: Job, input: &mut I, out: &mut O) -> u8
     requires few { HasFew job }
@@ -94,18 +157,23 @@ fn run_job<I: Source, O: Sink>(alloc: Global, job: Job, input: &mut I, out: &mut
         (result ≡ status_of (replay_of bytes).last) × Appends (O.written out.old) (O.written out.new) (report_of bytes))) }
     ensures prefix { OnReplay (Some job) (IfSome (I.left input.old) (λ bytes. AppendsPrefix (O.written out.old) (O.written out.new) (report_of bytes))) }
     ensures through { OnReplay (Some job) (result ≡ 0 → IsAtEnd (I.left input.new)) }
+    ensures played { OnScript (Some job) (λ c. result ≤ 1 → IfSome (I.left input.old) (λ bytes.
+        (result ≡ (played c bytes).status) × Appends (O.written out.old) (O.written out.new) (played c bytes).text)) }
+    ensures played_front { OnScript (Some job) (λ c. IfSome (I.left input.old) (λ bytes. AppendsPrefix (O.written out.old) (O.written out.new) (played c bytes).text)) }
+    ensures played_through { OnScript (Some job) (λ c. result ≡ 0 → IsAtEnd (I.left input.new)) }
     ensures made { OnMade (Some job) (λ text. (result ≤ 3 → (result ≡ 0) × Appends (O.written out.old) (O.written out.new) text)) }
     ensures front { OnMade (Some job) (λ text. AppendsPrefix (O.written out.old) (O.written out.new) text) }
     ensures alone { OnMade (Some job) (λ text. input.new ≡ input.old) }
     ensures still { result ≤ 1 → (I.faults input.new ≡ I.faults input.old) × (O.faults out.new ≡ O.faults out.old) }
     ensures read { result ≡ 3 → Rose (I.faults input.old) (I.faults input.new) }
-    ensures cut_off { result ≡ 3 → IsCutOff (I.left input.old) (I.left input.new) (O.written out.old) (O.written out.new) }
+    ensures cut_off { OnReplay (Some job) (result ≡ 3 → IsCutOff (I.left input.old) (I.left input.new) (O.written out.old) (O.written out.new)) }
     ensures write { result ≡ 4 → Rose (O.faults out.old) (O.faults out.new) }
     ensures other { ¬ (result ≡ 2) }
     ensures known { result ≤ 5 }
 {
     match job {
         Job::Replay => replay(alloc, input, out),
+        Job::Script(command) => play_script(alloc, command, input, out),
         Job::Generate(n, seed) => generate(alloc, n, seed, out),
         Job::Work(n, seed) => work(alloc, n, seed, out),
     }
@@ -168,12 +236,16 @@ fn run_told<I: Source, O: Sink, E: Sink>(
         (result ≡ status_of (replay_of bytes).last) × Appends (O.written out.old) (O.written out.new) (report_of bytes))) }
     ensures prefix { OnReplay (Some job) (IfSome (I.left input.old) (λ bytes. AppendsPrefix (O.written out.old) (O.written out.new) (report_of bytes))) }
     ensures through { OnReplay (Some job) (result ≡ 0 → IsAtEnd (I.left input.new)) }
+    ensures played { OnScript (Some job) (λ c. result ≤ 1 → IfSome (I.left input.old) (λ bytes.
+        (result ≡ (played c bytes).status) × Appends (O.written out.old) (O.written out.new) (played c bytes).text)) }
+    ensures played_front { OnScript (Some job) (λ c. IfSome (I.left input.old) (λ bytes. AppendsPrefix (O.written out.old) (O.written out.new) (played c bytes).text)) }
+    ensures played_through { OnScript (Some job) (λ c. result ≡ 0 → IsAtEnd (I.left input.new)) }
     ensures made { OnMade (Some job) (λ text. (result ≤ 3 → (result ≡ 0) × Appends (O.written out.old) (O.written out.new) text)) }
     ensures front { OnMade (Some job) (λ text. AppendsPrefix (O.written out.old) (O.written out.new) text) }
     ensures alone { OnMade (Some job) (λ text. input.new ≡ input.old) }
     ensures still { result ≤ 1 → (I.faults input.new ≡ I.faults input.old) × (O.faults out.new ≡ O.faults out.old) × (E.faults err.new ≡ E.faults err.old) }
     ensures read { result ≡ 3 → Rose (I.faults input.old) (I.faults input.new) }
-    ensures cut_off { result ≡ 3 → IsCutOff (I.left input.old) (I.left input.new) (O.written out.old) (O.written out.new) }
+    ensures cut_off { OnReplay (Some job) (result ≡ 3 → IsCutOff (I.left input.old) (I.left input.new) (O.written out.old) (O.written out.new)) }
     ensures write { result ≡ 4 → Rose (O.faults out.old) (O.faults out.new) }
     ensures other { ¬ (result ≡ 2) }
     ensures known { result ≤ 5 }
@@ -185,7 +257,7 @@ fn run_told<I: Source, O: Sink, E: Sink>(
     status
 }
 
-/// The words other than those of a node: a replay, a schedule that is made, or wrong words.
+/// The words other than those of a node: a replay, a script, a schedule that is made, or wrong words.
 fn run_words<I: Source, O: Sink, E: Sink>(
     alloc: Global,
     words: &[String],
@@ -203,6 +275,12 @@ fn run_words<I: Source, O: Sink, E: Sink>(
     ensures prefix { OnReplay (words_of.job_of words.now) (IfSome (I.left input.old) (λ bytes.
         AppendsPrefix (O.written out.old) (O.written out.new) (report_of bytes))) }
 
+    // Of a script: at 0 and 1 all its text was written, with that status, and at 0 all was read; at every status a front of the text was written.
+    ensures played { OnScript (words_of.job_of words.now) (λ c. result ≤ 1 → IfSome (I.left input.old) (λ bytes.
+        (result ≡ (played c bytes).status) × Appends (O.written out.old) (O.written out.new) (played c bytes).text)) }
+    ensures played_front { OnScript (words_of.job_of words.now) (λ c. IfSome (I.left input.old) (λ bytes. AppendsPrefix (O.written out.old) (O.written out.new) (played c bytes).text)) }
+    ensures played_through { OnScript (words_of.job_of words.now) (λ c. result ≡ 0 → IsAtEnd (I.left input.new)) }
+
     // Of `generate` and `work`: at 0 the whole text was written, 1 to 3 never come, and at every status a front of the text was written; no
     // input is taken.
     ensures made { OnMade (words_of.job_of words.now) (λ text. (result ≤ 3 → (result ≡ 0) × Appends (O.written out.old) (O.written out.new) text)) }
@@ -215,8 +293,8 @@ fn run_words<I: Source, O: Sink, E: Sink>(
     ensures usage { words_of.right words.now ≡ false → (result ≡ 2) ⊎ ((result ≡ 4) × Rose (E.faults err.old) (E.faults err.new)) }
     ensures unused { words_of.right words.now ≡ false → (input.new ≡ input.old) × (out.new ≡ out.old) }
     ensures read { result ≡ 3 → Rose (I.faults input.old) (I.faults input.new) }
-    // After a failed read the output has what was observed in the lines whose newlines were taken, and none of these is refused.
-    ensures cut_off { result ≡ 3 → IsCutOff (I.left input.old) (I.left input.new) (O.written out.old) (O.written out.new) }
+    // After a failed read of a schedule the output has what was observed in the lines whose newlines were taken, and none of these is refused.
+    ensures cut_off { OnReplay (words_of.job_of words.now) (result ≡ 3 → IsCutOff (I.left input.old) (I.left input.new) (O.written out.old) (O.written out.new)) }
     ensures write { result ≡ 4 → words_of.HasWriteCause (words_of.right words.now) (O.faults out.old) (O.faults out.new) (E.faults err.old) (E.faults err.new) }
 
     // The error sink gets the text of the status, all of it unless the sink failed.
@@ -230,8 +308,9 @@ fn run_words<I: Source, O: Sink, E: Sink>(
 }
 
 /// The program. With the one word `replay` it reads a schedule from `input` and writes the schedule's report to `out`; with
-/// `generate N SEED` it writes the schedule of that length and seed, and with `work N SEED` the last line of its report. It
-/// returns 0 where the schedule was read and run through its end, or the text was written; 1 where a line was refused, 3 for a
+/// `generate N SEED` it writes the schedule of that length and seed, and with `work N SEED` the last line of its report. With
+/// `move`, `snap` or `shared` it reads a script from `input` and writes its text to `out`. It
+/// returns 0 where the schedule or the script was read and run through its end, or the text was written; 1 where a line was refused, 3 for a
 /// failed read, 4 for a failed write, and 5 where memory ran out. With the words `node server ID NAME` or `node client ID NAME` it
 /// attaches `link` at NAME and serves that node over it, on the readings of `clock`: 0 where the stream ended at a frame's boundary,
 /// 1 where the run stopped, 5 where memory ran out, and 6 where the link failed. All other words are wrong: 2. Where the text of 1 or
@@ -255,6 +334,12 @@ pub fn run<I: Source, O: Sink, E: Sink, L: Link, C: Clock>(
     ensures prefix { OnReplay (words_of.job_of words.now) (IfSome (I.left input.old) (λ bytes.
         AppendsPrefix (O.written out.old) (O.written out.new) (report_of bytes))) }
 
+    // Of a script: at 0 and 1 all its text was written, with that status, and at 0 all was read; at every status a front of the text was written.
+    ensures played { OnScript (words_of.job_of words.now) (λ c. result ≤ 1 → IfSome (I.left input.old) (λ bytes.
+        (result ≡ (played c bytes).status) × Appends (O.written out.old) (O.written out.new) (played c bytes).text)) }
+    ensures played_front { OnScript (words_of.job_of words.now) (λ c. IfSome (I.left input.old) (λ bytes. AppendsPrefix (O.written out.old) (O.written out.new) (played c bytes).text)) }
+    ensures played_through { OnScript (words_of.job_of words.now) (λ c. result ≡ 0 → IsAtEnd (I.left input.new)) }
+
     // Of `generate` and `work`: at 0 the whole text was written, 1 to 3 never come, and at every status a front of the text was written; no
     // input is taken.
     ensures made { OnMade (words_of.job_of words.now) (λ text. (result ≤ 3 → (result ≡ 0) × Appends (O.written out.old) (O.written out.new) text)) }
@@ -268,8 +353,8 @@ pub fn run<I: Source, O: Sink, E: Sink, L: Link, C: Clock>(
         (result ≡ 2) ⊎ ((result ≡ 4) × Rose (E.faults err.old) (E.faults err.new)) }
     ensures unused { words_of.right words.now ≡ false → (input.new ≡ input.old) × (out.new ≡ out.old) }
     ensures read { result ≡ 3 → Rose (I.faults input.old) (I.faults input.new) }
-    // After a failed read the output has what was observed in the lines whose newlines were taken, and none of these is refused.
-    ensures cut_off { result ≡ 3 → IsCutOff (I.left input.old) (I.left input.new) (O.written out.old) (O.written out.new) }
+    // After a failed read of a schedule the output has what was observed in the lines whose newlines were taken, and none of these is refused.
+    ensures cut_off { OnReplay (words_of.job_of words.now) (result ≡ 3 → IsCutOff (I.left input.old) (I.left input.new) (O.written out.old) (O.written out.new)) }
     ensures write { result ≡ 4 → words_of.HasWriteCause (words_of.right words.now) (O.faults out.old) (O.faults out.new) (E.faults err.old) (E.faults err.new) }
 
     // The error sink gets the text of the status, all of it unless the sink failed; of a node it is another text.

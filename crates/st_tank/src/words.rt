@@ -7,6 +7,12 @@ use crate::numbers::number;
 
 const REPLAY: &[u8] = b"replay";
 
+const MOVE: &[u8] = b"move";
+
+const SNAP: &[u8] = b"snap";
+
+const SHARED: &[u8] = b"shared";
+
 const GENERATE: &[u8] = b"generate";
 
 const WORK: &[u8] = b"work";
@@ -14,22 +20,55 @@ const WORK: &[u8] = b"work";
 /// The most events of a schedule.
 const MOST_EVENTS: u64 = 100_000;
 
-/// What a call is to do: to replay a schedule, or to write the text or the counts of the one that a length and a seed give.
+/// The commands that play a script.
+#[derive(Clone, Copy, Debug, PartialEq, Eq)]
+pub(crate) enum Command {
+    Move,
+    Snap,
+    Shared,
+}
+
+/// What a call is to do: to replay a schedule, to play a script, or to write the text or the counts of the schedule that a length and a seed give.
 #[derive(Clone, Copy, Debug, PartialEq, Eq)]
 pub(crate) enum Job {
     Replay,
+    Script(Command),
     Generate(u32, u64),
     Work(u32, u64),
 }
 
-fn replayed(word: &[u8]) -> Option<Job>
-    ensures exact { result ≡ words_of.replayed word.now }
+fn command_in(word: &[u8]) -> Option<Command>
+    ensures { result ≡ words_of.command_in word.now }
+{
+    if word == MOVE {
+        Some(Command::Move)
+    } else if word == SNAP {
+        Some(Command::Snap)
+    } else if word == SHARED {
+        Some(Command::Shared)
+    } else {
+        None
+    }
+}
+
+fn scripted(word: &[u8]) -> Option<Job>
+    ensures exact { result ≡ words_of.scripted (words_of.command_in word.now) }
+    ensures few { IfSome result HasFew }
+{
+    match command_in(word) {
+        Some(command) => Some(Job::Script(command)),
+        None => None,
+    }
+}
+
+fn alone(word: &[u8]) -> Option<Job>
+    ensures exact { result ≡ words_of.alone word.now }
     ensures few { IfSome result HasFew }
 {
     if word == REPLAY {
         Some(Job::Replay)
     } else {
-        None
+        scripted(word)
     }
 }
 
@@ -66,7 +105,7 @@ pub(crate) fn job_of(words: &[String]) -> Option<Job>
     ensures few { IfSome result HasFew }
 {
     match words {
-        [word] => replayed(word.as_bytes()),
+        [word] => alone(word.as_bytes()),
         [word, n, seed] => numbered(word.as_bytes(), n.as_bytes(), seed.as_bytes()),
         _ => None,
     }

@@ -7,8 +7,9 @@ use Rattle.st_runs.proofs.Known.{if_known}
 use Rattle.st_runs.specs.Replay.{replay_of, report_of}
 use Rattle.st_tank.specs.NodeEnds.{Completes, IsAttached, IsServed}
 use Rattle.st_tank.specs.NodeWords.{name_in, node_of}
+use Rattle.st_tank.specs.Scripts.{played}
 use Rattle.st_tank.specs.Status.{status_of}
-use Rattle.st_tank.proofs.Nodes.{no_job, none_is, not_three, nothing_made, nothing_replayed, some_is}
+use Rattle.st_tank.proofs.Nodes.{no_job, none_is, not_three, nothing_made, nothing_replayed, nothing_scripted, some_is}
 use Rattle.st_tank.proofs.program.run.Goals as goal
 
 pub returns-in-Some-clause-safe : goal.returns-in-Some-clause-safe
@@ -45,7 +46,23 @@ pub returns-in-Some-clause-read : goal.returns-in-Some-clause-read
 returns-in-Some-clause-read g c = not_three c.serve_node.result _ c.serve_node.ensures.others
 
 pub returns-in-Some-clause-cut_off : goal.returns-in-Some-clause-cut_off
-returns-in-Some-clause-cut_off g c = not_three c.serve_node.result (IsCutOff (g.I.Source.left c.args.input.now) (g.I.Source.left c.args.input.now) (g.O.Sink.written c.args.out.now) (g.O.Sink.written c.args.out.now)) c.serve_node.ensures.others
+returns-in-Some-clause-cut_off g c =
+    nothing_replayed (map string_bytes c.args.words.now) c.in-Some.id (c.serve_node.result ≡ 3 → IsCutOff (g.I.Source.left c.args.input.now) (g.I.Source.left c.args.input.now)
+    (g.O.Sink.written c.args.out.now) (g.O.Sink.written c.args.out.now)) c.in-Some.ensures.exact
+
+pub returns-in-Some-clause-played : goal.returns-in-Some-clause-played
+returns-in-Some-clause-played g c =
+    nothing_scripted (map string_bytes c.args.words.now) c.in-Some.id (λ command. c.serve_node.result ≤ 1 → IfSome (g.I.Source.left c.args.input.now) (λ bytes.
+    (c.serve_node.result ≡ (played command bytes).status) × Appends (g.O.Sink.written c.args.out.now) (g.O.Sink.written c.args.out.now) (played command bytes).text)) c.in-Some.ensures.exact
+
+pub returns-in-Some-clause-played_front : goal.returns-in-Some-clause-played_front
+returns-in-Some-clause-played_front g c =
+    nothing_scripted (map string_bytes c.args.words.now) c.in-Some.id (λ command. IfSome (g.I.Source.left c.args.input.now) (λ bytes.
+    AppendsPrefix (g.O.Sink.written c.args.out.now) (g.O.Sink.written c.args.out.now) (played command bytes).text)) c.in-Some.ensures.exact
+
+pub returns-in-Some-clause-played_through : goal.returns-in-Some-clause-played_through
+returns-in-Some-clause-played_through g c =
+    nothing_scripted (map string_bytes c.args.words.now) c.in-Some.id (λ command. c.serve_node.result ≡ 0 → IsAtEnd (g.I.Source.left c.args.input.now)) c.in-Some.ensures.exact
 
 pub returns-in-Some-clause-write : goal.returns-in-Some-clause-write
 returns-in-Some-clause-write g c = λ four. inr (subst (λ j. is_some j ≡ false) (sym (no_job (map string_bytes c.args.words.now) c.in-Some.id c.in-Some.ensures.exact)) refl, c.serve_node.ensures.write four)
