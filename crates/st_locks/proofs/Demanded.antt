@@ -1,7 +1,7 @@
 -- What a demanding pass leaves: of each row in the way of a first waiter a mode is demanded that is low enough.
 use Rattle.std.proofs.Common.{◌≡◌, ℕ, zero, suc, ◌+◌, add-one, drop, get_or, ◌⊎◌, Bool, true, false, cond, if◌then◌else◌, List, [], ◌∷◌, map, filter, ◌<◌, ◌≤◌, refl, sym, ap, subst, ◌∙◌, ⊎_elim, inl, inr, true≢false, arith, eq-eqb}
 use Rattle.std.specs.Bool.{Decides, OnTrue}
-use Rattle.std.specs.Prelude.{find, is_some, not, IfSome, OnOk, Result, Ok, Err, Option, Some, None, option_map, nat_eq, nat_le, length, ◌==◌, ◌&&◌, ◌||◌}
+use Rattle.std.specs.Prelude.{find, is_some, not, IfSome, OnOk, Result, Ok, Err, Option, Some, None, option_map, nat_le, length, ◌==◌, ◌&&◌, ◌||◌}
 use Rattle.std.specs.List.{list_any}
 use Rattle.std.proofs.lemmas.Bool.{cases_Bool, and_parts, and_from, eqb-true, ltb-true, ltb-false, le-ltb, leb-true, leb-false, lt-leb}
 use Rattle.st_base.specs.declared.ids.ClientId.{ClientId}

@@ -110,7 +110,7 @@ module _ (l : Locks) (c : ClientId) where
       kept true y = refl
       kept false y = refl
 
-  alone_have : (k : ℕ) → has k (map ino_of_wait (filter (waits_alone l.rows c) l.waiters)) ≡ has k (map ino_of_wait (filter (is_wait_by c) l.waiters)) && not (is_some (find (is_row_of c k) l.rows))
+  pub alone_have : (k : ℕ) → has k (map ino_of_wait (filter (waits_alone l.rows c) l.waiters)) ≡ has k (map ino_of_wait (filter (is_wait_by c) l.waiters)) && not (is_some (find (is_row_of c k) l.rows))
   alone_have k =
       any_map_filter ino_of_wait (waits_alone l.rows c) k l.waiters
       ∙ any_same (λ w. waits_alone l.rows c w && (w.ino == k)) (λ w. (is_wait_by c w && (w.ino == k)) && not (is_some (find (is_row_of c k) l.rows))) l.waiters (λ w. alone_at (is_some (find (is_row_of c k) l.rows)) k w refl)

@@ -1,8 +1,8 @@
 -- What was found among rows or waits.
 use Rattle.std.proofs.Common.{◌≡◌, ℕ, suc, ◌+◌, ◌-◌, ◌<◌, ◌≤◌, Bool, true, false, cond, if◌then◌else◌, List, [], ◌∷◌, ◌++◌, map, filter, length, take, get_or, refl, sym, ap, ◌∙◌, ⊎_elim, true≢false, arith, lt-ltb, le-ltb}
-use Rattle.std.specs.Prelude.{find, filter_map, option_to_list, Option, Some, None, nat_lt, ◌==◌, ◌&&◌, ◌||◌}
+use Rattle.std.specs.Prelude.{find, filter_map, not, option_to_list, Option, Some, None, nat_lt, ◌==◌, ◌&&◌, ◌||◌}
 use Rattle.std.specs.List.{IsDistinct, list_all, list_any, cons_option}
-use Rattle.std.proofs.lemmas.Bool.{cases_lt, and_parts, eqb-true}
+use Rattle.std.proofs.lemmas.Bool.{cases_lt, and_parts, eqb-true, or_parts}
 use Rattle.std.proofs.lemmas.List.{take_more}
 use Rattle.std.proofs.lemmas.List.Elements.{filter_map-append}
 use Rattle.st_base.specs.declared.ids.ClientId.{ClientId}
@@ -13,6 +13,10 @@ use Rattle.st_rules.specs.declared.locks.Waiter.{Waiter}
 use Rattle.st_rules.specs.Locks.{is_row_of, is_wait_of, observe, answered_row}
 use Rattle.st_tables.specs.Tables.{lock_key, same_key}
 use Rattle.st_tables.proofs.Places.{at_found, any_at_key}
+
+not_so : (b : Bool) → (b ≡ true → ⊥) → b ≡ false
+not_so true h = absurd (h refl)
+not_so false h = refl
 
 module _ {A : Type 0} where
   some_counted : (b d : Bool) (x : A) (xs : List A) → nat_lt 0 (length xs) ≡ d → nat_lt 0 (length (cond b (x ∷ xs) xs)) ≡ b || d
@@ -41,6 +45,24 @@ module _ {A : Type 0} where
   pub none_changed : (q : A → Bool) (f : A → A) (xs : List A) → list_any q xs ≡ false → map (λ r. if q r then f r else r) xs ≡ xs
   none_changed q f [] h = refl
   none_changed q f (x ∷ xs) h = unseen_by q f x xs (q x) (none_changed q f xs) h
+
+  module _ (p q : A → Bool) (h : (x : A) → q x ≡ true → p x ≡ true) where
+    not_one : (x : A) → p x ≡ false → q x ≡ false
+    not_one x e = not_so (q x) (λ s. true≢false (sym (h x s) ∙ e))
+
+    -- where none passes a weaker test, all stay
+    pub all_stay : (xs : List A) → list_any p xs ≡ false → filter (λ x. not (q x)) xs ≡ xs
+    all_stay [] e = refl
+    all_stay (x ∷ xs) e =
+        let a = or_parts (p x) (list_any p xs) e in
+        ap (λ b. cond (not b) (x ∷ filter (λ x. not (q x)) xs) (filter (λ x. not (q x)) xs)) (not_one x a.0) ∙ ap (λ l. x ∷ l) (all_stay xs a.1)
+
+    -- and none is found
+    pub none_found : (xs : List A) → list_any p xs ≡ false → find q xs ≡ None
+    none_found [] e = refl
+    none_found (x ∷ xs) e =
+        let a = or_parts (p x) (list_any p xs) e in
+        ap (λ b. cond b (Some x) (find q xs)) (not_one x a.0) ∙ none_found xs a.1
 
   pub filter_true : (xs : List A) → filter (λ x. true) xs ≡ xs
   filter_true [] = refl

@@ -9,5 +9,7 @@ pub mod Overdue
 pub mod Sound
 pub mod Settled
 pub mod Demanded
+pub mod Rests
 pub mod Walks
+pub mod AloneFiles
 pub mod Moments

@@ -33,7 +33,7 @@ rising_step : (x : ℕ) (ys : List ℕ) (b : Bool) → AllByRecursion (λ z. x <
 rising_step x ys true a r = (a, r)
 rising_step x ys false a r = r
 
-rising_filter : (t : ℕ → Bool) (xs : List ℕ) → IsRising xs → IsRising (filter t xs)
+pub rising_filter : (t : ℕ → Bool) (xs : List ℕ) → IsRising xs → IsRising (filter t xs)
 rising_filter t [] r = tt
 rising_filter t (x ∷ xs) r = rising_step x (filter t xs) (t x) (above_filter t x xs r.0) (rising_filter t xs r.1)
 
@@ -49,7 +49,7 @@ keep_step t k x ys false rest e h = h ∙ no (x == k) rest (λ s. ap t (sym (eqb
     no true r f = ap (λ z. z && r) (f refl) ∙ sym (ap (λ z. z && true) (f refl))
     no false r f = refl
 
-has_filter : (t : ℕ → Bool) (k : ℕ) (xs : List ℕ) → has k (filter t xs) ≡ t k && has k xs
+pub has_filter : (t : ℕ → Bool) (k : ℕ) (xs : List ℕ) → has k (filter t xs) ≡ t k && has k xs
 has_filter t k [] = none (t k)
   where
     none : (b : Bool) → false ≡ b && false
@@ -57,7 +57,7 @@ has_filter t k [] = none (t k)
     none false = refl
 has_filter t k (x ∷ xs) = keep_step t k x (filter t xs) (t x) (has k xs) refl (has_filter t k xs)
 
-and_turn : (a b : Bool) → a && b ≡ b && a
+pub and_turn : (a b : Bool) → a && b ≡ b && a
 and_turn true true = refl
 and_turn true false = refl
 and_turn false true = refl

@@ -50,9 +50,13 @@ pub record IsSound (epoch : Epoch) (grants : ℕ) (rows : List LockRow) (waits :
   pub locked : list_all is_locked rows ≡ true
   pub wanted : list_all is_wanted waits ≡ true
 
+-- the client has no row of the file
+abbrev pub has_no_row : List LockRow → ClientId → ℕ → Bool
+has_no_row rows c ino = not (is_some (find (is_row_of c ino) rows))
+
 -- a wait of the client for a file of which it has no row
 abbrev pub waits_alone : List LockRow → ClientId → Waiter → Bool
-waits_alone rows c w = is_wait_by c w && not (is_some (find (is_row_of c w.ino) rows))
+waits_alone rows c w = is_wait_by c w && has_no_row rows c w.ino
 
 -- a row as it is told
 abbrev pub told : Option LockRow → Option (GrantNo × Mode)

@@ -6,12 +6,13 @@ use Rattle.std.specs.Ordering.{nat_cmp, ordering_then}
 use Rattle.st_base.specs.declared.config.Config.{Config}
 use Rattle.st_base.specs.declared.ids.Stamp.{Stamp}
 use Rattle.st_base.specs.declared.ids.ClientId.{ClientId}
+use Rattle.st_base.specs.declared.ids.GrantNo.{GrantNo}
 use Rattle.st_base.specs.declared.mode.Mode.{Mode}
 use Rattle.st_rules.specs.declared.locks.LockRow.{LockRow}
 use Rattle.st_rules.specs.declared.locks.RowDemand.{RowDemand}
 use Rattle.st_rules.specs.declared.locks.Waiter.{Waiter}
 use Rattle.st_rules.specs.Keys.{rising, same_client}
-use Rattle.st_rules.specs.Locks.{Locks, is_among, is_below, is_wait_on, next_waiter, row_of, stands_against, wish}
+use Rattle.st_rules.specs.Locks.{Locks, is_among, is_below, is_row_of, is_wait_of, is_wait_on, next_waiter, row_of, stands_against, waits_besides, wish}
 
 -- marked files: all, or those of a list
 pub record Marked : Type 0 where
@@ -22,9 +23,13 @@ pub record Marked : Type 0 where
 abbrev pub is_marked : Marked → ℕ → Bool
 is_marked m ino = m.all || list_any (λ k. k == ino) m.files
 
+-- the files that pass are marked too; others may be
+abbrev pub MarksAll : (ℕ → Bool) → Marked → Marked → Type 0
+MarksAll passes old new = (j : ℕ) → is_marked new j ≡ false → (is_marked old j ≡ false) × (passes j ≡ false)
+
 -- one file is marked too; others may be
 abbrev pub Marks : ℕ → Marked → Marked → Type 0
-Marks ino old new = (j : ℕ) → is_marked new j ≡ false → (is_marked old j ≡ false) × ((ino == j) ≡ false)
+Marks ino old new = MarksAll (λ j. ino == j) old new
 
 -- no file is marked
 abbrev pub IsClear : Marked → Type 0
@@ -109,6 +114,34 @@ AreTimed ms l besides ino = EachInWay l besides ino (λ w d. is_timed ms ino d)
 -- the file is one of these
 abbrev pub is_one_of : List ℕ → ℕ → Bool
 is_one_of files j = list_any (λ k. k == j) files
+
+-- somebody waits for the file
+abbrev pub is_waited : Locks → ℕ → Bool
+is_waited l ino = list_any (is_wait_on ino) l.waiters
+
+-- another client waits for the file
+abbrev pub is_waited_besides : Locks → ClientId → ℕ → Bool
+is_waited_besides l c ino = list_any (waits_besides c ino) l.waiters
+
+-- the file is one of these, and another client waits for it
+abbrev pub is_wanted_of : Locks → ClientId → List ℕ → ℕ → Bool
+is_wanted_of l c files j = is_one_of files j && is_waited_besides l c j
+
+-- the client has a row of the file, and another client waits for it
+abbrev pub is_held_up : Locks → ClientId → ℕ → Bool
+is_held_up l c j = list_any (is_row_of c j) l.rows && is_waited_besides l c j
+
+-- the client waits for the file, and so does another client
+abbrev pub is_shared_wait : Locks → ClientId → ℕ → Bool
+is_shared_wait l c j = list_any (is_wait_of c j) l.waiters && is_waited_besides l c j
+
+-- the file is one of those of these rows
+abbrev pub is_file_of : List (ℕ × GrantNo × Mode) → ℕ → Bool
+is_file_of rows j = list_any (λ r. r.0 == j) rows
+
+-- the file is marked too, where somebody waits for it
+abbrev pub MarksWaited : Locks → ℕ → Marked → Marked → Type 0
+MarksWaited l ino old new = MarksAll (λ j. is_waited l ino && (ino == j)) old new
 
 -- all files are timed, where those that were not walked were
 abbrev pub Times : List ClientId → (ℕ → Bool) → Locks → Moments → Locks → Moments → Type 0

@@ -67,14 +67,17 @@ impl PlainTable {
         requires free { list_any (locks.stands_against client row.0 row.2) self.old.rows ≡ false }
         ensures { OnOk result (self.new ≡ with_one self.old (locks.installed client life row)) }
     {
-        self.rows.put(LockRow {
-            ino: row.0,
-            client,
-            life,
-            g: row.1,
-            mode: row.2,
-            demand: None,
-        })?;
+        self.rows.put(
+            LockRow {
+                ino: row.0,
+                client,
+                life,
+                g: row.1,
+                mode: row.2,
+                demand: None,
+            },
+            None,
+        )?;
         Ok(())
     }
 

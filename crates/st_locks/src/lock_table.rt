@@ -9,7 +9,7 @@ ghost use Rattle.st_rules.specs.ServerInvariants.{IsLockTable};
 ghost use Rattle.st_locks.specs.Since.{IsClient, is_since, since_of, wait_order};
 ghost use Rattle.st_locks.specs.Calls.{Answers, Installs, demanding, file_demanded, file_granted, granting, is_lock, is_lock_row, is_old_row, is_row_from, same_file, told};
 
-use crate::parts::{Parts, walked};
+use crate::parts::{Parts, touch_locks, touch_rows, touch_waited, touch_waits, walked};
 use crate::passes::{Pass, Sent};
 use crate::refusal::LockRefusal;
 use crate::since::Unanswered;
@@ -124,9 +124,14 @@ impl LockTable {
         ensures { Answers self.old self.new result (locks.acquire self.old client life ino mode grants) }
     {
         self.reserve()?;
-        self.parts.granting.touch(ino);
-        self.parts.demanding.touch(ino);
-        self.parts.table.acquire(client, life, ino, mode, grants)
+        let verdict = self.parts.table.acquire(client, life, ino, mode, grants);
+        touch_waited(
+            &self.parts.table,
+            &mut self.parts.granting,
+            &mut self.parts.demanding,
+            ino,
+        );
+        verdict
     }
 
     /// Whether one more lock may be granted in this epoch.
@@ -172,17 +177,28 @@ impl LockTable {
         requires earlier { list_all (is_old_row self.old.epoch) rows.now ≡ true }
         ensures { Installs self.old self.new result (locks.install self.old client life rows.now) }
     {
-        self.parts.granting.touch_all();
-        self.parts.demanding.touch_all();
-        self.parts.table.install(client, life, rows)
+        match self.parts.table.install(client, life, rows) {
+            Ok(()) => {
+                touch_rows(&self.parts.table, &mut self.parts.granting, rows);
+                touch_rows(&self.parts.table, &mut self.parts.demanding, rows);
+                Ok(())
+            }
+            Err(refusal) => {
+                self.parts.granting.touch_all();
+                self.parts.demanding.touch_all();
+                Err(refusal)
+            }
+        }
     }
 
     /// All rows and waits of the client go.
     pub fn forget(&mut self, client: ClientId)
         ensures { self.new ≡ locks.forget self.old client }
     {
-        self.parts.granting.touch_all();
-        self.parts.demanding.touch_all();
+        touch_locks(&self.parts.table, &mut self.parts.granting, client);
+        touch_waits(&self.parts.table, &mut self.parts.granting, client);
+        touch_locks(&self.parts.table, &mut self.parts.demanding, client);
+        touch_waits(&self.parts.table, &mut self.parts.demanding, client);
         self.parts.table.forget(client);
     }
 
@@ -190,8 +206,8 @@ impl LockTable {
     pub fn drop_waits(&mut self, client: ClientId)
         ensures { self.new ≡ locks.drop_waits self.old client }
     {
-        self.parts.granting.touch_all();
-        self.parts.demanding.touch_all();
+        touch_waits(&self.parts.table, &mut self.parts.granting, client);
+        touch_waits(&self.parts.table, &mut self.parts.demanding, client);
         self.parts.table.drop_waits(client);
     }
 
@@ -199,8 +215,6 @@ impl LockTable {
     pub fn drop_file_waits(&mut self, ino: u32)
         ensures { self.new ≡ locks.drop_file_waits self.old ino }
     {
-        self.parts.granting.touch(ino);
-        self.parts.demanding.touch(ino);
         self.parts.table.drop_file_waits(ino);
     }
 
@@ -208,18 +222,27 @@ impl LockTable {
     pub fn released(&mut self, client: ClientId, life: Life, ino: u32, g: GrantNo, to: Mode) -> bool
         ensures { locks.released self.old client life ino g to ≡ record { locks = self.new; found = result } }
     {
-        self.parts.granting.touch(ino);
-        self.parts.demanding.touch(ino);
-        self.parts.table.released(client, life, ino, g, to)
+        let found = self.parts.table.released(client, life, ino, g, to);
+        touch_waited(
+            &self.parts.table,
+            &mut self.parts.granting,
+            &mut self.parts.demanding,
+            ino,
+        );
+        found
     }
 
     /// The demand on the client's row of the file and grant number waits for no answer.
     pub fn answered(&mut self, client: ClientId, ino: u32, g: GrantNo)
         ensures { self.new ≡ locks.demand_seen self.old client ino g }
     {
-        self.parts.granting.touch(ino);
-        self.parts.demanding.touch(ino);
         self.parts.table.answered(client, ino, g);
+        touch_waited(
+            &self.parts.table,
+            &mut self.parts.granting,
+            &mut self.parts.demanding,
+            ino,
+        );
     }
 
     /// The grants of one file.

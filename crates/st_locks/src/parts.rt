@@ -1,15 +1,15 @@
 // A lock table with what its passes keep: which files were touched, and when they look at files again.
-ghost use Rattle.std.specs.Prelude.{◌≡◌, IfOk, OnOk};
+ghost use Rattle.std.specs.Prelude.{◌≡◌, ◌&&◌, IfOk, OnOk};
 ghost use Rattle.std.specs.Bool.{OnTrue};
 ghost use Rattle.st_rules.specs.Locks as locks;
 ghost use Rattle.st_locks.specs.Calls.{demanding};
-ghost use Rattle.st_locks.specs.Settled.{Heeds, IsSettled, walked};
+ghost use Rattle.st_locks.specs.Settled.{Heeds, IsSettled, MarksAll, MarksWaited, is_file_of, is_held_up, is_shared_wait, is_waited, is_wanted_of, walked};
 
 use crate::passes::{Pass, Sent};
 use crate::table::PlainTable;
 use crate::touched::Touched;
 use crate::waking::Waking;
-use st_base::ClientId;
+use st_base::{ClientId, GrantNo, Mode};
 use std::alloc::AllocError;
 
 /// A lock table; the files that calls touched since each pass; when the demanding pass looks at files again; and the clients of
@@ -58,6 +58,53 @@ fn heed(
         besides.extend_from_slice(suspects)?;
         Ok(())
     }
+}
+
+/// The file was touched, where somebody waits for it.
+pub(crate) fn touch_waited(
+    table: &PlainTable,
+    granting: &mut Touched,
+    demanding: &mut Touched,
+    ino: u32,
+)
+    ensures granting { MarksWaited table.now ino granting.old granting.new }
+    ensures demanding { MarksWaited table.now ino demanding.old demanding.new }
+{
+    let waited = table.is_waited(ino);
+    granting.touch_if(ino, waited);
+    demanding.touch_if(ino, waited);
+}
+
+/// The files of some rows were touched, where somebody waits for them.
+pub(crate) fn touch_rows(table: &PlainTable, marks: &mut Touched, rows: &[(u32, GrantNo, Mode)])
+    ensures { MarksAll (λ j. is_file_of rows.now j && is_waited table.now j) marks.old marks.new }
+{
+    for row in rows {
+        marks.touch_if(row.0, table.is_waited(row.0));
+    }
+}
+
+/// Files of a client were touched, where another client waits for them.
+pub(crate) fn touch_files(table: &PlainTable, marks: &mut Touched, client: ClientId, files: &[u32])
+    ensures { MarksAll (is_wanted_of table.now client files.now) marks.old marks.new }
+{
+    for ino in files {
+        marks.touch_if(*ino, table.is_waited_besides(client, *ino));
+    }
+}
+
+/// The files of which the client has a row were touched, where another client waits for them.
+pub(crate) fn touch_locks(table: &PlainTable, marks: &mut Touched, client: ClientId)
+    ensures { MarksAll (is_held_up table.now client) marks.old marks.new }
+{
+    touch_files(table, marks, client, table.row_files(client));
+}
+
+/// The files for which the client waits were touched, where another client waits for them too.
+pub(crate) fn touch_waits(table: &PlainTable, marks: &mut Touched, client: ClientId)
+    ensures { MarksAll (is_shared_wait table.now client) marks.old marks.new }
+{
+    touch_files(table, marks, client, table.wait_files(client));
 }
 
 impl Parts {

@@ -150,7 +150,8 @@ impl PlainTable {
         ensures { OnOk result (granting self.new granted.new.items ≡ locks.grant_waiter (granting self.old granted.old.items) w) }
     {
         let g = self.next_grant();
-        self.grant(w.client, w.life, w.ino, w.mode)?;
+        let old = self.row_at(w.client, w.ino);
+        self.grant(w.client, w.life, w.ino, w.mode, old)?;
         granted.push((w.client, w.life, w.ino, g, w.mode))?;
         Ok(())
     }

@@ -114,9 +114,9 @@ impl PlainTable {
         ensures { self.new ≡ locks.release_to self.old client ino to }
     {
         match to {
-            Mode::None => self.rows.remove(client, ino),
-            Mode::S => self.rows.change(lowered(row)),
-            Mode::X => self.rows.change(lowered(row)),
+            Mode::None => self.rows.remove(client, ino, row),
+            Mode::S => self.rows.change(lowered(row), row),
+            Mode::X => self.rows.change(lowered(row), row),
         }
     }
 
@@ -146,7 +146,7 @@ impl PlainTable {
         let _rows = self.rows.len();
         if let Some(row) = self.row_at(client, ino) {
             if row.g.0 == g.0 {
-                self.rows.change(seen(row));
+                self.rows.change(seen(row), row);
             }
         }
     }

@@ -1,5 +1,5 @@
 // The lock rows: by client and file, counted by client, and those that wait for an answer by the moment.
-ghost use Rattle.std.specs.Prelude.{◌≡◌, ◌<◌, ◌^◌, ◌&&◌, ◌==◌, ℕ, [], IfOk, IfSome, OnOk, OnErr, None, Some, find, filter, map, not, length, if◌then◌else◌, true, false, slice_index_or};
+ghost use Rattle.std.specs.Prelude.{◌≡◌, ◌<◌, ◌^◌, ◌&&◌, ◌==◌, ℕ, [], IfOk, IfSome, OnOk, OnErr, None, Some, find, filter, is_some, map, not, length, if◌then◌else◌, true, false, slice_index_or};
 ghost use Rattle.std.specs.List.{IsDistinct, list_all, list_any};
 ghost use Rattle.std.specs.BTreeSet.{contains};
 ghost use Rattle.st_base.specs.declared.ids.ClientId.{ClientId};
@@ -10,6 +10,7 @@ ghost use Rattle.st_rules.specs.Keys as keys;
 ghost use Rattle.st_rules.specs.Locks as locks;
 ghost use Rattle.st_tables.specs.Tables.{Changes, is_of_client, lock_key, same_key};
 ghost use Rattle.st_locks.specs.Calls.{clients_of, is_row_from};
+ghost use Rattle.st_locks.specs.Settled.{is_one_of};
 ghost use Rattle.st_locks.specs.Since.{AreListed, IsClient, KeepsSince, since_of, since_of_demand};
 
 use crate::since::{Unanswered, forget, overdue, put_in, take_out};
@@ -155,6 +156,13 @@ impl Rows {
         self.table.get(key(client, ino)).copied()
     }
 
+    /// Whether the client has a row of the file.
+    pub fn holds(&self, client: ClientId, ino: u32) -> bool
+        ensures { result ≡ is_some (find (locks.is_row_of client ino) self.now) }
+    {
+        self.table.holds(key(client, ino))
+    }
+
     /// The demands that wait for an answer: since when, of which file, of which client.
     pub fn by_since(&self) -> &BTreeSet<Unanswered>
         ensures { AreListed self.now result.now }
@@ -162,36 +170,36 @@ impl Rows {
         &self.since
     }
 
-    /// Puts a row without a demand in place of its client's row of the file.
-    pub fn put(&mut self, row: LockRow) -> Result<(), AllocError>
+    /// Puts a row without a demand in place of its client's row of the file, which is this one.
+    pub fn put(&mut self, row: LockRow, old: Option<LockRow>) -> Result<(), AllocError>
         requires client { IsClient row.client }
         requires fresh { row.demand ≡ None }
+        requires found { find (locks.is_row_of row.client row.ino) self.old ≡ old }
         ensures ok { OnOk result (self.new ≡ locks.with_row row self.old) }
         ensures err { OnErr result (self.new ≡ self.old) }
     {
-        let old = self.table.get(key(row.client, row.ino)).copied();
         self.table.put(row)?;
         take_out(&mut self.since, since_of(old), row.ino, row.client);
         Ok(())
     }
 
-    /// Takes out the client's row of the file.
-    pub fn remove(&mut self, client: ClientId, ino: u32)
+    /// Takes out the client's row of the file, which is this one.
+    pub fn remove(&mut self, client: ClientId, ino: u32, old: LockRow)
+        requires { find (locks.is_row_of client ino) self.old ≡ Some old }
         ensures { self.new ≡ locks.without_row client ino self.old }
     {
-        let old = self.table.get(key(client, ino)).copied();
         self.table.remove(key(client, ino));
-        take_out(&mut self.since, since_of(old), ino, client);
+        take_out(&mut self.since, since_of(Some(old)), ino, client);
     }
 
-    /// Writes a row that waits for no answer over its client's row of the file, where it has one.
-    pub fn change(&mut self, row: LockRow)
-        requires { since_of_demand row.demand ≡ None }
+    /// Writes a row that waits for no answer over its client's row of the file, which is this one.
+    pub fn change(&mut self, row: LockRow, old: LockRow)
+        requires quiet { since_of_demand row.demand ≡ None }
+        requires found { find (locks.is_row_of row.client row.ino) self.old ≡ Some old }
         ensures { Changes lock_key row self.old self.new }
     {
-        let old = self.table.get(key(row.client, row.ino)).copied();
         self.table.change(row);
-        take_out(&mut self.since, since_of(old), row.ino, row.client);
+        take_out(&mut self.since, since_of(Some(old)), row.ino, row.client);
     }
 
     /// Writes a row over its client's row of the file, which has waited for an answer since the same moment or does not wait.
@@ -226,11 +234,35 @@ impl Rows {
         self.table.any_on(ino, &Against { client, mode })
     }
 
-    /// Whether this holder's row of the file, if it has one, conflicts with another client's mode.
-    pub fn is_against(&self, client: ClientId, ino: u32, mode: Mode, holder: ClientId) -> bool
+    /// The clients with a row of the file, in the order of the rows.
+    pub fn queue(&self, ino: u32) -> &[u32]
+        ensures { result.now ≡ map locks.client_of_row (filter (locks.is_row_on ino) self.now) }
+    {
+        self.table.queue(ino)
+    }
+
+    /// The files of the client's rows.
+    pub fn numbers(&self, client: ClientId) -> &[u32]
+        ensures { (i : ℕ) → is_one_of result.now i ≡ list_any (locks.is_row_of client i) self.now }
+    {
+        self.table.numbers(client)
+    }
+
+    /// Whether this holder's row of the file, if it has one, conflicts with another client's mode. The holders are those of the
+    /// file.
+    pub fn is_against(
+        &self,
+        holders: &[u32],
+        client: ClientId,
+        ino: u32,
+        mode: Mode,
+        holder: ClientId,
+    ) -> bool
+        requires { holders.now ≡ map locks.client_of_row (filter (locks.is_row_on ino) self.now) }
         ensures { result ≡ list_any (λ r. locks.is_row_of holder ino r && (not (keys.same_client r.client client) && conflicts r.mode mode)) self.now }
     {
-        self.table.has(key(holder, ino), &Against { client, mode })
+        self.table
+            .has_in(holders, key(holder, ino), &Against { client, mode })
     }
 
     /// The other clients whose rows of the file conflict with the mode, in rising order.

@@ -1,5 +1,5 @@
 // The lock table: look-ups, and what acquires a lock.
-ghost use Rattle.std.specs.Prelude.{◌≡◌, ◌≤◌, ◌<◌, ◌+◌, ◌^◌, ◌++◌, ◌∷◌, ◌&&◌, ◌||◌, [], ℕ, IfOk, IfSome, OnOk, OnErr, Some, find, filter, map, not, length, slice_get, None, false, true, nat_lt, nat_le, ◌==◌, if◌then◌else◌};
+ghost use Rattle.std.specs.Prelude.{◌≡◌, ◌≤◌, ◌<◌, ◌+◌, ◌^◌, ◌++◌, ◌∷◌, ◌&&◌, ◌||◌, [], ℕ, IfOk, IfSome, OnOk, OnErr, Some, find, filter, map, not, length, slice_get, None, false, is_some, true, nat_lt, nat_le, ◌==◌, if◌then◌else◌};
 ghost use Rattle.std.specs.List.{IsDistinct, list_any};
 ghost use Rattle.std.specs.Option.{option_copied, option_map, option_to_list};
 ghost use Rattle.st_rules.specs.Keys as keys;
@@ -9,7 +9,8 @@ ghost use Rattle.std.specs.BTreeSet.{contains};
 ghost use Rattle.st_base.specs.declared.ids.ClientId.{ClientId};
 ghost use Rattle.st_base.specs.declared.ids.Stamp.{Stamp};
 ghost use Rattle.st_locks.specs.Since.{IsClient, is_since, since_of, wait_order};
-ghost use Rattle.st_locks.specs.Calls.{Answers, Gives, Installs, demanding, granting, is_lock, is_row_from, same_file, told, with_one};
+ghost use Rattle.st_locks.specs.Calls.{Answers, Gives, Installs, demanding, granting, has_no_row, is_lock, is_row_from, same_file, told, with_one};
+ghost use Rattle.st_locks.specs.Settled.{is_one_of, is_waited, is_waited_besides};
 
 use crate::refusal::LockRefusal;
 use crate::rows::{Rows, key};
@@ -62,21 +63,44 @@ impl Test<Waiter> for Besides {
     }
 }
 
-/// The waits of a client for files of which it has no row.
-#[derive(Clone, Copy)]
-pub(crate) struct Alone<'a> {
-    pub(crate) client: ClientId,
-    pub(crate) rows: &'a Rows,
+/// Whether the client waits for the file.
+fn is_waiting(waits: &ClientTable<Waiter>, client: ClientId, ino: u32) -> bool
+    ensures { result ≡ is_some (find (locks.is_wait_of client ino) waits.now) }
+{
+    if waits.count(client) > 0 {
+        waits.holds(key(client, ino))
+    } else {
+        false
+    }
 }
 
-impl<'a> Test<Waiter> for Alone<'a> {
-    ghost use Rattle.st_locks.specs.Calls.{waits_alone};
-
-    ghost passes = { λ t w. waits_alone t.rows.now t.client w };
-
-    fn test(&self, wait: &Waiter) -> bool {
-        wait.client.0 == self.client.0 && self.rows.get(self.client, wait.ino).is_none()
+/// The client's wait for the file goes, if there is one.
+fn remove_wait(waits: &mut ClientTable<Waiter>, client: ClientId, ino: u32)
+    ensures { waits.new ≡ locks.without_wait client ino waits.old }
+{
+    if waits.count(client) > 0 {
+        waits.remove(key(client, ino));
     }
+}
+
+/// One more, where it is so.
+fn one_more(count: u64, so: bool) -> u64
+    requires { count + 1 < 2 ^ 64 }
+    ensures more { result ≡ count + (if so then 1 else 0) }
+    ensures few { result ≤ count + 1 }
+{
+    if so { count + 1 } else { count }
+}
+
+/// How many of these files the client has no row of.
+fn count_alone(rows: &Rows, client: ClientId, files: &[u32]) -> u64
+    ensures { result ≡ length (filter (has_no_row rows.now client) files.now) }
+{
+    let mut count = 0u64;
+    for ino in files {
+        count = one_more(count, !rows.holds(client, *ino));
+    }
+    count
 }
 
 /// The greater of two modes.
@@ -210,7 +234,7 @@ impl PlainTable {
         GrantNo(self.epoch.0 * 4294967296 + self.grants + 1)
     }
 
-    /// The client gets a lock.
+    /// The client gets a lock in place of this one, if it has one of the file.
     #[tactic(auto, unfolding(st_rules::specs::Locks::grant))]
     pub(crate) fn grant(
         &mut self,
@@ -218,24 +242,29 @@ impl PlainTable {
         life: Life,
         ino: u32,
         mode: Mode,
+        old: Option<LockRow>,
     ) -> Result<(), AllocError>
         requires client { IsClient client }
         requires room { self.old.grants + 1 < 2 ^ 32 }
+        requires found { locks.row_of self.old client ino ≡ old }
         requires lock { is_lock mode ≡ true }
         requires free { list_any (locks.stands_against client ino mode) self.old.rows ≡ false }
         ensures ok { OnOk result (self.new ≡ locks.grant self.old client life ino mode) }
         ensures err { OnErr result (self.new ≡ self.old) }
     {
         let g = self.next_grant();
-        self.rows.put(LockRow {
-            ino,
-            client,
-            life,
-            g,
-            mode,
-            demand: None,
-        })?;
-        self.waits.remove(key(client, ino));
+        self.rows.put(
+            LockRow {
+                ino,
+                client,
+                life,
+                g,
+                mode,
+                demand: None,
+            },
+            old,
+        )?;
+        remove_wait(&mut self.waits, client, ino);
         self.grants += 1;
         Ok(())
     }
@@ -284,15 +313,17 @@ impl PlainTable {
         life: Life,
         ino: u32,
         mode: Mode,
+        old: Option<LockRow>,
     ) -> Result<Verdict, LockRefusal>
         requires client { IsClient client }
         requires room { self.old.grants + 1 < 2 ^ 32 }
+        requires found { locks.row_of self.old client ino ≡ old }
         requires lock { is_lock mode ≡ true }
         requires free { list_any (locks.stands_against client ino mode) self.old.rows ≡ false }
         ensures { Gives self.old self.new result (locks.acquire_granted self.old client life ino mode) }
     {
         let g = self.next_grant();
-        self.grant(client, life, ino, mode)?;
+        self.grant(client, life, ino, mode, old)?;
         Ok(Verdict::Granted(g, mode))
     }
 
@@ -307,11 +338,15 @@ impl PlainTable {
     {
         let _rows = self.rows.len();
         let _waits = self.waits.len();
+        let waiting = self.waits.queue(ino);
+        let holding = self.rows.queue(ino);
         let mut found = Vec::new(self.alloc);
         for i in 0..16u16 {
             let other = ClientId(i + 1);
-            let waits = self.waits.has(key(other, ino), &Besides { client });
-            let holds = self.rows.is_against(client, ino, mode, other);
+            let waits = self
+                .waits
+                .has_in(waiting, key(other, ino), &Besides { client });
+            let holds = self.rows.is_against(holding, client, ino, mode, other);
             push_if(&mut found, other, either(waits, holds))?;
         }
         Ok(found)
@@ -350,21 +385,23 @@ impl PlainTable {
         ino: u32,
         mode: Mode,
         grants: bool,
+        old: Option<LockRow>,
     ) -> Result<Verdict, LockRefusal>
         requires client { IsClient client }
         requires room { self.old.grants + 1 < 2 ^ 32 }
+        requires found { locks.row_of self.old client ino ≡ old }
         requires lock { is_lock mode ≡ true }
         ensures { Gives self.old self.new result (locks.acquire_more self.old client life ino mode grants) }
     {
         if self.may_grant(client, ino, mode, grants) {
-            self.acquire_granted(client, life, ino, mode)
+            self.acquire_granted(client, life, ino, mode, old)
         } else {
             self.acquire_queued(client, life, ino, mode)
         }
     }
 
-    /// The client has rows or waits on fewer than 1,024 files. It is counted only where it has fewer rows and has waits that
-    /// could make up the number.
+    /// The client has rows or waits on fewer than 1,024 files. Its waits are looked at only where it has fewer rows, and waits
+    /// that could make up the number.
     fn has_few(&self, client: ClientId) -> Result<bool, AllocError>
         ensures { IfOk result (λ few. few ≡ nat_lt (length (locks.files_of self.now client)) 1024) }
     {
@@ -377,18 +414,14 @@ impl PlainTable {
         if self.waits.count(client) < 1024 - rows {
             return Ok(true);
         }
-        let alone = Alone {
-            client,
-            rows: &self.rows,
-        };
-        let files = self.waits.seconds(self.alloc, &alone)?;
-        Ok((files.len() as u64) < 1024 - rows)
+        let files = self.waits.seconds_of(self.alloc, client)?;
+        Ok(count_alone(&self.rows, client, files.as_slice()) < 1024 - rows)
     }
 
     fn has_place(&self, client: ClientId, ino: u32) -> Result<bool, AllocError>
         ensures { IfOk result (λ has. has ≡ locks.has_place self.now client ino) }
     {
-        if self.waits.holds(key(client, ino)) {
+        if is_waiting(&self.waits, client, ino) {
             Ok(true)
         } else {
             self.has_few(client)
@@ -406,11 +439,12 @@ impl PlainTable {
     ) -> Result<Verdict, LockRefusal>
         requires client { IsClient client }
         requires room { self.old.grants + 1 < 2 ^ 32 }
+        requires none { locks.row_of self.old client ino ≡ None }
         requires lock { is_lock mode ≡ true }
         ensures { Answers self.old self.new result (locks.acquire_new self.old client life ino mode grants) }
     {
         if self.has_place(client, ino)? {
-            self.acquire_more(client, life, ino, mode, grants)
+            self.acquire_more(client, life, ino, mode, grants, None)
         } else {
             Err(LockRefusal::TooManyLocks)
         }
@@ -428,13 +462,14 @@ impl PlainTable {
     ) -> Result<Verdict, LockRefusal>
         requires client { IsClient client }
         requires room { self.old.grants + 1 < 2 ^ 32 }
+        requires found { locks.row_of self.old client ino ≡ Some row }
         requires lock { is_lock mode ≡ true }
         ensures { Gives self.old self.new result (locks.acquire_over self.old client life ino mode grants row) }
     {
         if row.mode.covers(mode) {
             Ok(Verdict::Granted(row.g, row.mode))
         } else {
-            self.acquire_more(client, life, ino, mode, grants)
+            self.acquire_more(client, life, ino, mode, grants, Some(row))
         }
     }
 
@@ -502,6 +537,34 @@ impl PlainTable {
             push_row(&mut found, *ino, self.row_at(client, *ino))?;
         }
         Ok(found)
+    }
+
+    /// Whether somebody waits for the file.
+    pub(crate) fn is_waited(&self, ino: u32) -> bool
+        ensures { result ≡ is_waited self.now ino }
+    {
+        !self.waits.queue(ino).is_empty()
+    }
+
+    /// Whether another client waits for the file.
+    pub(crate) fn is_waited_besides(&self, client: ClientId, ino: u32) -> bool
+        ensures { result ≡ is_waited_besides self.now client ino }
+    {
+        self.waits.any_on(ino, &Besides { client })
+    }
+
+    /// The files of which the client has rows.
+    pub(crate) fn row_files(&self, client: ClientId) -> &[u32]
+        ensures { (i : ℕ) → is_one_of result.now i ≡ list_any (locks.is_row_of client i) self.now.rows }
+    {
+        self.rows.numbers(client)
+    }
+
+    /// The files for which the client waits.
+    pub(crate) fn wait_files(&self, client: ClientId) -> &[u32]
+        ensures { (i : ℕ) → is_one_of result.now i ≡ list_any (locks.is_wait_of client i) self.now.waiters }
+    {
+        self.waits.numbers(client)
     }
 
     /// The files for which somebody waits, in rising order.

@@ -1,8 +1,8 @@
 // The files that were touched since a pass last walked them.
-ghost use Rattle.std.specs.Prelude.{◌≡◌, ◌==◌, ◌<◌, ◌-◌, ℕ, IfOk, false};
+ghost use Rattle.std.specs.Prelude.{◌≡◌, ◌==◌, ◌&&◌, ◌<◌, ◌-◌, ℕ, IfOk, false};
 ghost use Rattle.std.specs.List.{list_any};
 ghost use Rattle.st_rules.specs.Keys as keys;
-ghost use Rattle.st_locks.specs.Settled.{IsClear, IsFull, Marks, is_marked};
+ghost use Rattle.st_locks.specs.Settled.{IsClear, IsFull, Marks, MarksAll, is_marked};
 
 use st_tables::put_key;
 use std::alloc::{AllocError, Global};
@@ -119,6 +119,15 @@ impl Touched {
     {
         if !self.has(ino) {
             self.keep_few(ino);
+        }
+    }
+
+    /// The file was touched, where this is so.
+    pub fn touch_if(&mut self, ino: u32, yes: bool)
+        ensures { MarksAll (λ j. yes && (ino == j)) self.old self.new }
+    {
+        if yes {
+            self.touch(ino);
         }
     }
 

@@ -1,9 +1,10 @@
 use Rattle.std.proofs.Common.{sym, subst}
-use Rattle.st_locks.proofs.Settled.{SameOn, kept, same_dropped}
+use Rattle.st_rules.specs.Locks.{Locks}
+use Rattle.st_locks.specs.Settled.{IsSettled}
+use Rattle.st_locks.proofs.Rests.{kept_dropped}
 use Rattle.st_locks.proofs.lock_table.LockTable.drop_file_waits.Goals as goal
 
 pub invariant_of-self : goal.invariant_of-self
 invariant_of-self c =
-    kept c.self.inside.parts.table c.drop_file_waits.new.self c.args.ino c.self.inside.parts.granting c.self.inside.parts.demanding c.touch.new.self c.touch-2.new.self c.self.inside.parts.waking c.self.inside.parts.besides.items c.self.invariant
-    (λ j n. subst (SameOn j c.self.inside.parts.table) (sym c.drop_file_waits.ensures) (same_dropped c.self.inside.parts.table c.args.ino j n))
-    c.touch.ensures c.touch-2.ensures
+    subst (λ (m : Locks). IsSettled m c.self.inside.parts.granting c.self.inside.parts.demanding c.self.inside.parts.waking c.self.inside.parts.besides.items) (sym c.drop_file_waits.ensures)
+    (kept_dropped c.self.inside.parts.table c.args.ino c.self.inside.parts.granting c.self.inside.parts.demanding c.self.inside.parts.waking c.self.inside.parts.besides.items c.self.invariant)

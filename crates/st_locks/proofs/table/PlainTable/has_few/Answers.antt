@@ -1,9 +1,10 @@
 use Rattle.std.proofs.Common.{◌≡◌, ◌+◌, ◌∙◌, sym, ap, arith, length, filter, lt-ltb, le-ltb}
 use Rattle.std.specs.Prelude.{nat_lt}
 use Rattle.st_rules.specs.Locks.{Locks, files_of, is_row_by}
-use Rattle.st_locks.specs.Calls.{waits_alone}
+use Rattle.st_locks.specs.Calls.{has_no_row, waits_alone}
 use Rattle.st_locks.proofs.Found.{lt_shift}
-use Rattle.st_locks.proofs.Files.{files_counted, alone_counted, fewer_alone}
+use Rattle.st_locks.proofs.AloneFiles.{alone_among}
+use Rattle.st_locks.proofs.Files.{files_counted, fewer_alone}
 use Rattle.st_locks.proofs.table.PlainTable.has_few.Goals as goal
 
 pub returns-then-rows-ge1024 : goal.returns-then-rows-ge1024
@@ -22,6 +23,6 @@ pub returns : goal.returns
 returns c =
     let l : Locks = record { epoch = c.self.inside.epoch; grants = c.self.inside.grants; rows = c.self.inside.rows; waiters = c.self.inside.waits } in
     let n : length (files_of l c.args.client) ≡ length (filter (is_row_by c.args.client) l.rows) + length (filter (waits_alone l.rows c.args.client) l.waiters) = files_counted l c.args.client c.len-rows.ensures.distinct c.len-waits.ensures.distinct in
-    let m : length c.in_ok-files.files.items ≡ length (filter (waits_alone l.rows c.args.client) l.waiters) = ap length c.in_ok-files.ensures ∙ alone_counted l c.args.client c.len-rows.ensures.distinct c.len-waits.ensures.distinct in
-    let k : c.count-rows.result + c.len.result ≡ length (files_of l c.args.client) = omega (arith, n, m, c.count-rows.ensures, c.len.ensures, c.in_ok-files.files.ok.0) in
-    rw (← c.self.view_is) (lt_shift c.len.result c.count-rows.result (omega (arith, c.if-rows-ge1024.false)) ∙ ap (λ x. nat_lt x 1024) k)
+    let m : length (filter (has_no_row l.rows c.args.client) c.as_slice.result.now) ≡ length (filter (waits_alone l.rows c.args.client) l.waiters) = ap (λ fs. length (filter (has_no_row l.rows c.args.client) fs)) (c.as_slice.ensures.value ∙ c.in_ok-files.ensures) ∙ alone_among l c.args.client c.len-rows.ensures.distinct c.len-waits.ensures.distinct in
+    let k : c.count-rows.result + c.count_alone.result ≡ length (files_of l c.args.client) = omega (arith, n, m, c.count-rows.ensures, c.count_alone.ensures) in
+    rw (← c.self.view_is) (lt_shift c.count_alone.result c.count-rows.result (omega (arith, c.if-rows-ge1024.false)) ∙ ap (λ x. nat_lt x 1024) k)

@@ -11,7 +11,7 @@ pub loop-i-preserved : goal.loop-i-preserved
 loop-i-preserved c =
     c.in_ok-push_if.ensures
     ∙ (λ j. c.loop-i.invariant j
-    ++ (if (c.either.ensures ∙ (λ k. (c.has-waits.ensures ∙ ap (λ x. list_any (λ w. has_key wait_key x w && besides c.args.client w) c.self.inside.waits) c.key.ensures) k || c.is_against-holds.ensures k)) j then client (c.loop-i.i + 1) ∷ [] else []))
+    ++ (if (c.either.ensures ∙ (λ k. (c.has_in-waits.ensures ∙ ap (λ x. list_any (λ w. has_key wait_key x w && besides c.args.client w) c.self.inside.waits) c.key.ensures) k || c.is_against-holds.ensures k)) j then client (c.loop-i.i + 1) ∷ [] else []))
     ∙ sym (probe_more (in_way c.args.client c.args.ino c.args.mode c.self.inside.rows c.self.inside.waits) c.loop-i.i)
 
 pub returns : goal.returns

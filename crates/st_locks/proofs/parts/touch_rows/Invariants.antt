@@ -1,0 +1,7 @@
+use Rattle.std.proofs.Common.{take}
+use Rattle.std.specs.Prelude.{◌&&◌}
+use Rattle.st_locks.specs.Settled.{MarksAll, is_file_of, is_waited}
+use Rattle.st_locks.proofs.parts.touch_rows.Given as goal
+
+abbrev pub invariant-loop-row : goal.invariant-loop-row
+invariant-loop-row l = MarksAll (λ j. is_file_of (take l.row-index l.rows) j && is_waited l.table j) l.fn.marks l.marks
