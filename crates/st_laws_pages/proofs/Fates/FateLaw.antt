@@ -23,7 +23,7 @@ use Rattle.st_rules.specs.Client as cl
 use Rattle.st_rules.specs.ClientLease as lease
 use Rattle.st_rules.specs.ClientState.{Association, is_at}
 use Rattle.st_rules.specs.World as world
-use Rattle.st_rules.specs.World.{World, ClientSite, numbered, with_numbered, site_of, clock_of, is_life_of, ended_of, end_or_present, life_of_association, lives_of}
+use Rattle.st_rules.specs.World.{World, ClientSite, numbered, with_numbered, site_of, clock_of, is_life_of, ended_of, end_or_present, lease_end_of, life_of_association, lives_of}
 use Rattle.st_rules.specs.Events as ev
 use Rattle.st_rules.specs.Events.{client_says_all, present_lives}
 use Rattle.st_lemmas.specs.Lists.{Has}
@@ -139,9 +139,16 @@ pending_fewer P n picked cause (e ∷ es) h = go (picked n e.of) (pending_fewer 
     go true r = record { one = λ q. absurd (never (cause e.of.file e.of.page) e.fate q); rest = r }
     go false r = record { one = h.one; rest = r }
 
+-- a life that is known, and none of those that ended, is the association's
+pub known_life : (w : World) (c : ClientId) (site : ClientSite) → site_of w c ≡ Some site → (o : LogOwner) (a : Association) → find (is_at o.file.server) site.node.state.associations ≡ Some a → o.client.0 ≡ c.0 → ended_of w o.client o.file.server o.life ≡ None →
+    IsKnown w.clients w.ended o.client o.file.server o.life → a.life.0 ≡ o.life.0
+known_life w c site there o a f i n (inl (e, z)) = absurd (no_option e (sym n ∙ z))
+known_life w c site there o a f i n (inr z) = ap (λ x. (world.life_at x).0) (sym f) ∙ ap (λ x. (ev.life_of_site o.file.server x).0) (sym there) ∙ ap (λ j. (ev.life_of_site o.file.server (numbered w.clients j)).0) (sym i) ∙ z
+
 -- Crash: the client's lives end with the ends that they had.
-pub crash_before : (w : World) (c : ClientId) (site : ClientSite) → site_of w c ≡ Some site → LivesHold w → (o : LogOwner) → IsKnown w.clients w.ended o.client o.file.server o.life → BeforeEnd w o → BeforeEnd (ev.with_site c (ev.stopped_site site) (ev.with_crashed_lives site w)) o
-crash_before w c site there h o kn b = go (ended_of w o.client o.file.server o.life) refl (same_or_not o.client.0 c.0)
+pub end_crashed : (w : World) (c : ClientId) (site : ClientSite) → site_of w c ≡ Some site → LivesHold w → (o : LogOwner) → IsKnown w.clients w.ended o.client o.file.server o.life → (end : Stamp) → lease_end_of w o.client o.file.server o.life ≡ Some end →
+    lease_end_of (ev.with_site c (ev.stopped_site site) (ev.with_crashed_lives site w)) o.client o.file.server o.life ≡ Some end
+end_crashed w c site there h o kn end is = go (ended_of w o.client o.file.server o.life) refl (same_or_not o.client.0 c.0)
   where
     v : World
     v = ev.with_site c (ev.stopped_site site) (ev.with_crashed_lives site w)
@@ -156,43 +163,30 @@ crash_before w c site there h o kn b = go (ended_of w o.client o.file.server o.l
     m = h.lives.sites c site there
 
     -- the row of the client's own life
-    own : (a : Option Association) → find (is_at o.file.server) site.node.state.associations ≡ a → o.client.0 ≡ c.0 → find p w.ended ≡ None → lease.end_at site.node.state.config (cl.lease_at a) ≡ Some b.end → BeforeEnd v o
-    own None f i n q = absurd (no_option b.end q)
+    own : (a : Option Association) → find (is_at o.file.server) site.node.state.associations ≡ a → o.client.0 ≡ c.0 → find p w.ended ≡ None → lease.end_at site.node.state.config (cl.lease_at a) ≡ Some end → lease_end_of v o.client o.file.server o.life ≡ Some end
+    own None f i n q = absurd (no_option end q)
     own (Some a) f i n q =
-        record {
-          end = b.end;
-          is =
-              ap (end_or_present v o.client o.file.server)
-              (find_back p w.ended rows n ∙ ap (λ z. find p (map ev.crashed_life (map (life_of_association site.node.state.config z) site.node.state.associations))) (m.id ∙ ap (λ j. record { 0 = j }) (sym i))
-              ∙ rows_own site.node.state.config o.client o.file.server o.life site.node.state.associations a f life) ∙ q;
-          before = b.before;
-        }
-      where
-        life : a.life.0 ≡ o.life.0
-        life = at kn
-          where
-            at : IsKnown w.clients w.ended o.client o.file.server o.life → a.life.0 ≡ o.life.0
-            at (inl (e, z)) = absurd (no_option e (sym n ∙ z))
-            at (inr z) = ap (λ x. (world.life_at x).0) (sym f) ∙ ap (λ x. (ev.life_of_site o.file.server x).0) (sym there) ∙ ap (λ j. (ev.life_of_site o.file.server (numbered w.clients j)).0) (sym i) ∙ z
+        ap (end_or_present v o.client o.file.server)
+        (find_back p w.ended rows n ∙ ap (λ z. find p (map ev.crashed_life (map (life_of_association site.node.state.config z) site.node.state.associations))) (m.id ∙ ap (λ j. record { 0 = j }) (sym i))
+        ∙ rows_own site.node.state.config o.client o.file.server o.life site.node.state.associations a f (known_life w c site there o a f i n kn)) ∙ q
 
-    go : (x : Option LeaseLife) → ended_of w o.client o.file.server o.life ≡ x → (o.client.0 ≡ c.0) ⊎ (o.client.0 ≢ c.0) → BeforeEnd v o
-    go (Some e) q i = record { end = b.end; is = ap (end_or_present v o.client o.file.server) (find_front p w.ended rows e q) ∙ ap (end_or_present w o.client o.file.server) (sym q) ∙ b.is; before = b.before }
+    go : (x : Option LeaseLife) → ended_of w o.client o.file.server o.life ≡ x → (o.client.0 ≡ c.0) ⊎ (o.client.0 ≢ c.0) → lease_end_of v o.client o.file.server o.life ≡ Some end
+    go (Some e) q i = ap (end_or_present v o.client o.file.server) (find_front p w.ended rows e q) ∙ ap (end_or_present w o.client o.file.server) (sym q) ∙ is
     go None q (inl i) =
         own (find (is_at o.file.server) site.node.state.associations) refl i q
-        (ap (world.present_end w o.file.server) (sym there) ∙ ap (λ j. world.present_end w o.file.server (numbered w.clients j)) (sym i) ∙ ap (end_or_present w o.client o.file.server) (sym q) ∙ b.is)
+        (ap (world.present_end w o.file.server) (sym there) ∙ ap (λ j. world.present_end w o.file.server (numbered w.clients j)) (sym i) ∙ ap (end_or_present w o.client o.file.server) (sym q) ∙ is)
     go None q (inr i) =
-        record {
-          end = b.end;
-          is =
-              ap (end_or_present v o.client o.file.server)
-              (find_back p w.ended rows q ∙ rows_other site.node.state.config site.node.state.id o.client o.file.server o.life site.node.state.associations (ap (λ z. same_client z o.client) m.id ∙ ne_eqb c.0 o.client.0 (λ z. i (sym z))))
-              ∙ ap (world.present_end w o.file.server) (numbered_other w.clients c.0 o.client.0 (ev.stopped_site site) (numbered_below w.clients c.0 site there).0 i) ∙ ap (end_or_present w o.client o.file.server) (sym q) ∙ b.is;
-          before = b.before;
-        }
+        ap (end_or_present v o.client o.file.server)
+        (find_back p w.ended rows q ∙ rows_other site.node.state.config site.node.state.id o.client o.file.server o.life site.node.state.associations (ap (λ z. same_client z o.client) m.id ∙ ne_eqb c.0 o.client.0 (λ z. i (sym z))))
+        ∙ ap (world.present_end w o.file.server) (numbered_other w.clients c.0 o.client.0 (ev.stopped_site site) (numbered_below w.clients c.0 site there).0 i) ∙ ap (end_or_present w o.client o.file.server) (sym q) ∙ is
 
--- Start: what is pending of a client that does not run is of lives that ended.
-pub start_before : (w : World) (c : ClientId) (site : ClientSite) → site_of w c ≡ Some site → site.node.running ≡ false → LivesHold w → (o : LogOwner) → BeforeEnd w o → BeforeEnd (ev.with_site c (ev.started_site site) w) o
-start_before w c site there r h o b = go (ended_of w o.client o.file.server o.life) refl (same_or_not o.client.0 c.0)
+pub crash_before : (w : World) (c : ClientId) (site : ClientSite) → site_of w c ≡ Some site → LivesHold w → (o : LogOwner) → IsKnown w.clients w.ended o.client o.file.server o.life → BeforeEnd w o → BeforeEnd (ev.with_site c (ev.stopped_site site) (ev.with_crashed_lives site w)) o
+crash_before w c site there h o kn b = record { end = b.end; is = end_crashed w c site there h o kn b.end b.is; before = b.before }
+
+-- Start: a client that does not run has no session, so each end is of a life that ended, or of another client.
+pub end_started : (w : World) (c : ClientId) (site : ClientSite) → site_of w c ≡ Some site → site.node.running ≡ false → LivesHold w → (o : LogOwner) (end : Stamp) → lease_end_of w o.client o.file.server o.life ≡ Some end →
+    lease_end_of (ev.with_site c (ev.started_site site) w) o.client o.file.server o.life ≡ Some end
+end_started w c site there r h o end is = go (ended_of w o.client o.file.server o.life) refl (same_or_not o.client.0 c.0)
   where
     v : World
     v = ev.with_site c (ev.started_site site) w
@@ -201,18 +195,16 @@ start_before w c site there r h o b = go (ended_of w o.client o.file.server o.li
     none None e = refl
     none (Some a) e = ap (option_map cl.lease_of_session) ((h.lives.sites c site there).stopped r a (found_has o.file.server site.node.state.associations a e).0).session
 
-    go : (x : Option LeaseLife) → ended_of w o.client o.file.server o.life ≡ x → (o.client.0 ≡ c.0) ⊎ (o.client.0 ≢ c.0) → BeforeEnd v o
-    go (Some e) q i = record { end = b.end; is = ap (end_or_present v o.client o.file.server) q ∙ ap (end_or_present w o.client o.file.server) (sym q) ∙ b.is; before = b.before }
+    go : (x : Option LeaseLife) → ended_of w o.client o.file.server o.life ≡ x → (o.client.0 ≡ c.0) ⊎ (o.client.0 ≢ c.0) → lease_end_of v o.client o.file.server o.life ≡ Some end
+    go (Some e) q i = ap (end_or_present v o.client o.file.server) q ∙ ap (end_or_present w o.client o.file.server) (sym q) ∙ is
     go None q (inl i) =
-        absurd (no_option b.end
+        absurd (no_option end
         (ap (lease.end_at site.node.state.config) (sym (none (find (is_at o.file.server) site.node.state.associations) refl)) ∙ ap (world.present_end w o.file.server) (sym there) ∙ ap (λ j. world.present_end w o.file.server (numbered w.clients j)) (sym i)
-        ∙ ap (end_or_present w o.client o.file.server) (sym q) ∙ b.is))
-    go None q (inr i) =
-        record {
-          end = b.end;
-          is = ap (end_or_present v o.client o.file.server) q ∙ ap (world.present_end w o.file.server) (numbered_other w.clients c.0 o.client.0 (ev.started_site site) (numbered_below w.clients c.0 site there).0 i) ∙ ap (end_or_present w o.client o.file.server) (sym q) ∙ b.is;
-          before = b.before;
-        }
+        ∙ ap (end_or_present w o.client o.file.server) (sym q) ∙ is))
+    go None q (inr i) = ap (end_or_present v o.client o.file.server) q ∙ ap (world.present_end w o.file.server) (numbered_other w.clients c.0 o.client.0 (ev.started_site site) (numbered_below w.clients c.0 site there).0 i) ∙ ap (end_or_present w o.client o.file.server) (sym q) ∙ is
+
+pub start_before : (w : World) (c : ClientId) (site : ClientSite) → site_of w c ≡ Some site → site.node.running ≡ false → LivesHold w → (o : LogOwner) → BeforeEnd w o → BeforeEnd (ev.with_site c (ev.started_site site) w) o
+start_before w c site there r h o b = record { end = b.end; is = end_started w c site there r h o b.end b.is; before = b.before }
 
 -- Advance: the life of what is pending is among those that are looked at.
 pub pending_known : (P Q : LogOwner → Type 0) (es : List LogEntry) → ((o : LogOwner) → Has o (map owner_of es) → P o → Q o) → PendingAll P es → PendingAll Q es

@@ -39,10 +39,11 @@ use Rattle.st_laws_pages.specs.Disks.World.{EndsAt}
 use Rattle.st_laws_pages.specs.Fates.Fates.{PendingAll, BeforeEnd, FatesAreKept, GoneAll, IsCrashed, IsLate, GoneHold}
 use Rattle.st_laws_steps.specs.Client.Losses.{is_ended}
 use Rattle.st_laws_steps.specs.Lives.Lives.{ended_rows, rows_lost, Stepped, clock_in, IsKnown, NodeHolds, owner_of, LivesHold}
-use Rattle.st_laws_pages.proofs.Lives.Lives.{find_front, find_back, rows_own, rows_other}
+use Rattle.st_laws_pages.proofs.Lives.Lives.{find_front, find_back, rows_own}
 use Rattle.st_laws_pages.proofs.Disks.Moves.{clock_up, clock_is}
 use Rattle.st_laws_steps.proofs.Lives.Associations.{found_has, lost_found, lost_other}
 use Rattle.st_laws_pages.proofs.Lives.NodeTurns.{row_is}
+use Rattle.st_laws_pages.proofs.Fates.FateLaw.{end_crashed, end_started, known_life}
 use Rattle.st_laws_pages.proofs.Lives.Turning.{Said, says_lives}
 use Rattle.st_laws_pages.proofs.Lives.Lasting.{Flushed, flush_parts, no_option, end_one}
 use Rattle.st_laws_steps.proofs.Clash.{clash}
@@ -125,11 +126,7 @@ module _ (w v : World) (c : ClientId) (old site : ClientSite) (there : site_of w
           over = ap (is_ended old.node.state.config (clock_in w.clocks c)) e ∙ le-leb (lease.end_of old.node.state.config s.lease).0 (clock_in w.clocks c).0 (subst (λ (z : Stamp). z.0 ≤ (clock_in w.clocks c).0) (sym (inj _ x.end q)) (subst (λ d. x.end.0 ≤ (clock_in w.clocks d).0) (sym id) x.late))
 
           life : a.life.0 ≡ o.life.0
-          life = at kn
-            where
-              at : IsKnown w.clients w.ended o.client o.file.server o.life → a.life.0 ≡ o.life.0
-              at (inl (e, z)) = absurd (no_option e (sym n ∙ z))
-              at (inr z) = ap (λ y. (world.life_at y).0) (sym f) ∙ ap (λ y. (ev.life_of_site o.file.server y).0) (sym there) ∙ ap (λ j. (ev.life_of_site o.file.server (numbered w.clients j)).0) (sym i) ∙ z
+          life = known_life w c old there o a f i n kn
 
       by_place : (a : Option Association) → find (is_at o.file.server) old.node.state.associations ≡ a → o.client.0 ≡ c.0 → ended_of w o.client o.file.server o.life ≡ None → lease.end_at old.node.state.config (cl.lease_at a) ≡ Some x.end → IsLate v o
       by_place None f i n q = absurd (no_option x.end q)
@@ -297,69 +294,27 @@ crash_over w c site there h o kn x = go (ended_of w o.client o.file.server o.lif
           row = ev.crashed_life (life_of_association site.node.state.config o.client a);
           is =
               find_back p w.ended rows n ∙ ap (λ z. find p (map ev.crashed_life (map (life_of_association site.node.state.config z) site.node.state.associations))) (m.id ∙ ap (λ j. record { 0 = j }) (sym i))
-              ∙ rows_own site.node.state.config o.client o.file.server o.life site.node.state.associations a f life;
+              ∙ rows_own site.node.state.config o.client o.file.server o.life site.node.state.associations a f (known_life w c site there o a f i n kn);
           crashed = refl;
         })
-      where
-        life : a.life.0 ≡ o.life.0
-        life = at kn
-          where
-            at : IsKnown w.clients w.ended o.client o.file.server o.life → a.life.0 ≡ o.life.0
-            at (inl (e, z)) = absurd (no_option e (sym n ∙ z))
-            at (inr z) = ap (λ x. (world.life_at x).0) (sym f) ∙ ap (λ x. (ev.life_of_site o.file.server x).0) (sym there) ∙ ap (λ j. (ev.life_of_site o.file.server (numbered w.clients j)).0) (sym i) ∙ z
 
     present : o.client.0 ≡ c.0 → find p w.ended ≡ None → (end : Stamp) → lease_end_of w o.client o.file.server o.life ≡ Some end → Over v o
     present i n end q =
         own (find (is_at o.file.server) site.node.state.associations) refl i n end
         (ap (world.present_end w o.file.server) (sym there) ∙ ap (λ j. world.present_end w o.file.server (numbered w.clients j)) (sym i) ∙ ap (end_or_present w o.client o.file.server) (sym n) ∙ q)
 
-    other : o.client.0 ≢ c.0 → find p w.ended ≡ None → IsLate w o → Over v o
-    other i n z =
-        inr (record {
-          end = z.end;
-          is =
-              ap (end_or_present v o.client o.file.server)
-              (find_back p w.ended rows n ∙ rows_other site.node.state.config site.node.state.id o.client o.file.server o.life site.node.state.associations (ap (λ z. same_client z o.client) m.id ∙ ne_eqb c.0 o.client.0 (λ z. i (sym z))))
-              ∙ ap (world.present_end w o.file.server) (numbered_other w.clients c.0 o.client.0 (ev.stopped_site site) (numbered_below w.clients c.0 site there).0 i) ∙ ap (end_or_present w o.client o.file.server) (sym n) ∙ z.is;
-          late = z.late;
-        })
-
-    by_client : find p w.ended ≡ None → IsLate w o → (o.client.0 ≡ c.0) ⊎ (o.client.0 ≢ c.0) → Over v o
-    by_client n z (inl i) = present i n z.end z.is
-    by_client n z (inr i) = other i n z
-
     go : (y : Option LeaseLife) → ended_of w o.client o.file.server o.life ≡ y → Over w o ⊎ ((o.client.0 ≡ c.0) × BeforeEnd w o) → Over v o
     go (Some e) q (inl (inl z)) = inl (record { row = z.row; is = find_front p w.ended rows z.row z.is; crashed = z.crashed })
-    go (Some e) q (inl (inr z)) = inr (record { end = z.end; is = ap (end_or_present v o.client o.file.server) (find_front p w.ended rows e q) ∙ ap (end_or_present w o.client o.file.server) (sym q) ∙ z.is; late = z.late })
+    go (Some e) q (inl (inr z)) = inr (record { end = z.end; is = end_crashed w c site there h o kn z.end z.is; late = z.late })
     go (Some e) q (inr (i, b)) = inl (record { row = e; is = find_front p w.ended rows e q; crashed = pending_crashed w h o e q b })
     go None q (inl (inl z)) = absurd (no_option z.row (sym q ∙ z.is))
-    go None q (inl (inr z)) = by_client q z (same_or_not o.client.0 c.0)
+    go None q (inl (inr z)) = inr (record { end = z.end; is = end_crashed w c site there h o kn z.end z.is; late = z.late })
     go None q (inr (i, b)) = present i q b.end b.is
 
 -- Start.
 pub start_over : (w : World) (c : ClientId) (site : ClientSite) → site_of w c ≡ Some site → site.node.running ≡ false → LivesHold w → (o : LogOwner) → Over w o → Over (ev.with_site c (ev.started_site site) w) o
 start_over w c site there r h o (inl z) = inl (record { row = z.row; is = z.is; crashed = z.crashed })
-start_over w c site there r h o (inr b) = inr (go (ended_of w o.client o.file.server o.life) refl (same_or_not o.client.0 c.0))
-  where
-    v : World
-    v = ev.with_site c (ev.started_site site) w
-
-    none : (a : Option Association) → find (is_at o.file.server) site.node.state.associations ≡ a → cl.lease_at a ≡ None
-    none None e = refl
-    none (Some a) e = ap (option_map cl.lease_of_session) ((h.lives.sites c site there).stopped r a (found_has o.file.server site.node.state.associations a e).0).session
-
-    go : (x : Option LeaseLife) → ended_of w o.client o.file.server o.life ≡ x → (o.client.0 ≡ c.0) ⊎ (o.client.0 ≢ c.0) → IsLate v o
-    go (Some e) q i = record { end = b.end; is = ap (end_or_present v o.client o.file.server) q ∙ ap (end_or_present w o.client o.file.server) (sym q) ∙ b.is; late = b.late }
-    go None q (inl i) =
-        absurd (no_option b.end
-        (ap (lease.end_at site.node.state.config) (sym (none (find (is_at o.file.server) site.node.state.associations) refl)) ∙ ap (world.present_end w o.file.server) (sym there) ∙ ap (λ j. world.present_end w o.file.server (numbered w.clients j)) (sym i)
-        ∙ ap (end_or_present w o.client o.file.server) (sym q) ∙ b.is))
-    go None q (inr i) =
-        record {
-          end = b.end;
-          is = ap (end_or_present v o.client o.file.server) q ∙ ap (world.present_end w o.file.server) (numbered_other w.clients c.0 o.client.0 (ev.started_site site) (numbered_below w.clients c.0 site there).0 i) ∙ ap (end_or_present w o.client o.file.server) (sym q) ∙ b.is;
-          late = b.late;
-        }
+start_over w c site there r h o (inr b) = inr (record { end = b.end; is = end_started w c site there r h o b.end b.is; late = b.late })
 
 -- a fact of what is pending, at an entry
 pending_at : (P : LogOwner → Type 0) (es : List LogEntry) (e : LogEntry) → Has e es → PendingAll P es → log.is_pending e.fate ≡ true → P e.of

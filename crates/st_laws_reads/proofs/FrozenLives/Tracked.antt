@@ -35,6 +35,7 @@ use Rattle.st_laws_pages.specs.Fates.Fates.{PendingAll}
 use Rattle.st_laws_steps.specs.Lives.Lives.{AllKnown, ended_rows, LivesHold, NodeHolds, owner_of, Stepped}
 use Rattle.st_laws_steps.specs.Client.Losses.{Fit}
 use Rattle.st_laws_steps.specs.Client.Notes.{IsChangedAt, NotesAll}
+use Rattle.st_laws_steps.proofs.Clash.{clash}
 use Rattle.st_laws_steps.proofs.Lives.Associations.{own_found}
 use Rattle.st_laws_steps.proofs.Client.Dirtying.{notes_map}
 use Rattle.st_laws_pages.proofs.Lives.Each.{Besides, SteppedNode, each_event}
@@ -50,7 +51,7 @@ use Rattle.st_laws_pages.proofs.Lives.Turning.{Said, client_lives, known_owner, 
 use Rattle.st_laws_reads.specs.FrozenLives.PendingEntries.{OfCrashed, Tracked}
 
 -- a lease that is lost is no crash
-uncrashed : (c : ClientId) (s : ClientState) (os : List Output) (row : LeaseLife) → Has row (ended_rows c s os) → row.crashed ≡ false
+pub uncrashed : (c : ClientId) (s : ClientState) (os : List Output) (row : LeaseLife) → Has row (ended_rows c s os) → row.crashed ≡ false
 unfolding ended_rows
 uncrashed c s [] row h = elim h [ ]
 uncrashed c s (outputs.Send m ∷ os) row h = uncrashed c s os row h
@@ -63,13 +64,9 @@ uncrashed c s (outputs.Note n ∷ os) row h = note n h (uncrashed c s os row)
     note (notes.Lost v life) (inr h) f = f h
     note n h f = f h
 
-not_both : (b : Bool) → b ≡ false → b ≡ true → ⊥
-not_both true e f = cc
-not_both false e f = cc
-
 module _ (P : LeaseLife → LogOwner → Type 0) where
   -- where lives end that no crash ended
-  older : (w v : World) (rows : List LeaseLife) → v.ended ≡ w.ended ++ rows → ((row : LeaseLife) → Has row rows → row.crashed ≡ false) → (o : LogOwner) → OfCrashed P w o → OfCrashed P v o
+  pub older : (w v : World) (rows : List LeaseLife) → v.ended ≡ w.ended ++ rows → ((row : LeaseLife) → Has row rows → row.crashed ≡ false) → (o : LogOwner) → OfCrashed P w o → OfCrashed P v o
   older w v rows e lost o f row q crashed = go (find p w.ended) refl
     where
       p : LeaseLife → Bool
@@ -80,7 +77,7 @@ module _ (P : LeaseLife → LogOwner → Type 0) where
 
       go : (x : Option LeaseLife) → find p w.ended ≡ x → P row o
       go (Some y) z = f row (z ∙ sym (find_front p w.ended rows y z) ∙ there) crashed
-      go None z = absurd (not_both row.crashed (lost row (row_is o.client o.file.server o.life rows row (sym (find_back p w.ended rows z) ∙ there)).0) crashed)
+      go None z = absurd (clash row.crashed crashed (lost row (row_is o.client o.file.server o.life rows row (sym (find_back p w.ended rows z) ∙ there)).0))
 
   -- a page that was changed is of a life that is not over
   unended : (v : World) (c : ClientId) (site : ClientSite) (now : Stamp) → site_of v c ≡ Some site → site.node.running ≡ true → LivesHold v → (f : FileId) (p : PageNo) → IsChangedAt v.config now site.node.state.associations f p →

@@ -1,5 +1,5 @@
 -- A write that is not reported, of a life that a crash ended, was so before, through each event at which no client crashes.
-use Rattle.std.proofs.Common.{◌≡◌, ℕ, suc, ◌⊎◌, Bool, true, false, List, [], ◌∷◌, ◌++◌, Option, Some, None, Ok, refl, sym, ap, ◌∙◌, subst, inl, inr, arith}
+use Rattle.std.proofs.Common.{◌≡◌, ℕ, suc, ◌⊎◌, true, false, List, [], ◌∷◌, ◌++◌, Option, Some, None, Ok, refl, sym, ap, ◌∙◌, subst, inl, inr, arith}
 use Rattle.std.specs.Prelude.{find, length, map, pred}
 use Rattle.st_base.specs.declared.ids.ClientId.{ClientId}
 use Rattle.st_base.specs.declared.ids.FileId.{FileId}
@@ -27,7 +27,7 @@ use Rattle.st_rules.specs.Events.{client_says_all}
 use Rattle.st_rules.specs.FlatLog as log
 use Rattle.st_rules.specs.Server.{ServerNode}
 use Rattle.st_rules.specs.World as world
-use Rattle.st_rules.specs.World.{World, ClientSite, Net, Tally, clock_of, is_life_of, numbered, site_of, with_numbered}
+use Rattle.st_rules.specs.World.{World, ClientSite, Net, Tally, clock_of, numbered, site_of, with_numbered}
 use Rattle.st_lemmas.specs.Lists.{Has}
 use Rattle.st_lemmas.proofs.Numbers.{length_more, numbered_below, numbered_own}
 use Rattle.st_laws_leases.proofs.Sides.Everywhere.{numbered_is}
@@ -36,35 +36,17 @@ use Rattle.st_laws_steps.specs.Lives.Lives.{AllKnown, ended_rows, LivesHold, Nod
 use Rattle.st_laws_pages.proofs.Lives.Each.{Besides, SteppedNode, each_event}
 use Rattle.st_laws_pages.proofs.Lives.Lasting.{Flushed, flush_parts}
 use Rattle.st_laws_pages.proofs.Lives.LifeSteps.{advance_lives, owners_hard, same_owners, start_lives, steps_so}
-use Rattle.st_laws_pages.proofs.Lives.Lives.{find_back, find_front}
 use Rattle.st_laws_pages.proofs.Lives.NodeTurns.{row_is}
 use Rattle.st_laws_pages.proofs.Lives.Turning.{Said, client_lives, known_owner, owners_more, says_lives}
 use Rattle.st_base.specs.declared.disk.BlockAt.{BlockAt}
 use Rattle.st_base.specs.declared.disk.Tag.{Tag}
 use Rattle.st_rules.specs.Disks as disks
 use Rattle.st_laws_reads.specs.FrozenLives.PendingEntries.{OfCrashed}
+use Rattle.st_laws_reads.proofs.FrozenLives.Tracked.{older, uncrashed}
 use Rattle.st_laws_pages.proofs.Writes.Joining.{IsNew, all_say}
 use Rattle.st_laws_reads.specs.OpenWrites.StandStill.{OpenTracked, OpenWrite, writer}
 use Rattle.st_laws_pages.proofs.Disks.Opens.{GoesOn}
 use Rattle.st_laws_pages.proofs.Causes.FlushSteps.{flushes_disks}
-
--- a lease that is lost is no crash
-uncrashed : (c : ClientId) (s : ClientState) (os : List Output) (row : LeaseLife) → Has row (ended_rows c s os) → row.crashed ≡ false
-unfolding ended_rows
-uncrashed c s [] row h = elim h [ ]
-uncrashed c s (outputs.Send m ∷ os) row h = uncrashed c s os row h
-uncrashed c s (outputs.Submit n a w ∷ os) row h = uncrashed c s os row h
-uncrashed c s (outputs.Answer o a ∷ os) row h = uncrashed c s os row h
-uncrashed c s (outputs.Note n ∷ os) row h = note n h (uncrashed c s os row)
-  where
-    note : (n : Note) → Has row (ended_rows c s (outputs.Note n ∷ os)) → (Has row (ended_rows c s os) → row.crashed ≡ false) → row.crashed ≡ false
-    note (notes.Lost v life) (inl e) f = ap (λ (x : LeaseLife). x.crashed) e
-    note (notes.Lost v life) (inr h) f = f h
-    note n h f = f h
-
-not_both : (b : Bool) → b ≡ false → b ≡ true → ⊥
-not_both true e f = cc
-not_both false e f = cc
 
 -- a client that is there stays there
 pub site_kept : (xs : List ClientSite) (c d : ℕ) (new s : ClientSite) → numbered xs d ≡ Some s → (y : ClientSite) × (numbered (with_numbered c new xs) d ≡ Some y)
@@ -94,20 +76,6 @@ all_counts c before [] sc h = h
 all_counts c before (o ∷ os) sc h = all_counts c before os (ev.client_says sc c before o) (one_counts c before o sc h)
 
 module _ (P : LeaseLife → LogOwner → Type 0) where
-  -- where lives end that no crash ended
-  older : (w v : World) (rows : List LeaseLife) → v.ended ≡ w.ended ++ rows → ((row : LeaseLife) → Has row rows → row.crashed ≡ false) → (o : LogOwner) → OfCrashed P w o → OfCrashed P v o
-  older w v rows e lost o f row q crashed = go (find p w.ended) refl
-    where
-      p : LeaseLife → Bool
-      p = is_life_of o.client o.file.server o.life
-
-      there : find p (w.ended ++ rows) ≡ Some row
-      there = ap (find p) (sym e) ∙ q
-
-      go : (x : Option LeaseLife) → find p w.ended ≡ x → P row o
-      go (Some y) z = f row (z ∙ sym (find_front p w.ended rows y z) ∙ there) crashed
-      go None z = absurd (not_both row.crashed (lost row (row_is o.client o.file.server o.life rows row (sym (find_back p w.ended rows z) ∙ there)).0) crashed)
-
   -- a new command is of a life that is not over
   unended : (v : World) (c : ClientId) (site : ClientSite) → site_of v c ≡ Some site → site.node.running ≡ true → LivesHold v → (x : IssuedCommand) (tag : Tag) → x.client ≡ c → x.life ≡ world.life_with site.node.state x.server → OfCrashed P v (writer x tag)
   unended v c site there r h x tag cx lx row q crashed = at (find (is_at x.server) site.node.state.associations) refl
@@ -243,7 +211,7 @@ module _ (P : LeaseLife → LogOwner → Type 0) where
         where
           by : ((numbered v0.commands k ≡ Some x) × (disks.command_at v0.disks.commands k ≡ Some o.command)) ⊎ IsNew c now_site (length w.servers) t.out x o.command → OfCrashed P v (writer x tag)
           by (inl i) =
-              older w v (ended_rows c site.node.state t.out) (fl.ended ∙ said.ended) (uncrashed c site.node.state t.out) (writer x tag)
+              older P w v (ended_rows c site.node.state t.out) (fl.ended ∙ said.ended) (uncrashed c site.node.state t.out) (writer x tag)
               (h.open_ k x at tag bytes (record { issued = i.0; command = o.command; is = i.1; what = o.what; unreported = o.unreported }))
           by (inr n) = unended v c now_site own r lives x tag n.client n.life
 
