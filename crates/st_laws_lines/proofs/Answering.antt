@@ -4,35 +4,24 @@ use Rattle.std.proofs.Common.{◌≡◌, ℕ, ◌⊎◌, Bool, true, false, ◌=
 use Rattle.std.specs.Prelude.{Result, filter, length, map, not}
 use Rattle.std.proofs.lemmas.Bool.{eqb-true, le-leb, leb-true}
 use Rattle.st_base.specs.declared.disk.Tag.{Tag}
-use Rattle.st_base.specs.declared.ids.Epoch.{Epoch}
 use Rattle.st_base.specs.declared.ids.FileId.{FileId}
-use Rattle.st_base.specs.declared.ids.GrantNo.{GrantNo}
 use Rattle.st_base.specs.declared.ids.PageNo.{PageNo}
 use Rattle.st_base.specs.declared.ids.Stamp.{Stamp}
-use Rattle.st_base.specs.declared.mode.Mode.{Mode}
 use Rattle.st_base.specs.declared.mode.Mode.TheVariants as modes
 use Rattle.st_messages.specs.declared.answer.AppAnswer.{AppAnswer}
 use Rattle.st_messages.specs.declared.answer.AppAnswer.TheVariants as answers
 use Rattle.st_messages.specs.declared.ask.Ask.{Ask}
 use Rattle.st_messages.specs.declared.ask.Ask.TheVariants as asks
 use Rattle.st_messages.specs.declared.message.Body.{Body}
-use Rattle.st_messages.specs.declared.message.Body.TheVariants as bodies
 use Rattle.st_messages.specs.declared.message.Header.{Header}
-use Rattle.st_messages.specs.declared.message.NameReply.{NameReply}
-use Rattle.st_messages.specs.declared.message.NameReply.TheVariants as replies
-use Rattle.st_messages.specs.declared.message.Why.{Why}
-use Rattle.st_messages.specs.declared.message.Why.TheVariants as why
 use Rattle.st_messages.specs.declared.output.Note.{Note}
 use Rattle.st_messages.specs.declared.output.Note.TheVariants as notes
 use Rattle.st_messages.specs.declared.output.Output.{Output}
 use Rattle.st_messages.specs.declared.output.Output.TheVariants as outputs
-use Rattle.st_rules.specs.declared.client.Asked.{Asked}
-use Rattle.st_rules.specs.declared.client.Asked.TheVariants as demands
 use Rattle.st_rules.specs.declared.client.ClientInput.{ClientInput}
 use Rattle.st_rules.specs.declared.client.ClientInput.TheVariants as inputs
 use Rattle.st_rules.specs.declared.client.Ended.{Ended}
 use Rattle.st_rules.specs.declared.client.Ended.TheVariants as ends
-use Rattle.st_rules.specs.declared.client.HeldLock.{HeldLock}
 use Rattle.st_rules.specs.declared.client.IoKind.{IoKind}
 use Rattle.st_rules.specs.declared.client.IoKind.TheVariants as io
 use Rattle.st_rules.specs.declared.client.KnownExtent.{KnownExtent}
@@ -42,17 +31,16 @@ use Rattle.st_rules.specs.declared.client.PageCommand.{PageCommand}
 use Rattle.st_rules.specs.declared.client.Release.{Release}
 use Rattle.st_rules.specs.declared.client.Request.{Request}
 use Rattle.st_rules.specs.declared.client.WriteRefusal.{WriteRefusal}
-use Rattle.st_rules.specs.declared.pages.DirtyPage.{DirtyPage}
 use Rattle.st_rules.specs.Client as cl
 use Rattle.st_rules.specs.ClientLease as lease
-use Rattle.st_rules.specs.ClientLocks as locks
 use Rattle.st_rules.specs.ClientPages as pages
 use Rattle.st_rules.specs.ClientPages.{Pages}
 use Rattle.st_rules.specs.ClientPasses as cp
 use Rattle.st_rules.specs.ClientReplies as cr
 use Rattle.st_rules.specs.ClientState as cs
-use Rattle.st_rules.specs.ClientState.{Association, ClientSession, ClientState, ClientTurn, Turn, answer_to, at_each, at_these, client_turn, enter, leave, only_at, say, with_associations, with_session, with_store, with_operations}
+use Rattle.st_rules.specs.ClientState.{Association, ClientSession, ClientState, ClientTurn, Turn, answer_to, at_each, at_these, client_turn, enter, leave, only_at, say, with_associations, with_operations}
 use Rattle.st_lemmas.specs.Lists.{Has}
+use Rattle.st_laws_lines.proofs.Walking as walk
 use Rattle.st_lemmas.proofs.Tables.{found_at, has_append, has_map}
 
 -- an output that answers no fault, but of a command that failed, or of a client with so many operations
@@ -160,120 +148,23 @@ module _ (Failed : ℕ → Type 0) (Full : Type 0) where
   unfolding cs.answer_each
   each_answered t picked a f w = more t.out (map (answer_to a) (filter picked t.operations)) w (λ o h. let x = has_map (answer_to a) (filter picked t.operations) o h in subst (Free Failed Full) (sym x.2) f)
 
-  -- Replies.
-  begins : (t : Turn) (epoch : Epoch) (stamp : Stamp) → F t → F (cr.begin_session t epoch stamp)
-  unfolding cr.begin_session cr.note_lease
-  begins t epoch stamp w = last t.out _ tt w
+  -- A message: no reply answers a fault, or that there are too many operations.
+  calm_free : (o : Output) → walk.Calm o → Free Failed Full o
+  calm_free (outputs.Answer op a) c = absurd c
+  calm_free o c = tt
 
-  without : (t : Turn) (now : Stamp) (h : Header) (b : Body) → F t → F (cr.without_session t now h b)
-  unfolding cr.without_session cr.welcome
-  without t now h bodies.Welcome w = either _ _ t (begins t _ _ w) w
-  without t now h b w = w
-
-  of_other : (t : Turn) (s : ClientSession) (epoch : Epoch) (b : Body) → F t → F (cr.of_other_epoch t s epoch b)
-  unfolding cr.of_other_epoch cr.newer_epoch cr.follow_epoch
-  of_other t s epoch (bodies.Nack why.OtherEpoch x y) w = either (cr.is_newer s epoch) _ t (each_answered _ _ _ tt w) w
-  of_other t s epoch (bodies.Nack z x y) w = w
-  of_other t s epoch b w = w
-
-  removed : (t : Turn) (s : ClientSession) (file : Option ℕ) → F t → F (cr.removed t s file)
-  unfolding cr.removed cr.drop_held cr.drop_lock
-  removed t s None w = w
-  removed t s (Some ino) w = go (locks.lock_of s.locks ino)
-    where
-      go : (o : Option HeldLock) → F (cr.drop_held t s ino o)
-      go None = w
-      go (Some l) = w
-
-  named : (t : Turn) (s : ClientSession) (file : Option ℕ) (r : NameReply) → F t → F (cr.named t s file r)
-  unfolding cr.named cr.named_as
-  named t s file (replies.Ino ino) w = removed _ s file (each_answered t _ _ tt w)
-  named t s file (replies.Listed rows) w = each_answered t _ _ tt w
-  named t s file (replies.Refused code) w = each_answered t _ _ tt w
-
-  refuse_file : (t : Turn) (a : AppAnswer) (file : Option ℕ) → Fault_free Failed Full a → F t → F (cr.refuse_file t a file)
-  unfolding cr.refuse_file
-  refuse_file t a None p w = w
-  refuse_file t a (Some ino) p w = each_answered t _ a p w
-
-  refuse_page : (t : Turn) (a : AppAnswer) (file : Option ℕ) (page : Option PageNo) → Fault_free Failed Full a → F t → F (cr.refuse_page t a file page)
-  unfolding cr.refuse_page
-  refuse_page t a (Some ino) (Some p) u w = each_answered t _ a u w
-  refuse_page t a (Some ino) None u w = w
-  refuse_page t a None page u w = w
-
-  refuse_as : (t : Turn) (y : Why) (a b : ℕ) (file : Option ℕ) (asked : Body) → F t → F (cr.refuse_as t y a b file asked)
-  unfolding cr.refuse_as cr.refuse_holder
-  refuse_as t why.NoFile a b file asked w = refuse_file t _ file tt w
-  refuse_as t why.TooManyLocks a b file asked w = refuse_file t _ file tt w
-  refuse_as t why.NoSpace a b file asked w = refuse_page t _ file _ tt w
-  refuse_as t why.NotHolder a b file asked w = either (cs.asks_cut_or_remove asked) _ t (each_answered t _ _ tt w) w
-  refuse_as t y a b file asked w = w
-
-  effect : (t : Turn) (s : ClientSession) (now : Stamp) (b : Body) (file : Option ℕ) (asked : Body) → F t → F (cr.effect t s now b file asked)
-  unfolding cr.effect cr.granted cr.queued cr.extents cr.learn cr.acknowledged cr.reasserted cr.refused cr.leave_stuck
-  effect t s now (bodies.Granted ino g mode) file asked w = w
-  effect t s now (bodies.Queued ino mode) file asked w = w
-  effect t s now (bodies.Extents ino rows) file asked w = either (cr.is_current s.locks asked) _ t w w
-  effect t s now bodies.Ack file asked w = each_answered t _ _ tt w
-  effect t s now (bodies.Named reply) file asked w = named t s file reply w
-  effect t s now bodies.Reasserted file asked w = w
-  effect t s now (bodies.Nack y a b) file asked w = refuse_as t y a b file asked w
-  effect t s now b file asked w = w
-
-  renewal : (t : Turn) (s : ClientSession) (stamp : Stamp) → F t → F (cr.note_renewal t s stamp)
-  unfolding cr.note_renewal cr.note_lease
-  renewal t s stamp w = either (lease.is_renewal stamp s.lease) _ t (said t _ tt w) w
-
-  replied : (t : Turn) (s : ClientSession) (now : Stamp) (h : Header) (b : Body) → F t → F (cr.reply_of t s now h b)
-  unfolding cr.reply_of cr.counted cr.by_request cr.count_reply cr.condemn cr.reply_to cr.end_request
-  replied t s now h b w = go s.requests.asked
-    where
-      stamp : Stamp
-      stamp = record { 0 = h.stamp }
-
-      go : (r : Option Request) → F (cr.counted t s now h.number stamp b r)
-      go None = w
-      go (Some r) =
-          either (cr.is_counting h.number b r) (cr.count_reply t s now stamp b r.body) t
-          (either (cr.refuses_reassertion b r.body) (cr.condemn t s) (cr.reply_to t s now stamp b r.body) w (effect _ _ now b _ r.body (renewal t s stamp w))) w
-
-  nacked : (t : Turn) (s : ClientSession) (now : Stamp) (h : Header) (y : Why) (a b : ℕ) → F t → F (cr.nack t s now h y a b)
-  unfolding cr.condemn
-  nacked t s now h why.Suspect a b w = w
-  nacked t s now h why.NoSession a b w = w
-  nacked t s now h why.OtherEpoch a b w = w
-  nacked t s now h why.Grace a b w = w
-  nacked t s now h why.GraceOver a b w = w
-  nacked t s now h why.Conflict a b w = w
-  nacked t s now h y a b w = replied t s now h (bodies.Nack y a b) w
-
-  demanded : (t : Turn) (s : ClientSession) (ino : ℕ) (g : GrantNo) (to : Mode) → F t → F (cr.demand t s ino g to)
-  unfolding cr.demand cr.demand_by cr.demand_as cr.see_demand
-  demanded t s ino g to w = go (locks.demand s.locks ino g to)
-    where
-      by : (l : ClientSession) (a : Asked) → F (cr.demand_as t l ino g a)
-      by l demands.Reduce = sent _ _ _ _ _ w
-      by l demands.NotHeld = w
-      by l demands.Stale = w
-
-      go : (d : locks.Demanding) → F (cr.demand_by t s ino g d)
-      go d = by (cs.with_cache d.locks s) d.asked
-
-  of_epoch : (t : Turn) (s : ClientSession) (now : Stamp) (h : Header) (b : Body) → F t → F (cr.of_epoch t s now h b)
-  unfolding cr.of_epoch cr.grant_or_reply cr.granted
-  of_epoch t s now h (bodies.Nack y a b) w = nacked t s now h y a b w
-  of_epoch t s now h (bodies.Granted ino g mode) w = either (h.number == 0) _ _ w (replied t s now h (bodies.Granted ino g mode) w)
-  of_epoch t s now h (bodies.Demand ino g to) w = demanded t s ino g to w
-  of_epoch t s now h b w = replied t s now h b w
+  mild_free : (a : AppAnswer) → walk.Mild a → Fault_free Failed Full a
+  mild_free (answers.DiskFault number) m = absurd m
+  mild_free answers.OpsFull m = absurd m
+  mild_free a m = tt
 
   heard : (now : Stamp) (h : Header) (b : Body) (t : Turn) → F t → F (cr.receive_at now h b t)
-  unfolding cr.receive_at cr.by_session cr.with_a_session
-  heard now h b t w = either (cr.is_heard t now h) _ t (by t.here.session) w
-    where
-      by : (x : Option ClientSession) → F (cr.by_session t now h b x)
-      by None = without t now h b w
-      by (Some s) = either (h.epoch == s.epoch.0) _ _ (of_epoch t s now h b w) (of_other t s _ b w)
+  unfolding cr.leave_stuck
+  heard = walk.heard (λ v lost out ops. All_free Failed Full out) (λ v lost out ops o c w. last out o (calm_free o c) w) (λ t picked a m w. each_answered t picked a (mild_free a m) w) (λ t w. w)
+
+  rested : (now : Stamp) (tick : Bool) (t : Turn) → F t → F (cp.greeting now tick (cp.writes now tick (cp.reductions t)))
+  unfolding cr.leave_stuck
+  rested = walk.rested (λ v lost out ops. All_free Failed Full out) (λ v lost out ops o c w. last out o (calm_free o c) w) (λ t picked a m w. each_answered t picked a (mild_free a m) w) (λ t w. w)
 
   -- Losses.
   ended : (t : Turn) (s : ClientSession) (o : Operation) → F t → F (cl.end_operation t s o)
@@ -435,55 +326,6 @@ module _ (Failed : ℕ → Type 0) (Full : Type 0) where
   operated_each all now [] t w = w
   operated_each all now (o ∷ os) t w = operated_each all now os _ (operated all t now o w)
 
-  -- Reductions.
-  reduced : (t : Turn) (ino : ℕ) (o : Option ClientSession) → F t → F (cp.reduce t ino o)
-  unfolding cp.reduce cp.reduce_idle cp.reduce_by cp.reduce_given cp.reduce_to
-  reduced t ino None w = w
-  reduced t ino (Some s) w = either (cp.may_reduce t s ino) _ t (go (locks.reduce s.locks ino)) w
-    where
-      given : (x : ClientSession) (o : Option (GrantNo × Mode)) → F (cp.reduce_given t x ino o)
-      given x None = w
-      given x (Some g) = w
-
-      go : (r : locks.Reduced) → F (cp.reduce_by t s ino r)
-      go r = given (cs.with_cache r.locks s) r.given
-
-  reduced_each : (inos : List ℕ) (t : Turn) → F t → F (cp.reduce_each inos t)
-  unfolding cp.reduce_each
-  reduced_each [] t w = w
-  reduced_each (ino ∷ inos) t w = reduced_each inos _ (reduced t ino t.here.session w)
-
-  -- Writes.
-  page_written : (t : Turn) (s : ClientSession) (now : Stamp) (tick : Bool) (o : Option DirtyPage) → F t → F (cp.write_page t s now tick o)
-  unfolding cp.write_page cp.write_due cp.write_out cp.write_out_at cp.submit_write cp.submit_command
-  page_written t s now tick None w = w
-  page_written t s now tick (Some d) w = either (cp.is_writable t s now tick d) _ t (go (pages.mapping_of t.here.store.extents d.ino d.page)) w
-    where
-      go : (m : Option MappedBlock) → F (cp.write_out_at t d m)
-      go None = w
-      go (Some m) = last t.out _ tt w
-
-  pages_written : (s : ClientSession) (now : Stamp) (tick : Bool) (xs : List (ℕ × PageNo)) (t : Turn) → F t → F (cp.write_each s now tick xs t)
-  unfolding cp.write_each
-  pages_written s now tick [] t w = w
-  pages_written s now tick (x ∷ xs) t w = pages_written s now tick xs _ (page_written t s now tick _ w)
-
-  wrote : (now : Stamp) (tick : Bool) (t : Turn) → F t → F (cp.writes now tick t)
-  unfolding cp.writes cp.writes_by
-  wrote now tick t w = go t.here.session
-    where
-      go : (o : Option ClientSession) → F (cp.writes_by t now tick o)
-      go None = w
-      go (Some s) = pages_written s now tick _ t w
-
-  greeted : (now : Stamp) (tick : Bool) (t : Turn) → F t → F (cp.greeting now tick t)
-  unfolding cp.greeting cp.greeting_by cp.greet cp.hello
-  greeted now tick t w = go t.here.session
-    where
-      go : (o : Option ClientSession) → F (cp.greeting_by t now tick o)
-      go None = either (cp.must_greet t now tick) _ t (sent _ _ _ _ _ w) w
-      go (Some s) = w
-
   -- Requests.
   asked : (t : Turn) (s : ClientSession) (now : Stamp) (b : Body) (cutting : Option ℕ) → F t → F (cp.ask t s now b cutting)
   unfolding cp.ask
@@ -519,8 +361,8 @@ module _ (Failed : ℕ → Type 0) (Full : Type 0) where
       go (Some s) = either s.lease.condemned t _ w (at s s.requests.asked)
 
   passed : (now : Stamp) (tick : Bool) (t : Turn) → F t → F (cp.passes now tick t)
-  unfolding cp.passes cp.operations cp.reductions
-  passed now tick t w = requested now tick _ (greeted now tick _ (wrote now tick _ (reduced_each _ _ (operated_each t.operations now t.operations _ w))))
+  unfolding cp.passes cp.operations
+  passed now tick t w = requested now tick _ (rested now tick _ (operated_each t.operations now t.operations _ w))
 
   -- A rule at each server in turn.
   these : (rule : Turn → Turn) → ((t : Turn) → F t → F (rule t)) → (al : List Association) (t : ClientTurn) → All_free Failed Full t.out → All_free Failed Full (at_these rule al t).out

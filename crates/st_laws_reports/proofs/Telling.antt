@@ -1,38 +1,27 @@
 -- What a client tells of lost pages: the rules of a client, walked for what they answer and what they leave of the lost pages.
-use Rattle.std.proofs.Common.{◌≡◌, ℕ, ◌⊎◌, Bool, true, false, ◌==◌, ◌||◌, List, [], ◌∷◌, ◌++◌, Option, Some, None, Ok, Err, refl, sym, ap, ◌∙◌, subst, inl, inr, if◌then◌else◌}
+use Rattle.std.proofs.Common.{◌≡◌, ℕ, ◌⊎◌, Bool, true, false, ◌||◌, List, [], ◌∷◌, ◌++◌, Option, Some, None, Ok, Err, refl, sym, ap, ◌∙◌, subst, inl, inr, if◌then◌else◌}
 use Rattle.std.specs.List.{cons_option, list_any}
 use Rattle.std.specs.Prelude.{Result, drop, filter, filter_map, map, not, suc, zero}
 use Rattle.std.proofs.lemmas.Bool.{eqb-true, eq-eqb}
 use Rattle.st_base.specs.declared.disk.Tag.{Tag}
-use Rattle.st_base.specs.declared.ids.Epoch.{Epoch}
 use Rattle.st_base.specs.declared.ids.FileId.{FileId}
-use Rattle.st_base.specs.declared.ids.GrantNo.{GrantNo}
 use Rattle.st_base.specs.declared.ids.PageNo.{PageNo}
 use Rattle.st_base.specs.declared.ids.ServerId.{ServerId}
 use Rattle.st_base.specs.declared.ids.Stamp.{Stamp}
 use Rattle.st_base.specs.declared.rows.LostRow.{LostRow}
-use Rattle.st_base.specs.declared.mode.Mode.{Mode}
 use Rattle.st_base.specs.declared.mode.Mode.TheVariants as modes
 use Rattle.st_messages.specs.declared.answer.AppAnswer.{AppAnswer}
 use Rattle.st_messages.specs.declared.answer.AppAnswer.TheVariants as answers
 use Rattle.st_messages.specs.declared.ask.Ask.{Ask}
 use Rattle.st_messages.specs.declared.ask.Ask.TheVariants as asks
 use Rattle.st_messages.specs.declared.message.Body.{Body}
-use Rattle.st_messages.specs.declared.message.Body.TheVariants as bodies
 use Rattle.st_messages.specs.declared.message.Header.{Header}
-use Rattle.st_messages.specs.declared.message.NameReply.{NameReply}
-use Rattle.st_messages.specs.declared.message.NameReply.TheVariants as replies
-use Rattle.st_messages.specs.declared.message.Why.{Why}
-use Rattle.st_messages.specs.declared.message.Why.TheVariants as why
 use Rattle.st_messages.specs.declared.output.Note.{Note}
 use Rattle.st_messages.specs.declared.output.Note.TheVariants as notes
 use Rattle.st_messages.specs.declared.output.Output.{Output}
 use Rattle.st_messages.specs.declared.output.Output.TheVariants as outputs
-use Rattle.st_rules.specs.declared.client.Asked.{Asked}
-use Rattle.st_rules.specs.declared.client.Asked.TheVariants as demands
 use Rattle.st_rules.specs.declared.client.Ended.{Ended}
 use Rattle.st_rules.specs.declared.client.Ended.TheVariants as ends
-use Rattle.st_rules.specs.declared.client.HeldLock.{HeldLock}
 use Rattle.st_rules.specs.declared.client.IoKind.{IoKind}
 use Rattle.st_rules.specs.declared.client.IoKind.TheVariants as io
 use Rattle.st_rules.specs.declared.client.KnownExtent.{KnownExtent}
@@ -45,10 +34,8 @@ use Rattle.st_rules.specs.declared.client.Request.{Request}
 use Rattle.st_rules.specs.declared.client.Stage.{Stage}
 use Rattle.st_rules.specs.declared.client.Stage.TheVariants as stages
 use Rattle.st_rules.specs.declared.client.WriteRefusal.{WriteRefusal}
-use Rattle.st_rules.specs.declared.pages.DirtyPage.{DirtyPage}
 use Rattle.st_rules.specs.Client as cl
 use Rattle.st_rules.specs.ClientLease as lease
-use Rattle.st_rules.specs.ClientLocks as locks
 use Rattle.st_rules.specs.ClientPages as pages
 use Rattle.st_rules.specs.ClientPages.{Pages}
 use Rattle.st_rules.specs.ClientPasses as cp
@@ -59,6 +46,7 @@ use Rattle.st_lemmas.specs.Lists.{Has}
 use Rattle.st_rules.specs.Keys.{page_no, rising, same_server}
 use Rattle.st_promises.specs.Losses.{IsToldBy, IsToldTo, owed_of_file, still_owed, told_by, with_dirty}
 use Rattle.st_lemmas.proofs.Lookups.{some_is}
+use Rattle.st_laws_lines.proofs.Walking as walk
 use Rattle.st_laws_reports.proofs.Words.{owing_all_is, owed_of_file_is, still_owed_is}
 use Rattle.st_lemmas.proofs.Tables.{and_true, found_at, has_append, has_filter, has_map, none_passes, not_true}
 
@@ -249,9 +237,6 @@ module _ (asked : ℕ → Option Ask) (had : ServerId → Option Association) wh
     along_answers a p [] r rows = refl
     along_answers a p (o ∷ xs) r rows = along_answers a p xs r (behind r rows (answer_to a o)) ∙ plain_behind (answer_to a o) p r rows
 
-    fewer : (R : Rows) (server : ServerId) (lost : List LostPage) (out : List Output) (ops qs : List Operation) → ((o : Operation) → Has o qs → Has o ops) → Keeps R server lost out ops → Keeps R server lost out qs
-    fewer R server lost out ops qs f k = record { at = k.at; rows = k.rows; here = k.here; fine = k.fine; ops = λ o h. k.ops o (f o h) }
-
     -- an operation that waits no more, or is sent
     staged : (R : Rows) (o : Operation) (st : Stage) → (cs.is_sent o ≡ true ⊎ IsNoSync o.ask) → OpOk R o → OpOk R (cs.at_stage st o)
     staged R o st w k = record { known = k.known; sync = go o.ask w k.sync }
@@ -263,6 +248,20 @@ module _ (asked : ℕ → Option Ask) (had : ServerId → Option Association) wh
             clash x y = cc
         go (asks.Sync f) (inr n) k = absurd n
         go a w k = tt
+
+    calm_plain : (o : Output) → walk.Calm o → PlainOut o
+    calm_plain (outputs.Note (notes.Lost t life)) c = absurd c
+    calm_plain (outputs.Note n) c = tt
+    calm_plain (outputs.Answer op a) c = absurd c
+    calm_plain o c = tt
+
+    calm_fine : (R : Rows) (o : Output) → walk.Calm o → FineAt R o
+    calm_fine R (outputs.Answer op a) c = absurd c
+    calm_fine R o c = tt
+
+    mild_told : (a : AppAnswer) → walk.Mild a → NotLost a
+    mild_told (answers.Lost rows) m = absurd m
+    mild_told a m = tt
 
     module _ (R : Rows) where
       abbrev F : Turn → Type 0
@@ -293,56 +292,6 @@ module _ (asked : ℕ → Option Ask) (had : ServerId → Option Association) wh
             ops = λ o h. w.ops o (has_filter (λ o. not (picked o)) t.operations o h).0;
           }
 
-      -- Replies.
-      begins : (t : Turn) (epoch : Epoch) (stamp : Stamp) → F t → F (cr.begin_session t epoch stamp)
-      unfolding cr.begin_session cr.note_lease
-      begins t epoch stamp w = last t _ tt tt w
-
-      without : (t : Turn) (now : Stamp) (h : Header) (b : Body) → F t → F (cr.without_session t now h b)
-      unfolding cr.without_session cr.welcome
-      without t now h bodies.Welcome w = either _ _ t (begins t _ _ w) w
-      without t now h b w = w
-
-      of_other : (t : Turn) (v : ClientSession) (epoch : Epoch) (b : Body) → F t → F (cr.of_other_epoch t v epoch b)
-      unfolding cr.of_other_epoch cr.newer_epoch cr.follow_epoch
-      of_other t v epoch (bodies.Nack why.OtherEpoch x y) w = either (cr.is_newer v epoch) _ t (each_answered _ _ _ tt w) w
-      of_other t v epoch (bodies.Nack z x y) w = w
-      of_other t v epoch b w = w
-
-      removed : (t : Turn) (v : ClientSession) (file : Option ℕ) → F t → F (cr.removed t v file)
-      unfolding cr.removed cr.drop_held cr.drop_lock
-      removed t v None w = w
-      removed t v (Some ino) w = go (locks.lock_of v.locks ino)
-        where
-          go : (o : Option HeldLock) → F (cr.drop_held t v ino o)
-          go None = w
-          go (Some l) = w
-
-      named : (t : Turn) (v : ClientSession) (file : Option ℕ) (r : NameReply) → F t → F (cr.named t v file r)
-      unfolding cr.named cr.named_as
-      named t v file (replies.Ino ino) w = removed _ v file (each_answered t _ _ tt w)
-      named t v file (replies.Listed rows) w = each_answered t _ _ tt w
-      named t v file (replies.Refused code) w = each_answered t _ _ tt w
-
-      refuse_file : (t : Turn) (a : AppAnswer) (file : Option ℕ) → NotLost a → F t → F (cr.refuse_file t a file)
-      unfolding cr.refuse_file
-      refuse_file t a None p w = w
-      refuse_file t a (Some ino) p w = each_answered t _ a p w
-
-      refuse_page : (t : Turn) (a : AppAnswer) (file : Option ℕ) (page : Option PageNo) → NotLost a → F t → F (cr.refuse_page t a file page)
-      unfolding cr.refuse_page
-      refuse_page t a (Some ino) (Some p) u w = each_answered t _ a u w
-      refuse_page t a (Some ino) None u w = w
-      refuse_page t a None page u w = w
-
-      refuse_as : (t : Turn) (y : Why) (a b : ℕ) (file : Option ℕ) (asked : Body) → F t → F (cr.refuse_as t y a b file asked)
-      unfolding cr.refuse_as cr.refuse_holder
-      refuse_as t why.NoFile a b file asked w = refuse_file t _ file tt w
-      refuse_as t why.TooManyLocks a b file asked w = refuse_file t _ file tt w
-      refuse_as t why.NoSpace a b file asked w = refuse_page t _ file _ tt w
-      refuse_as t why.NotHolder a b file asked w = either (cs.asks_cut_or_remove asked) _ t (each_answered t _ _ tt w) w
-      refuse_as t y a b file asked w = w
-
       stuck : (t : Turn) → F t → F (cr.leave_stuck t)
       unfolding cr.leave_stuck
       stuck t w = record { at = w.at; rows = w.rows; here = w.here; fine = w.fine; ops = λ o h. let z = has_map (cr.stuck t) t.operations o h in subst (OpOk R) (sym z.2) (one z.0 (w.ops z.0 z.1)) }
@@ -359,70 +308,12 @@ module _ (asked : ℕ → Option Ask) (had : ServerId → Option Association) wh
               go true e = staged R o stages.Stuck (inl (sent o.stage (and_true _ _ e).1)) k
               go false e = k
 
-      effect : (t : Turn) (v : ClientSession) (now : Stamp) (b : Body) (file : Option ℕ) (asked : Body) → F t → F (cr.effect t v now b file asked)
-      unfolding cr.effect cr.granted cr.queued cr.extents cr.learn cr.acknowledged cr.reasserted cr.refused
-      effect t v now (bodies.Granted ino g mode) file asked w = w
-      effect t v now (bodies.Queued ino mode) file asked w = w
-      effect t v now (bodies.Extents ino rows) file asked w = either (cr.is_current v.locks asked) _ t w w
-      effect t v now bodies.Ack file asked w = each_answered t _ _ tt w
-      effect t v now (bodies.Named reply) file asked w = named t v file reply w
-      effect t v now bodies.Reasserted file asked w = w
-      effect t v now (bodies.Nack y a b) file asked w = stuck _ (refuse_as t y a b file asked w)
-      effect t v now b file asked w = w
-
-      renewal : (t : Turn) (v : ClientSession) (stamp : Stamp) → F t → F (cr.note_renewal t v stamp)
-      unfolding cr.note_renewal cr.note_lease
-      renewal t v stamp w = either (lease.is_renewal stamp v.lease) _ t (said t _ tt tt w) w
-
-      replied : (t : Turn) (v : ClientSession) (now : Stamp) (h : Header) (b : Body) → F t → F (cr.reply_of t v now h b)
-      unfolding cr.reply_of cr.counted cr.by_request cr.count_reply cr.condemn cr.reply_to cr.end_request
-      replied t v now h b w = go v.requests.asked
-        where
-          stamp : Stamp
-          stamp = record { 0 = h.stamp }
-
-          go : (r : Option Request) → F (cr.counted t v now h.number stamp b r)
-          go None = w
-          go (Some r) =
-              either (cr.is_counting h.number b r) (cr.count_reply t v now stamp b r.body) t
-              (either (cr.refuses_reassertion b r.body) (cr.condemn t v) (cr.reply_to t v now stamp b r.body) w (effect _ _ now b _ r.body (renewal t v stamp w))) w
-
-      nacked : (t : Turn) (v : ClientSession) (now : Stamp) (h : Header) (y : Why) (a b : ℕ) → F t → F (cr.nack t v now h y a b)
-      unfolding cr.condemn
-      nacked t v now h why.Suspect a b w = w
-      nacked t v now h why.NoSession a b w = w
-      nacked t v now h why.OtherEpoch a b w = w
-      nacked t v now h why.Grace a b w = w
-      nacked t v now h why.GraceOver a b w = w
-      nacked t v now h why.Conflict a b w = w
-      nacked t v now h y a b w = replied t v now h (bodies.Nack y a b) w
-
-      demanded : (t : Turn) (v : ClientSession) (ino : ℕ) (g : GrantNo) (to : Mode) → F t → F (cr.demand t v ino g to)
-      unfolding cr.demand cr.demand_by cr.demand_as cr.see_demand
-      demanded t v ino g to w = go (locks.demand v.locks ino g to)
-        where
-          by : (l : ClientSession) (a : Asked) → F (cr.demand_as t l ino g a)
-          by l demands.Reduce = sent _ _ _ _ _ w
-          by l demands.NotHeld = w
-          by l demands.Stale = w
-
-          go : (d : locks.Demanding) → F (cr.demand_by t v ino g d)
-          go d = by (cs.with_cache d.locks v) d.asked
-
-      of_epoch : (t : Turn) (v : ClientSession) (now : Stamp) (h : Header) (b : Body) → F t → F (cr.of_epoch t v now h b)
-      unfolding cr.of_epoch cr.grant_or_reply cr.granted
-      of_epoch t v now h (bodies.Nack y a b) w = nacked t v now h y a b w
-      of_epoch t v now h (bodies.Granted ino g mode) w = either (h.number == 0) _ _ w (replied t v now h (bodies.Granted ino g mode) w)
-      of_epoch t v now h (bodies.Demand ino g to) w = demanded t v ino g to w
-      of_epoch t v now h b w = replied t v now h b w
-
+      -- A message: its replies tell of no lost pages.
       pub heard : (now : Stamp) (h : Header) (b : Body) (t : Turn) → F t → F (cr.receive_at now h b t)
-      unfolding cr.receive_at cr.by_session cr.with_a_session
-      heard now h b t w = either (cr.is_heard t now h) _ t (by t.here.session) w
-        where
-          by : (x : Option ClientSession) → F (cr.by_session t now h b x)
-          by None = without t now h b w
-          by (Some v) = either (h.epoch == v.epoch.0) _ _ (of_epoch t v now h b w) (of_other t v _ b w)
+      heard = walk.heard (Keeps R) (λ v lost out ops o c w. adds R v lost out ops o (calm_plain o c) (calm_fine R o c) w) (λ t picked a m w. each_answered t picked a (mild_told a m) w) stuck
+
+      rested : (now : Stamp) (tick : Bool) (t : Turn) → F t → F (cp.greeting now tick (cp.writes now tick (cp.reductions t)))
+      rested = walk.rested (Keeps R) (λ v lost out ops o c w. adds R v lost out ops o (calm_plain o c) (calm_fine R o c) w) (λ t picked a m w. each_answered t picked a (mild_told a m) w) stuck
 
       -- Ends of commands.
       faulted : (t : Turn) (x : PageCommand) (kind : IoKind) → F t → F (cl.failed_as t x kind)
@@ -543,55 +434,6 @@ module _ (asked : ℕ → Option Ask) (had : ServerId → Option Association) wh
       operated_each all now [] k t w = w
       operated_each all now (o ∷ os) k t w = operated_each all now os (λ x h. k x (inr h)) _ (operated all t now o (k o (inl refl)) w)
 
-      -- Reductions.
-      reduced : (t : Turn) (ino : ℕ) (o : Option ClientSession) → F t → F (cp.reduce t ino o)
-      unfolding cp.reduce cp.reduce_idle cp.reduce_by cp.reduce_given cp.reduce_to
-      reduced t ino None w = w
-      reduced t ino (Some v) w = either (cp.may_reduce t v ino) _ t (go (locks.reduce v.locks ino)) w
-        where
-          given : (x : ClientSession) (o : Option (GrantNo × Mode)) → F (cp.reduce_given t x ino o)
-          given x None = w
-          given x (Some g) = w
-
-          go : (r : locks.Reduced) → F (cp.reduce_by t v ino r)
-          go r = given (cs.with_cache r.locks v) r.given
-
-      reduced_each : (inos : List ℕ) (t : Turn) → F t → F (cp.reduce_each inos t)
-      unfolding cp.reduce_each
-      reduced_each [] t w = w
-      reduced_each (ino ∷ inos) t w = reduced_each inos _ (reduced t ino t.here.session w)
-
-      -- Writes.
-      page_written : (t : Turn) (v : ClientSession) (now : Stamp) (tick : Bool) (o : Option DirtyPage) → F t → F (cp.write_page t v now tick o)
-      unfolding cp.write_page cp.write_due cp.write_out cp.write_out_at cp.submit_write cp.submit_command
-      page_written t v now tick None w = w
-      page_written t v now tick (Some d) w = either (cp.is_writable t v now tick d) _ t (go (pages.mapping_of t.here.store.extents d.ino d.page)) w
-        where
-          go : (m : Option MappedBlock) → F (cp.write_out_at t d m)
-          go None = w
-          go (Some m) = last t _ tt tt w
-
-      pages_written : (v : ClientSession) (now : Stamp) (tick : Bool) (xs : List (ℕ × PageNo)) (t : Turn) → F t → F (cp.write_each v now tick xs t)
-      unfolding cp.write_each
-      pages_written v now tick [] t w = w
-      pages_written v now tick (x ∷ xs) t w = pages_written v now tick xs _ (page_written t v now tick _ w)
-
-      wrote : (now : Stamp) (tick : Bool) (t : Turn) → F t → F (cp.writes now tick t)
-      unfolding cp.writes cp.writes_by
-      wrote now tick t w = go t.here.session
-        where
-          go : (o : Option ClientSession) → F (cp.writes_by t now tick o)
-          go None = w
-          go (Some v) = pages_written v now tick _ t w
-
-      greeted : (now : Stamp) (tick : Bool) (t : Turn) → F t → F (cp.greeting now tick t)
-      unfolding cp.greeting cp.greeting_by cp.greet cp.hello
-      greeted now tick t w = go t.here.session
-        where
-          go : (o : Option ClientSession) → F (cp.greeting_by t now tick o)
-          go None = either (cp.must_greet t now tick) _ t (sent _ _ _ _ _ w) w
-          go (Some v) = w
-
       -- Requests.
       requests_it : (t : Turn) (v : ClientSession) (now : Stamp) (b : Body) (cutting : Option ℕ) → F t → F (cp.ask t v now b cutting)
       unfolding cp.ask
@@ -661,8 +503,8 @@ module _ (asked : ℕ → Option Ask) (had : ServerId → Option Association) wh
           go (Some v) = either v.lease.condemned t _ w (at v v.requests.asked)
 
       pub passed : (now : Stamp) (tick : Bool) (t : Turn) → F t → F (cp.passes now tick t)
-      unfolding cp.passes cp.operations cp.reductions
-      passed now tick t w = requested now tick _ (greeted now tick _ (wrote now tick _ (reduced_each _ _ (operated_each t.operations now t.operations w.ops _ (record { at = w.at; rows = w.rows; here = w.here; fine = w.fine; ops = λ o h. absurd h })))))
+      unfolding cp.passes cp.operations
+      passed now tick t w = requested now tick _ (rested now tick _ (operated_each t.operations now t.operations w.ops _ (record { at = w.at; rows = w.rows; here = w.here; fine = w.fine; ops = λ o h. absurd h })))
 
     -- What is told is owed no more.
     told_here : (f : FileId) (rows : List LostPage) → f.server ≡ s → told_by (Some (asks.Sync f)) s rows ≡ pages.untold rows f.ino
