@@ -1,7 +1,5 @@
-pub mod Hearing
 pub mod Keys
 pub mod Law
-pub mod Requesting
 pub mod Seen
 pub mod Step
 pub mod Taking

@@ -10,4 +10,5 @@ pub mod Passing
 pub mod Replying
 pub mod Sessions
 pub mod Stepping
+pub mod Taking
 pub mod Working

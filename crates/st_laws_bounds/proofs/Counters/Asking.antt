@@ -11,7 +11,6 @@ use Rattle.st_messages.specs.declared.answer.AppAnswer.{AppAnswer}
 use Rattle.st_messages.specs.declared.answer.AppAnswer.TheVariants as answers
 use Rattle.st_messages.specs.declared.output.Output.TheVariants as outputs
 use Rattle.st_rules.specs.declared.client.ClientInput.{ClientInput}
-use Rattle.st_rules.specs.declared.client.ClientInput.TheVariants as inputs
 use Rattle.st_rules.specs.Client as cl
 use Rattle.st_rules.specs.ClientPasses as cp
 use Rattle.st_rules.specs.ClientReplies as cr
@@ -25,6 +24,9 @@ use Rattle.st_rules.specs.World.{Tally, World, ClientSite, clock_of, fresh_site,
 use Rattle.st_lemmas.proofs.Lookups.{some_is}
 use Rattle.st_lemmas.proofs.Numbers.{numbered_below, numbered_has, numbered_other, numbered_own}
 use Rattle.st_lemmas.proofs.Tables.{has_map, same_or_not}
+use Rattle.st_laws_steps.specs.Client.Taking as taking
+use Rattle.st_laws_steps.specs.Client.Taking.{Taken}
+use Rattle.st_laws_steps.proofs.Client.Taking.{taken}
 use Rattle.st_laws_bounds.proofs.Counters.Weights.{weigh, weigh_both}
 use Rattle.st_laws_bounds.proofs.Counters.Events.{Cases, ClientSteps, ServerSteps, Takes}
 use Rattle.st_laws_bounds.proofs.Counters.Clients.{Said, SameRows, flush_rows, said_all, served_all}
@@ -123,29 +125,15 @@ said_low t op a e = let z = weigh_both of_read t.out (outputs.Answer op a ∷ []
 goes_more : (m n : ℕ) (t u : ClientTurn) → m ≤ n → GoesLow m t u → GoesLow n t u
 goes_more m n t u l g = let z = g.low in record { servers = g.servers; low = omega (arith, z, l) }
 
-input_low : (t : ClientTurn) (now : Stamp) (input : ClientInput) → Apart (map server_at t.state.associations) → GoesLow 1 t (cl.take_input t now input)
-unfolding cl.take_input cl.app cl.app_known cl.done cr.receive cr.receive_here
-input_low t now inputs.Tick h = goes_none 1 t
-input_low t now (inputs.App op ask) h = full (cl.is_full t.state)
-  where
-    at : ServerId
-    at = server_of ask
-
-    known : (x : Bool) → GoesLow 1 t (if x then at_each (only_at at (cl.take_ask op ask)) t else cl.answered_at_once t op answers.NoFile)
-    known true =
-        let e = cost_is at t.state.associations in let l = h at in
-        goes_more (cost (one_of at) t.state.associations) 1 t (at_each (only_at at (cl.take_ask op ask)) t) (omega (arith, e, l)) (asked_low at (cl.take_ask op ask) (r_take op ask) t)
-    known false = goes_more 0 1 t (cl.answered_at_once t op answers.NoFile) (omega arith) (said_low t op answers.NoFile refl)
-
-    full : (x : Bool) → GoesLow 1 t (if x then cl.answered_at_once t op answers.OpsFull else cl.app_known t op ask)
-    full true = goes_more 0 1 t (cl.answered_at_once t op answers.OpsFull) (omega arith) (said_low t op answers.OpsFull refl)
-    full false = known (cl.is_configured t.state at)
-input_low t now (inputs.Control m) h = go (m.header.to == t.state.id.0)
-  where
-    go : (x : Bool) → GoesLow 1 t (if x then at_each (cr.receive_at now m.header m.body) t else t)
-    go true = goes_more 0 1 t (at_each (cr.receive_at now m.header m.body) t) (omega arith) (free_low (cr.receive_at now m.header m.body) (r_hear now m.header m.body) t)
-    go false = goes_none 1 t
-input_low t now (inputs.Done number result) h = goes_more 0 1 t (at_each (cl.finish number result) t) (omega arith) (free_low (cl.finish number result) (r_finish number result) t)
+input_low : (now : Stamp) (t u : ClientTurn) (input : ClientInput) → Taken t now input u → Apart (map server_at t.state.associations) → GoesLow 1 t u
+input_low now t _ _ (taking.Nothing i) h = goes_none 1 t
+input_low now t _ _ (taking.Full op ask e) h = goes_more 0 1 t (cl.answered_at_once t op answers.OpsFull) (omega arith) (said_low t op answers.OpsFull refl)
+input_low now t _ _ (taking.Unknown op ask e f) h = goes_more 0 1 t (cl.answered_at_once t op answers.NoFile) (omega arith) (said_low t op answers.NoFile refl)
+input_low now t _ _ (taking.Takes op ask g f) h =
+    let at = server_of ask in let e = cost_is at t.state.associations in let l = h at in
+    goes_more (cost (one_of at) t.state.associations) 1 t (at_each (only_at at (cl.take_ask op ask)) t) (omega (arith, e, l)) (asked_low at (cl.take_ask op ask) (r_take op ask) t)
+input_low now t _ _ (taking.Hears m e) h = goes_more 0 1 t (at_each (cr.receive_at now m.header m.body) t) (omega arith) (free_low (cr.receive_at now m.header m.body) (r_hear now m.header m.body) t)
+input_low now t _ _ (taking.Finishes number result) h = goes_more 0 1 t (at_each (cl.finish number result) t) (omega arith) (free_low (cl.finish number result) (r_finish number result) t)
 
 -- the whole step
 pub step_low : (s : ClientState) (now : Stamp) (input : ClientInput) → Apart (map server_at s.associations) → GoesLow 1 (client_turn s []) (cl.client_step s now input)
@@ -154,7 +142,7 @@ step_low s now input h =
     let t = cl.losses (client_turn s []) now in
     let u = cl.take_input t now input in
     let a = free_low (cl.lose now) (r_lose now) (client_turn s []) in
-    let b = input_low t now input (subst Apart (sym a.servers) h) in
+    let b = input_low now t u input (taken t now input) (subst Apart (sym a.servers) h) in
     let c = free_low (cp.passes now (cl.is_tick input)) (r_passes now (cl.is_tick input)) u in
     let x = a.low in let y = b.low in let z = c.low in
     record { servers = c.servers ∙ b.servers ∙ a.servers; low = omega (arith, x, y, z) }

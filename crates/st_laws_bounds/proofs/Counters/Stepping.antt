@@ -1,18 +1,20 @@
 -- A whole step of a client raises a counter only with an output that is counted for it.
-use Rattle.std.proofs.Common.{◌⊎◌, ℕ, ◌+◌, ◌≤◌, Bool, true, false, List, [], ◌∷◌, ◌++◌, ◌==◌, refl, sym, subst, inl, inr, arith, if◌then◌else◌}
+use Rattle.std.proofs.Common.{◌⊎◌, ℕ, ◌+◌, ◌≤◌, List, [], ◌∷◌, ◌++◌, refl, sym, subst, inl, inr, arith}
 use Rattle.st_base.specs.declared.ids.Stamp.{Stamp}
 use Rattle.st_messages.specs.declared.answer.AppAnswer.{AppAnswer}
 use Rattle.st_messages.specs.declared.answer.AppAnswer.TheVariants as answers
 use Rattle.st_messages.specs.declared.output.Output.{Output}
 use Rattle.st_messages.specs.declared.output.Output.TheVariants as outputs
 use Rattle.st_rules.specs.declared.client.ClientInput.{ClientInput}
-use Rattle.st_rules.specs.declared.client.ClientInput.TheVariants as inputs
 use Rattle.st_rules.specs.Client as cl
 use Rattle.st_rules.specs.ClientPasses as cp
 use Rattle.st_rules.specs.ClientReplies as cr
 use Rattle.st_rules.specs.ClientState.{Association, ClientState, ClientTurn, Turn, at_each, at_these, client_turn, enter, leave, only_at, server_of, with_associations}
 use Rattle.st_lemmas.specs.Lists.{Has}
 use Rattle.st_lemmas.proofs.Tables.{has_append}
+use Rattle.st_laws_steps.specs.Client.Taking as taking
+use Rattle.st_laws_steps.specs.Client.Taking.{Taken}
+use Rattle.st_laws_steps.proofs.Client.Taking.{taken}
 use Rattle.st_laws_bounds.specs.Counters.Counts.{AsksLow}
 use Rattle.st_laws_bounds.proofs.Counters.Weights.{Low, Rises, asks_more, of_change, of_command, of_loss, of_message, rises_more, weigh}
 use Rattle.st_laws_bounds.proofs.Counters.Passing.{K, k_passes}
@@ -70,28 +72,18 @@ said_low a b c d t op answer h =
     let x = h.commands in let e = r.commands in
     record { commands = omega (arith, x, e); each = λ y i. low_at_more b c d t.out (t.out ++ outputs.Answer op answer ∷ []) y r (h.each y i) }
 
-input_low : (a b c d : ℕ) (t : ClientTurn) (now : Stamp) (input : ClientInput) → AllLow a b c d t → AllLow a b c d (cl.take_input t now input)
-unfolding cl.take_input cl.app cl.app_known cl.done cr.receive cr.receive_here
-input_low a b c d t now inputs.Tick h = h
-input_low a b c d t now (inputs.App op ask) h = full (cl.is_full t.state)
-  where
-    known : (x : Bool) → AllLow a b c d (if x then at_each (only_at (server_of ask) (cl.take_ask op ask)) t else cl.answered_at_once t op answers.NoFile)
-    known true = each_low (only_at (server_of ask) (cl.take_ask op ask)) (k_take (server_of ask) op ask) a b c d t h
-    known false = said_low a b c d t op answers.NoFile h
-
-    full : (x : Bool) → AllLow a b c d (if x then cl.answered_at_once t op answers.OpsFull else cl.app_known t op ask)
-    full true = said_low a b c d t op answers.OpsFull h
-    full false = known (cl.is_configured t.state (server_of ask))
-input_low a b c d t now (inputs.Control m) h = go (m.header.to == t.state.id.0)
-  where
-    go : (x : Bool) → AllLow a b c d (if x then at_each (cr.receive_at now m.header m.body) t else t)
-    go true = each_low (cr.receive_at now m.header m.body) (k_hear now m.header m.body) a b c d t h
-    go false = h
-input_low a b c d t now (inputs.Done number result) h = each_low (cl.finish number result) (k_finish number result) a b c d t h
+input_low : (a b c d : ℕ) (now : Stamp) (t u : ClientTurn) (input : ClientInput) → Taken t now input u → AllLow a b c d t → AllLow a b c d u
+input_low a b c d now t _ _ (taking.Nothing i) h = h
+input_low a b c d now t _ _ (taking.Full op ask e) h = said_low a b c d t op answers.OpsFull h
+input_low a b c d now t _ _ (taking.Unknown op ask e f) h = said_low a b c d t op answers.NoFile h
+input_low a b c d now t _ _ (taking.Takes op ask e f) h = each_low (only_at (server_of ask) (cl.take_ask op ask)) (k_take (server_of ask) op ask) a b c d t h
+input_low a b c d now t _ _ (taking.Hears m e) h = each_low (cr.receive_at now m.header m.body) (k_hear now m.header m.body) a b c d t h
+input_low a b c d now t _ _ (taking.Finishes number result) h = each_low (cl.finish number result) (k_finish number result) a b c d t h
 
 -- the whole step
 pub step_low : (a b c d : ℕ) (s : ClientState) (now : Stamp) (input : ClientInput) → AllLow a b c d (client_turn s []) → AllLow a b c d (cl.client_step s now input)
 unfolding cl.client_step cl.work cl.losses
 step_low a b c d s now input h =
     let t = cl.losses (client_turn s []) now in
-    each_low (cp.passes now (cl.is_tick input)) (k_passes now (cl.is_tick input)) a b c d (cl.take_input t now input) (input_low a b c d t now input (each_low (cl.lose now) (k_lose now) a b c d (client_turn s []) h))
+    each_low (cp.passes now (cl.is_tick input)) (k_passes now (cl.is_tick input)) a b c d (cl.take_input t now input)
+    (input_low a b c d now t (cl.take_input t now input) input (taken t now input) (each_low (cl.lose now) (k_lose now) a b c d (client_turn s []) h))

@@ -1,7 +1,7 @@
 -- A whole step of a client: at most 12 messages and 16,468 commands, changes and losses, where at most 20 operations are pending, at most 64 pages are dirty
 -- at each server, and there are at most four servers.
-use Rattle.std.proofs.Common.{◌≡◌, ◌⊎◌, ℕ, suc, ◌+◌, ◌*◌, ◌≤◌, ◌<◌, Bool, true, false, List, [], ◌∷◌, ◌++◌, ◌==◌, refl, sym, subst, inl, inr, arith, if◌then◌else◌}
-use Rattle.std.specs.Prelude.{length, nat_le}
+use Rattle.std.proofs.Common.{◌≡◌, ◌⊎◌, ℕ, suc, ◌+◌, ◌*◌, ◌≤◌, ◌<◌, Bool, true, false, List, [], ◌∷◌, refl, sym, subst, inl, inr, arith, if◌then◌else◌}
+use Rattle.std.specs.Prelude.{length}
 use Rattle.std.proofs.lemmas.Bool.{leb-false}
 use Rattle.st_base.specs.declared.ids.ServerId.{ServerId}
 use Rattle.st_base.specs.declared.ids.Stamp.{Stamp}
@@ -9,13 +9,15 @@ use Rattle.st_messages.specs.declared.answer.AppAnswer.{AppAnswer}
 use Rattle.st_messages.specs.declared.answer.AppAnswer.TheVariants as answers
 use Rattle.st_messages.specs.declared.output.Output.TheVariants as outputs
 use Rattle.st_rules.specs.declared.client.ClientInput.{ClientInput}
-use Rattle.st_rules.specs.declared.client.ClientInput.TheVariants as inputs
 use Rattle.st_rules.specs.Client as cl
 use Rattle.st_rules.specs.ClientPasses as cp
 use Rattle.st_rules.specs.ClientReplies as cr
 use Rattle.st_rules.specs.ClientState.{Association, ClientState, ClientTurn, Turn, at_each, at_these, client_turn, enter, is_at, leave, only_at, server_of, with_associations}
 use Rattle.st_lemmas.specs.Lists.{Has}
 use Rattle.st_lemmas.proofs.Tables.{has_append}
+use Rattle.st_laws_steps.specs.Client.Taking as taking
+use Rattle.st_laws_steps.specs.Client.Taking.{Taken}
+use Rattle.st_laws_steps.proofs.Client.Taking.{taken}
 use Rattle.st_laws_bounds.proofs.Counters.Reading.{length_both}
 use Rattle.st_laws_bounds.proofs.Counters.Weights.{commands_rise, of_command, of_message, of_rise, weigh, weigh_both}
 use Rattle.st_laws_bounds.proofs.FewMessages.Passing.{C, c_none, c_passes}
@@ -129,24 +131,13 @@ asked t s op ask room h =
       messages = omega (arith, e);
     }
 
-input_left : (t : ClientTurn) (now : Stamp) (input : ClientInput) → Few t.state → Left 0 4 t (cl.take_input t now input)
-unfolding cl.take_input cl.app cl.app_known cl.done cr.receive cr.receive_here
-input_left t now inputs.Tick h = left_none 0 4 t h
-input_left t now (inputs.App op ask) h = full (cl.is_full t.state) refl
-  where
-    known : length t.state.operations < 16 → (x : Bool) → Left 0 4 t (if x then at_each (only_at (server_of ask) (cl.take_ask op ask)) t else cl.answered_at_once t op answers.NoFile)
-    known room true = asked t (server_of ask) op ask room h
-    known room false = said 0 4 t op answers.NoFile h
-
-    full : (x : Bool) → nat_le 16 (length t.state.operations) ≡ x → Left 0 4 t (if x then cl.answered_at_once t op answers.OpsFull else cl.app_known t op ask)
-    full true e = said 0 4 t op answers.OpsFull h
-    full false e = known (leb-false 16 _ e) (cl.is_configured t.state (server_of ask))
-input_left t now (inputs.Control m) h = go (m.header.to == t.state.id.0)
-  where
-    go : (x : Bool) → Left 0 4 t (if x then at_each (cr.receive_at now m.header m.body) t else t)
-    go true = each_left 0 1 (cr.receive_at now m.header m.body) (λ u few low. c_hear now m.header m.body u) t h
-    go false = left_none 0 4 t h
-input_left t now (inputs.Done number result) h =
+input_left : (now : Stamp) (t u : ClientTurn) (input : ClientInput) → Taken t now input u → Few t.state → Left 0 4 t u
+input_left now t _ _ (taking.Nothing i) h = left_none 0 4 t h
+input_left now t _ _ (taking.Full op ask e) h = said 0 4 t op answers.OpsFull h
+input_left now t _ _ (taking.Unknown op ask e f) h = said 0 4 t op answers.NoFile h
+input_left now t _ _ (taking.Takes op ask e f) h = asked t (server_of ask) op ask (leb-false 16 (length t.state.operations) e) h
+input_left now t _ _ (taking.Hears m e) h = each_left 0 1 (cr.receive_at now m.header m.body) (λ u few low. c_hear now m.header m.body u) t h
+input_left now t _ _ (taking.Finishes number result) h =
     let z = each_left 0 0 (cl.finish number result) (λ u few low. c_finish number result u) t h in let m = z.messages in
     record { few = z.few; commands = z.commands; messages = omega (arith, m) }
 
@@ -163,7 +154,7 @@ step_costs s now input h =
     let t = cl.losses (client_turn s []) now in
     let u = cl.take_input t now input in
     let a = each_left 1 0 (cl.lose now) (λ v few low. c_lose now v) (client_turn s []) h in
-    let b = input_left t now input a.few in
+    let b = input_left now t u input (taken t now input) a.few in
     let c = each_left 4116 2 (cp.passes now (cl.is_tick input)) (λ v few low. c_passes now (cl.is_tick input) v few low) u b.few in
     let d = a.commands in let e = b.commands in let f = c.commands in let g = a.messages in let i = b.messages in let j = c.messages in
     let k = commands_rise (at_each (cp.passes now (cl.is_tick input)) u).out in

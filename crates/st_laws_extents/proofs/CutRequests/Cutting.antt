@@ -50,9 +50,6 @@ use Rattle.st_rules.specs.Keys.{page_no}
 use Rattle.st_laws_steps.proofs.Server.Taking.{if_either, if_cases}
 use Rattle.st_laws_extents.proofs.ExtentReplies.Thefts.{From, f_thefts}
 
-no_some : {A B : Type 0} (x : A) → ◌≡◌ {A = Option A} None (Some x) → B
-no_some x e = cc
-
 clash : {A : Type 0} {b : Bool} → b ≡ true → b ≡ false → A
 clash x y = cc
 

@@ -43,7 +43,8 @@ use Rattle.st_laws_requests.proofs.Replies.Replies.{RepliesHold}
 use Rattle.st_laws_requests.specs.Cuts.Cuts.{CutsHold}
 use Rattle.st_laws_requests.proofs.Cuts.Law as cutting
 use Rattle.st_laws_reads.specs.AllClients.Left.{CutAsked}
-use Rattle.st_laws_extents.specs.CutRequests.Asks.{AsksBehind, AsksStand, HasExclusive, Of}
+use Rattle.st_laws_steps.specs.Client.Session.{HasExclusive}
+use Rattle.st_laws_extents.specs.CutRequests.Asks.{AsksBehind, AsksStand, Of}
 use Rattle.st_laws_extents.specs.CutRequests.Cut.{CutIn}
 use Rattle.st_laws_extents.specs.CutRequests.Law.{CutsAreAsked, gifts}
 use Rattle.st_laws_extents.specs.CutRequests.Named.{Given}

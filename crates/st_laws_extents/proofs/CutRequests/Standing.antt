@@ -27,7 +27,7 @@ use Rattle.st_laws_leases.specs.Sides.World.{AllStand, ServerStands}
 use Rattle.st_laws_leases.proofs.Sides.Pairs.{only_here, own_view}
 use Rattle.st_laws_reads.specs.AllClients.Law.{Running}
 use Rattle.st_laws_reads.proofs.AllClients.Alone.{living}
-use Rattle.st_laws_extents.specs.CutRequests.Asks.{HasExclusive}
+use Rattle.st_laws_steps.specs.Client.Session.{HasExclusive}
 use Rattle.st_laws_extents.specs.CutRequests.Named.{Given, Named}
 use Rattle.st_laws_extents.proofs.CutRequests.Named.{reached}
 

@@ -1,5 +1,5 @@
 -- The rules of a client that leave the requests of a session: a fact of them stands again.
-use Rattle.std.proofs.Common.{◌≡◌, ℕ, Bool, true, false, List, [], Option, Some, None, sym, subst, if◌then◌else◌}
+use Rattle.std.proofs.Common.{◌≡◌, ℕ, Bool, true, false, List, Option, Some, sym, subst, if◌then◌else◌}
 use Rattle.st_base.specs.declared.disk.Tag.{Tag}
 use Rattle.st_base.specs.declared.ids.GrantNo.{GrantNo}
 use Rattle.st_base.specs.declared.ids.ServerId.{ServerId}
@@ -29,7 +29,7 @@ module _ (F : Fact) where
   k_if t true u v f g = f
   k_if t false u v f g = g
 
-  alike : (xs : List KnownExtent) (server : ServerId) (life : ℕ) (s r : ClientSession) → AsksNothing xs s r → Of F server life (Some s) → Of F server life (Some r)
+  pub alike : (xs : List KnownExtent) (server : ServerId) (life : ℕ) (s r : ClientSession) → AsksNothing xs s r → Of F server life (Some s) → Of F server life (Some r)
   alike xs server life s r a h =
       subst (λ x. F server life x.0 r.requests r.cutting r.due) (sym a.epoch)
       (subst (λ x. F server life s.epoch.0 x r.cutting r.due) (sym a.requests)
@@ -63,9 +63,4 @@ module _ (F : Fact) where
   k_condemn t s e = sessions.k_condemn (λ s l o. Of F s l o) alike t s e
 
   pub k_lose : (now : Stamp) (t : Turn) → K t (cl.lose now t)
-  unfolding cl.lose cl.lose_by cl.lose_over cl.lose_session
-  k_lose now t = go t.here.session
-    where
-      go : (o : Option ClientSession) → K t (cl.lose_by t now o)
-      go None = k_none t
-      go (Some s) = k_if t (cl.is_over t s now) _ t (λ h. tt) (k_none t)
+  k_lose now t = sessions.k_lose (λ s l o. Of F s l o) (λ server life. tt) now t

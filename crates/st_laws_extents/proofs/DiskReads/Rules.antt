@@ -31,7 +31,7 @@ use Rattle.st_lemmas.proofs.Contents.{Place_is, find_stays, one_place, other_pla
 use Rattle.st_lemmas.proofs.Puts.{find_put_by, find_put_other}
 use Rattle.st_lemmas.proofs.Tables.{and_both, and_true, has_append, has_filter, not_true, some_passes}
 use Rattle.st_laws_steps.specs.Client.Client as client
-use Rattle.st_laws_steps.specs.Client.Client.{ChangesPage, GoesOn, Plain, Unasked, with_greeted}
+use Rattle.st_laws_steps.specs.Client.Client.{ChangesPage, GoesOn, IsBegun, Plain, Unasked, with_greeted}
 use Rattle.st_laws_steps.proofs.Clash.{clash}
 use Rattle.st_laws_steps.proofs.Client.Nexts.{append_assoc, dirty_put, empty_right}
 use Rattle.st_laws_extents.specs.DiskReads.OutstandingReads.{ReadsClean, ReadsKept, Unchanged}
@@ -124,7 +124,7 @@ after_greets {now} t g = kept now t (with_greeted g t) [] (empty_right t.out) re
 after_tells_lost : {now : Stamp} (t : Turn) (lost : List LostPage) → Change now t (with_lost_rows lost t)
 after_tells_lost {now} t lost = kept now t (with_lost_rows lost t) [] (empty_right t.out) refl refl refl none_changed (λ h. h)
 
-after_begins : {now : Stamp} (t : Turn) (s : ClientSession) → t.here.session ≡ None → now.0 < (lease.end_of t.config s.lease).0 → s.requests.asked ≡ None → Change now t (with_session s t)
+after_begins : {now : Stamp} (t : Turn) (s : ClientSession) → t.here.session ≡ None → now.0 < (lease.end_of t.config s.lease).0 → IsBegun s → Change now t (with_session s t)
 after_begins {now} t s a b c = kept now t (with_session s t) [] (empty_right t.out) refl refl refl none_changed (λ h. h)
 
 after_follows : {now : Stamp} (t : Turn) (s u : ClientSession) → t.here.session ≡ Some s → GoesOn t.here.store s u → Change now t (with_session u t)

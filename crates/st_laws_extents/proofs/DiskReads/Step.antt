@@ -1,5 +1,5 @@
 -- Outstanding reads through a whole step of a client.
-use Rattle.std.proofs.Common.{◌≡◌, ℕ, ◌≤◌, ◌⊎◌, Bool, true, false, ◌==◌, List, [], ◌∷◌, ◌++◌, Option, Some, None, refl, sym, ap, ◌∙◌, subst, inl, inr, arith, if◌then◌else◌}
+use Rattle.std.proofs.Common.{◌≡◌, ℕ, ◌≤◌, ◌⊎◌, Bool, true, false, List, [], ◌∷◌, ◌++◌, Option, Some, None, refl, sym, ap, ◌∙◌, subst, inl, inr, arith}
 use Rattle.std.specs.Prelude.{filter, find, map}
 use Rattle.st_base.specs.declared.ids.ClientId.{ClientId}
 use Rattle.st_base.specs.declared.ids.FileId.{FileId}
@@ -13,7 +13,6 @@ use Rattle.st_messages.specs.declared.output.Note.TheVariants as notes
 use Rattle.st_messages.specs.declared.output.Output.{Output}
 use Rattle.st_messages.specs.declared.output.Output.TheVariants as outputs
 use Rattle.st_rules.specs.declared.client.ClientInput.{ClientInput}
-use Rattle.st_rules.specs.declared.client.ClientInput.TheVariants as inputs
 use Rattle.st_rules.specs.declared.client.IoKind.TheVariants as io
 use Rattle.st_rules.specs.declared.client.PageCommand.{PageCommand}
 use Rattle.st_rules.specs.declared.pages.DirtyPage.{DirtyPage}
@@ -25,12 +24,15 @@ use Rattle.st_rules.specs.ClientState.{Association, ClientState, ClientTurn, Tur
 use Rattle.st_lemmas.specs.Lists.{Has}
 use Rattle.st_lemmas.proofs.Tables.{has_append, has_filter}
 use Rattle.st_laws_steps.specs.Client.Client.{ChangesPage}
+use Rattle.st_laws_steps.specs.Client.Taking as taking
+use Rattle.st_laws_steps.specs.Client.Taking.{Taken}
 use Rattle.st_laws_steps.specs.Lives.Lives.{Once, server_number}
 use Rattle.st_laws_steps.specs.Client.Losses.{Ends, Fails, Fit, Hardens, Passes, Unknown, is_ended}
 use Rattle.st_laws_pages.proofs.Flush.Adding.{AllStill}
 use Rattle.st_laws_steps.proofs.Client.Asking.{c_passes}
 use Rattle.st_laws_steps.proofs.Lives.Associations.{numbers_same}
 use Rattle.st_laws_pages.proofs.Flush.Flushing.{pair_of}
+use Rattle.st_laws_steps.proofs.Client.Taking.{taken}
 use Rattle.st_laws_steps.proofs.Client.Losing.{Finished, c_only, finish_is, is_done, rest_of}
 use Rattle.st_laws_steps.proofs.Client.Nexts.{Next, changes_next, found_fewer, failed_found}
 use Rattle.st_laws_steps.proofs.Client.Replying.{c_hear}
@@ -262,32 +264,21 @@ module _ (c : ClientId) (s : ClientState) (now : Stamp) (input : ClientInput) (f
           at n f p q sv x y (inr (inl e)) = no n e
           at n f p q sv x y (inr (inr j)) = absurd j
 
-  input_all : (i : ClientInput) → A (cl.take_input t now i)
-  unfolding cl.take_input cl.app cl.app_known cl.done cr.receive cr.receive_here
-  input_all inputs.Tick = begins
-  input_all (inputs.App op ask) = full (cl.is_full t.state)
-    where
-      known : (b : Bool) → A (if b then at_each (only_at (server_of ask) (cl.take_ask op ask)) t else cl.answered_at_once t op answers.NoFile)
-      known true =
-          each_all t.state.associations s.next_command now (only_at (server_of ask) (cl.take_ask op ask)) (λ x f. changes_next now x _ (c_only now (server_of ask) op ask x)) (λ x f. changes_kept now x _ (c_only now (server_of ask) op ask x)) t begins
-      known false = answered op answers.NoFile begins
-
-      full : (b : Bool) → A (if b then cl.answered_at_once t op answers.OpsFull else cl.app_known t op ask)
-      full true = answered op answers.OpsFull begins
-      full false = known (cl.is_configured t.state (server_of ask))
-  input_all (inputs.Control x) = go (x.header.to == t.state.id.0)
-    where
-      go : (b : Bool) → A (if b then at_each (cr.receive_at now x.header x.body) t else t)
-      go true =
-          each_all t.state.associations s.next_command now (cr.receive_at now x.header x.body) (λ y f. changes_next now y _ (c_hear now x.header x.body y f.fresh)) (λ y f. changes_kept now y _ (c_hear now x.header x.body y f.fresh)) t begins
-      go false = begins
-  input_all (inputs.Done number result) =
+  input_all : (i : ClientInput) (u : ClientTurn) → Taken t now i u → A u
+  input_all _ _ (taking.Nothing i) = begins
+  input_all _ _ (taking.Full op ask e) = answered op answers.OpsFull begins
+  input_all _ _ (taking.Unknown op ask e f) = answered op answers.NoFile begins
+  input_all _ _ (taking.Takes op ask e f) =
+      each_all t.state.associations s.next_command now (only_at (server_of ask) (cl.take_ask op ask)) (λ x f. changes_next now x _ (c_only now (server_of ask) op ask x)) (λ x f. changes_kept now x _ (c_only now (server_of ask) op ask x)) t begins
+  input_all _ _ (taking.Hears m e) =
+      each_all t.state.associations s.next_command now (cr.receive_at now m.header m.body) (λ y f. changes_next now y _ (c_hear now m.header m.body y f.fresh)) (λ y f. changes_kept now y _ (c_hear now m.header m.body y f.fresh)) t begins
+  input_all _ _ (taking.Finishes number result) =
       each_all t.state.associations s.next_command now (cl.finish number result) (λ y f. finish_next now number result y) (λ y f. finished_kept now number (is_done result) y (cl.finish number result y) (finish_is now number result y)) t begins
 
   pub all_behind : A (cl.client_step s now input)
   unfolding cl.client_step cl.work
   all_behind =
-      each_all t.state.associations s.next_command now (cp.passes now (cl.is_tick input)) (λ x f. changes_next now x _ (c_passes now (cl.is_tick input) x)) (λ x f. changes_kept now x _ (c_passes now (cl.is_tick input) x)) (cl.take_input t now input) (input_all input)
+      each_all t.state.associations s.next_command now (cp.passes now (cl.is_tick input)) (λ x f. changes_next now x _ (c_passes now (cl.is_tick input) x)) (λ x f. changes_kept now x _ (c_passes now (cl.is_tick input) x)) (cl.take_input t now input) (input_all input (cl.take_input t now input) (taken t now input))
 
   -- a read that is outstanding behind the step was so before it, under a lease that lasted, and its page was not changed; or it is new
   pub record ReadStays (b : Association) (pc : PageCommand) : Type 0 where

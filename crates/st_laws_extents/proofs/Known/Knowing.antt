@@ -39,7 +39,7 @@ use Rattle.st_laws_steps.proofs.Client.Calm.{IsCalm}
 use Rattle.st_laws_steps.proofs.Client.Losing.{Finished, c_end_each, calm_only, finish_is, is_done}
 use Rattle.st_laws_steps.proofs.Client.Only.{Only, Goes}
 use Rattle.st_laws_steps.proofs.Client.Only as only
-use Rattle.st_laws_steps.proofs.Client.Passing.{FollowsBy, IsPassing}
+use Rattle.st_laws_steps.proofs.Client.Passing.{FollowsBy, IsPassing, KeepsOrAsks, Part}
 use Rattle.st_laws_extents.specs.Known.Known.{Fact, HasLock, KnownAs, Locked, OutputAs, OutputsAs}
 use Rattle.st_laws_extents.proofs.Known.Locks.{demand_keeps, put_keeps, reduce_keeps}
 
@@ -71,12 +71,12 @@ step_keeps xs _ _ (LocksGranted z ino g mode) x i h = granted_keeps z ino g mode
 step_keeps xs c _ (LocksDemanded _ ino g to) x i h = demand_keeps c ino g to x.ino h
 
 -- and in a pass
-follows_keeps : (asks : Bool) (st : Store) (s u : ClientSession) (c : SessionChange st s u) → FollowsBy asks st s u c → (x : KnownExtent) → Has x st.extents → HasLock s.locks.rows x.ino → HasLock u.locks.rows x.ino
+follows_keeps : (asks : Part) (st : Store) (s u : ClientSession) (c : SessionChange st s u) → FollowsBy asks st s u c → (x : KnownExtent) → Has x st.extents → HasLock s.locks.rows x.ino → HasLock u.locks.rows x.ino
 follows_keeps asks st s u (Keeps _ _ a) q x i h = step_keeps st.extents s.locks u.locks a.locks x i h
 follows_keeps asks st s _ (DropsLock _ ino l) q x i h = absurd q
 follows_keeps asks st s _ (IsReasserted _) q x i h = absurd q
 follows_keeps asks st s _ (EndsRequest _ stamp) q x i h = absurd q
-follows_keeps asks st s _ (NewEpoch _ epoch) q x i h = absurd q
+follows_keeps asks st s _ (NewEpoch _ epoch n) q x i h = absurd q
 follows_keeps asks st s _ (AsksNew _ r now body cutting a c k) q x i h = step_keeps st.extents s.locks r.locks a.locks x i h
 follows_keeps asks st s _ (AsksAgain _ now r e) q x i h = h
 
@@ -160,7 +160,7 @@ module _ (R : Fact) where
   plain_as (outputs.Answer op a) p = tt
   plain_as (outputs.Note n) p = tt
 
-  change_passing : (syncs : List Operation) (asks : Bool) (now : Stamp) (t u : Turn) (c : Change now t u) → IsPassing syncs asks now t u c → K t u
+  change_passing : (syncs : List Operation) (asks : Part) (now : Stamp) (t u : Turn) (c : Change now t u) → IsPassing syncs asks now t u c → K t u
   unfolding cp.submit_read cp.submit_write cp.submit_command
   change_passing syncs asks now t _ (client.Says _ o p) q h = say1 t.here.server t.here.session t.here.store.extents t.out o (plain_as o p) h
   change_passing syncs asks now t _ (client.Operates _ os) q h = h
@@ -177,12 +177,12 @@ module _ (R : Fact) where
   change_passing syncs asks now t _ (client.Reads _ ino p m i clean) q h = say1 t.here.server t.here.session t.here.store.extents t.out _ tt h
   change_passing syncs asks now t _ (client.Submits _ s ino p d m se e i w) q h = say1 t.here.server t.here.session t.here.store.extents t.out _ (lies t d.ino d.page m i h) h
 
-  changes_passing : (syncs : List Operation) (asks : Bool) (now : Stamp) (t u : Turn) → Only (IsPassing syncs asks) now t u → K t u
+  changes_passing : (syncs : List Operation) (asks : Part) (now : Stamp) (t u : Turn) → Only (IsPassing syncs asks) now t u → K t u
   changes_passing syncs asks now t _ (only.Ends _) h = h
   changes_passing syncs asks now t v (Goes _ u _ c q r) h = changes_passing syncs asks now u v r (change_passing syncs asks now t u c q h)
 
   pub k_passes : (now : Stamp) (tick : Bool) (t : Turn) → K t (cp.passes now tick t)
-  k_passes now tick t = changes_passing t.operations true now t (cp.passes now tick t) (p_passes now tick t)
+  k_passes now tick t = changes_passing t.operations KeepsOrAsks now t (cp.passes now tick t) (p_passes now tick t)
 
   -- Each change where no message is heard, and such changes: what is known stays, and no write is submitted.
   abbrev Same : Turn → Turn → Type 0

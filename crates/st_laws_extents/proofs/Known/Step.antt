@@ -1,5 +1,5 @@
 -- A client's step, at all its servers: what is known, and where its writes go.
-use Rattle.std.proofs.Common.{◌⊎◌, ℕ, Bool, true, false, ◌==◌, List, [], ◌∷◌, Option, Some, None, refl, sym, subst, inl, inr, if◌then◌else◌}
+use Rattle.std.proofs.Common.{◌⊎◌, ℕ, Bool, true, false, List, [], ◌∷◌, Option, Some, None, refl, sym, subst, inl, inr, if◌then◌else◌}
 use Rattle.st_base.specs.declared.ids.Stamp.{Stamp}
 use Rattle.st_messages.specs.declared.answer.AppAnswer.{AppAnswer}
 use Rattle.st_messages.specs.declared.answer.AppAnswer.TheVariants as answers
@@ -13,35 +13,19 @@ use Rattle.st_rules.specs.ClientReplies as cr
 use Rattle.st_rules.specs.ClientState.{Association, ClientSession, ClientState, ClientTurn, Turn, at_each, at_these, client_turn, enter, leave, only_at, server_of, with_associations}
 use Rattle.st_lemmas.specs.Lists.{Has}
 use Rattle.st_lemmas.proofs.Tables.{has_append}
+use Rattle.st_laws_steps.specs.Client.Taking as taking
+use Rattle.st_laws_steps.specs.Client.Taking.{Each, Taken}
+use Rattle.st_laws_steps.proofs.Client.Taking.{each as each_keep, taken}
 use Rattle.st_laws_reads.specs.AllClients.Clear.{Cleared}
 use Rattle.st_laws_reads.proofs.AllClients.Clearing as clearing
 use Rattle.st_laws_extents.specs.Known.Known.{Fact, Knows, OutputAs, OutputsAs, Tells}
 use Rattle.st_laws_extents.proofs.Known.Hearing.{k_hear}
 use Rattle.st_laws_extents.proofs.Known.Knowing as walk
 
--- of each association
-abbrev pub Each : (Association → Type 0) → List Association → Type 0
-Each P xs = (a : Association) → Has a xs → P a
-
--- a fact of each association that a rule keeps
-keep_these : (P : Association → Type 0) (rule : Turn → Turn) → ((t : Turn) → P t.here → P (rule t).here) → (al : List Association) (t : ClientTurn) → Each P t.state.associations → Each P al → Each P (at_these rule al t).state.associations
-unfolding at_these
-keep_these P rule k [] t h g = h
-keep_these P rule k (a ∷ al) t h g = keep_these P rule k al (leave t (rule (enter t a))) (λ b i. one b (has_append t.state.associations ((rule (enter t a)).here ∷ []) b i)) (λ b i. g b (inr i))
-  where
-    one : (b : Association) → Has b t.state.associations ⊎ Has b ((rule (enter t a)).here ∷ []) → P b
-    one b (inl i) = h b i
-    one b (inr (inl e)) = subst P (sym e) (k (enter t a) (g a (inl refl)))
-    one b (inr (inr i)) = absurd i
-
-keep_each : (P : Association → Type 0) (rule : Turn → Turn) → ((t : Turn) → P t.here → P (rule t).here) → (t : ClientTurn) → Each P t.state.associations → Each P (at_each rule t).state.associations
-unfolding at_each
-keep_each P rule k t h = keep_these P rule k t.state.associations (with_associations [] t) (λ a i. absurd i) h
-
 -- what is clear stays clear through losses
 pub lost_clear : (s : ClientState) (now : Stamp) → Each Cleared s.associations → Each Cleared (cl.losses (client_turn s []) now).state.associations
 unfolding cl.losses
-lost_clear s now h = keep_each Cleared (cl.lose now) (clearing.k_lose now) (client_turn s []) h
+lost_clear s now h = each_keep Cleared Cleared (cl.lose now) (clearing.k_lose now) (client_turn s []) h
 
 module _ (R : Fact) where
   -- What stands of a step so far.
@@ -87,24 +71,13 @@ module _ (R : Fact) where
       go y (inr (inl e)) = subst (OutputAs R) (sym e) tt
       go y (inr (inr i)) = absurd i
 
-  input_fine : (t : ClientTurn) (now : Stamp) (input : ClientInput) → Each Cleared t.state.associations → Told t.state.associations input → Fine t → Fine (cl.take_input t now input)
-  unfolding cl.take_input cl.app cl.app_known cl.done cr.receive cr.receive_here
-  input_fine t now inputs.Tick c k h = h
-  input_fine t now (inputs.App op ask) c k h = full (cl.is_full t.state)
-    where
-      known : (b : Bool) → Fine (if b then at_each (only_at (server_of ask) (cl.take_ask op ask)) t else cl.answered_at_once t op answers.NoFile)
-      known true = each Any (only_at (server_of ask) (cl.take_ask op ask)) (λ u p. walk.k_take R (server_of ask) op ask u) t h (λ a i. tt)
-      known false = at_once t op answers.NoFile h
-
-      full : (b : Bool) → Fine (if b then cl.answered_at_once t op answers.OpsFull else cl.app_known t op ask)
-      full true = at_once t op answers.OpsFull h
-      full false = known (cl.is_configured t.state (server_of ask))
-  input_fine t now (inputs.Control m) c k h = go (m.header.to == t.state.id.0)
-    where
-      go : (b : Bool) → Fine (if b then at_each (cr.receive_at now m.header m.body) t else t)
-      go true = each (λ a. Cleared a × Tells R a m.header m.body) (cr.receive_at now m.header m.body) (λ u p. k_hear R m.header m.body now u p.0 p.1) t h (λ a i. (c a i, k a i))
-      go false = h
-  input_fine t now (inputs.Done number result) c k h = each Any (cl.finish number result) (λ u p. walk.k_finish R number result u) t h (λ a i. tt)
+  input_fine : (now : Stamp) (t u : ClientTurn) (input : ClientInput) → Taken t now input u → Each Cleared t.state.associations → Told t.state.associations input → Fine t → Fine u
+  input_fine now t _ _ (taking.Nothing i) c k h = h
+  input_fine now t _ _ (taking.Full op ask e) c k h = at_once t op answers.OpsFull h
+  input_fine now t _ _ (taking.Unknown op ask e f) c k h = at_once t op answers.NoFile h
+  input_fine now t _ _ (taking.Takes op ask e f) c k h = each Any (only_at (server_of ask) (cl.take_ask op ask)) (λ u p. walk.k_take R (server_of ask) op ask u) t h (λ a i. tt)
+  input_fine now t _ _ (taking.Hears m e) c k h = each (λ a. Cleared a × Tells R a m.header m.body) (cr.receive_at now m.header m.body) (λ u p. k_hear R m.header m.body now u p.0 p.1) t h (λ a i. (c a i, k a i))
+  input_fine now t _ _ (taking.Finishes number result) c k h = each Any (cl.finish number result) (λ u p. walk.k_finish R number result u) t h (λ a i. tt)
 
   -- what is lost says no write
   lose_said : (now : Stamp) (t : Turn) → OutputsAs R t.out → OutputsAs R (cl.lose now t).out
@@ -140,4 +113,4 @@ module _ (R : Fact) where
   step_fine s now input c k h =
       let t = cl.losses (client_turn s []) now in
       each Any (cp.passes now (cl.is_tick input)) (λ u p. walk.k_passes R now (cl.is_tick input) u) (cl.take_input t now input)
-      (input_fine t now input (lost_clear s now c) k (record { knows = h; said = lost_said s now })) (λ a i. tt)
+      (input_fine now t (cl.take_input t now input) input (taken t now input) (lost_clear s now c) k (record { knows = h; said = lost_said s now })) (λ a i. tt)

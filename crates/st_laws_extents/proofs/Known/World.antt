@@ -56,7 +56,8 @@ use Rattle.st_laws_extents.specs.Known.Known.{Fact, Knows, Locked}
 use Rattle.st_laws_extents.specs.Known.Lies.{AllKnow, AllLocked, CutsOwed, InputTold, LiesAs, SiteKnows, SubmitsLie, anything, lies}
 use Rattle.st_laws_extents.proofs.Known.Held.{known_found}
 use Rattle.st_laws_extents.proofs.Known.Moved.{CutNoted, moved}
-use Rattle.st_laws_extents.proofs.Known.Step.{Each, Fine, Told, lost_knows, step_fine}
+use Rattle.st_laws_steps.specs.Client.Taking.{Each}
+use Rattle.st_laws_extents.proofs.Known.Step.{Fine, Told, lost_knows, step_fine}
 
 -- what is known by one fact is known by another
 knows_by : (R S : Fact) (a : Association) → ((ino : ℕ) (p : PageNo) (m : MappedBlock) → Locked a.session ino → R a.server ino p m → S a.server ino p m) → Knows R a → Knows S a

@@ -75,7 +75,7 @@ module _ (k : Config) (count : ℕ) (past : List Step) (t : Traced) (e : Event) 
       record {
         asks = asks_next;
         keys = keyed_step t.world sc.world grown (λ s n at. (h.asks.replies.dated.servers s n at).id) h.keys (event_tells past t h.asks.replies h.asks.cuts.few e sc (cutters.owed k count past t e sc ranges h.asks is) is);
-        seen = seen_step t.world e sc is h.seen;
+        seen = seen_step t.world e sc is (λ c site q. (h.asks.all.fates.lives.lives.sites c site q).fit) h.seen;
       }
 
   goes : RequestsGo t.world sc.world

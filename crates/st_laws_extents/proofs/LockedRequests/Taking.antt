@@ -23,7 +23,7 @@ use Rattle.st_laws_refine.proofs.Client.Sim.{world_is}
 use Rattle.st_laws_steps.specs.Lives.Lives.{clock_in}
 use Rattle.st_laws_steps.specs.Client.Losses.{Fit, is_ended}
 use Rattle.st_laws_pages.proofs.Flush.Flushing.{pair_of}
-use Rattle.st_laws_steps.proofs.Client.Stepping.{LostOrNot, losses_left}
+use Rattle.st_laws_steps.proofs.Client.Stepping.{LostOrNot, losses_left, phased}
 use Rattle.st_laws_leases.specs.Sides.World.{AllStand}
 use Rattle.st_laws_reads.specs.Copies.World.{Taking, now_at, turn_of}
 use Rattle.st_laws_requests.specs.Cuts.Cuts.{Keyed, Numbered, Numbers, view}
@@ -38,7 +38,8 @@ use Rattle.st_laws_extents.specs.ExtentReplies.Told.{AskedAt}
 use Rattle.st_laws_extents.specs.LockedRequests.RequestsGoOn.{Before, Free, Of, Stand}
 use Rattle.st_laws_extents.specs.LockedRequests.Keys.{KeysTold}
 use Rattle.st_laws_extents.specs.LockedRequests.Seen.{AllSeen, any_before, any_free}
-use Rattle.st_laws_extents.proofs.LockedRequests.Step.{Each, step_goes}
+use Rattle.st_laws_steps.specs.Client.Taking.{Each}
+use Rattle.st_laws_extents.proofs.LockedRequests.Step.{step_goes}
 use Rattle.st_laws_extents.proofs.LockedRequests.World.{back_same, was_at}
 
 -- a request was outstanding before under its lock
@@ -146,7 +147,7 @@ module _ (k : Config) (count : ℕ) (past : List Step) (t : Traced) (hold : Hold
         go (Some u) e = subst (Of U W a.server a.life.0) (sym e) (some_goes a i u e)
 
     stepped : Each (λ a. Of U W a.server a.life.0 a.session) (turn_of x).state.associations
-    stepped = step_goes U W s (now_at x) x.input goes
+    stepped = step_goes U W s (now_at x) x.input (phased x.client s (now_at x) x.input fits).fit goes
 
     world_left_is : WorldLeft x.world x.client x.site x.input
     world_left_is = world_is x.world x.client x.site x.input

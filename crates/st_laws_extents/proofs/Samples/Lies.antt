@@ -28,7 +28,8 @@ use Rattle.st_laws_reads.proofs.AllClients.Behind.{Behind, behind}
 use Rattle.st_laws_reads.proofs.AllClients.Takings.{Takes}
 use Rattle.st_laws_extents.specs.Known.Known.{Fact, Knows, Locked}
 use Rattle.st_laws_extents.specs.Known.Lies.{AllKnow, AllLocked, InputTold, LiesAs, anything, lies}
-use Rattle.st_laws_extents.proofs.Known.Step.{Each, Fine, Told, lost_knows, step_fine}
+use Rattle.st_laws_steps.specs.Client.Taking.{Each}
+use Rattle.st_laws_extents.proofs.Known.Step.{Fine, Told, lost_knows, step_fine}
 use Rattle.st_laws_extents.specs.DiskReads.Reads.{LiesAt, ReadsLie}
 use Rattle.st_laws_extents.specs.Samples.SubmittedReads.{KnownTo}
 use Rattle.st_laws_extents.proofs.Samples.Step.{all_sent}

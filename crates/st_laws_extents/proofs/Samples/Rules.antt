@@ -28,7 +28,7 @@ use Rattle.st_lemmas.proofs.Tables.{and_true, has_append, has_filter, not_true, 
 use Rattle.st_laws_steps.specs.Client.Client as client
 use Rattle.st_laws_steps.specs.Client.Client.{ChangesPage}
 use Rattle.st_laws_steps.proofs.Clash.{clash}
-use Rattle.st_laws_steps.proofs.Client.Passing.{IsPassing}
+use Rattle.st_laws_steps.proofs.Client.Passing.{IsPassing, Part}
 use Rattle.st_laws_steps.proofs.Client.Only.{Only, Ends, Goes}
 use Rattle.st_laws_steps.proofs.Client.Nexts.{append_assoc, empty_right}
 use Rattle.st_laws_extents.specs.Samples.SubmittedReads.{Begun, GoesTo, KnownTo, ReadsSent, StaysKnown, SubmitsNone}
@@ -196,7 +196,7 @@ after_submits {now} t s ino p d m se e i w =
     no z = cc
 
 -- Each change of a pass, and such changes.
-change_sent : (syncs : List Operation) (asks : Bool) (now : Stamp) (t u : Turn) (c : client.Change now t u) → IsPassing syncs asks now t u c → ReadsSent now t u
+change_sent : (syncs : List Operation) (asks : Part) (now : Stamp) (t u : Turn) (c : client.Change now t u) → IsPassing syncs asks now t u c → ReadsSent now t u
 change_sent syncs asks now t _ (client.Says _ o p) q = plain now t (say t o) (o ∷ []) refl refl (plain_none o p) refl refl
 change_sent syncs asks now t _ (client.Operates _ os) q = plain now t _ [] (empty_right t.out) refl none_said refl refl
 change_sent syncs asks now t _ (client.Answers _ os ops a) q = absurd q
@@ -211,6 +211,6 @@ change_sent syncs asks now t _ (client.Writes _ s f p bytes n se sv own m h) q =
 change_sent syncs asks now t _ (client.Reads _ ino p m i clean) q = after_reads {now = now} t ino p m i clean
 change_sent syncs asks now t _ (client.Submits _ s ino p d m se e i w) q = after_submits {now = now} t s ino p d m se e i w
 
-pub changes_sent : (syncs : List Operation) (asks : Bool) (now : Stamp) (t u : Turn) → Only (IsPassing syncs asks) now t u → ReadsSent now t u
+pub changes_sent : (syncs : List Operation) (asks : Part) (now : Stamp) (t u : Turn) → Only (IsPassing syncs asks) now t u → ReadsSent now t u
 changes_sent syncs asks now t _ (Ends _) = still {now = now} t
 changes_sent syncs asks now t v (Goes _ u _ c q r) = both_of now t u v (change_sent syncs asks now t u c q) (changes_sent syncs asks now u v r)

@@ -1,5 +1,5 @@
 -- The reads that a whole step of a client submits: where they go, the step knows that their pages lie.
-use Rattle.std.proofs.Common.{◌≡◌, ℕ, ◌<◌, ◌⊎◌, Bool, true, false, ◌==◌, List, [], ◌∷◌, refl, sym, ◌∙◌, subst, inl, inr, arith, if◌then◌else◌}
+use Rattle.std.proofs.Common.{◌≡◌, ℕ, ◌<◌, ◌⊎◌, Bool, true, false, List, [], ◌∷◌, refl, sym, ◌∙◌, subst, inl, inr, arith}
 use Rattle.st_base.specs.declared.disk.BlockAt.{BlockAt}
 use Rattle.st_base.specs.declared.disk.Command.{Command}
 use Rattle.st_base.specs.declared.disk.Command.TheVariants as commands
@@ -10,7 +10,6 @@ use Rattle.st_messages.specs.declared.answer.AppAnswer.TheVariants as answers
 use Rattle.st_messages.specs.declared.output.Output.{Output}
 use Rattle.st_messages.specs.declared.output.Output.TheVariants as outputs
 use Rattle.st_rules.specs.declared.client.ClientInput.{ClientInput}
-use Rattle.st_rules.specs.declared.client.ClientInput.TheVariants as inputs
 use Rattle.st_rules.specs.declared.client.IoKind.TheVariants as io
 use Rattle.st_rules.specs.declared.client.PageCommand.{PageCommand}
 use Rattle.st_rules.specs.Client as cl
@@ -22,6 +21,9 @@ use Rattle.st_lemmas.specs.Lists.{Has}
 use Rattle.st_lemmas.proofs.Tables.{has_append, has_filter}
 use Rattle.st_laws_steps.specs.Client.Losses.{Ends, Fails, Fit, Hardens, Passes, Unknown, is_ended}
 use Rattle.st_laws_pages.proofs.Flush.Adding.{AllStill}
+use Rattle.st_laws_steps.specs.Client.Taking as taking
+use Rattle.st_laws_steps.specs.Client.Taking.{Taken}
+use Rattle.st_laws_steps.proofs.Client.Taking.{taken}
 use Rattle.st_laws_pages.proofs.Flush.Flushing.{pair_of}
 use Rattle.st_laws_steps.proofs.Client.Nexts.{empty_right}
 use Rattle.st_laws_steps.proofs.Client.Stepping.{LossesLeft, LostOrNot, losses_left, pairs_has}
@@ -29,6 +31,7 @@ use Rattle.st_laws_pages.proofs.Flush.Quiet.{AllQuiet, losses_quiet}
 use Rattle.st_laws_extents.specs.Samples.SubmittedReads.{AllSent, Begun, Calm, KnownTo, NoneSent, ReadsSent, SentRight, StaysKnown, SubmitsNone}
 use Rattle.st_laws_steps.proofs.Client.Asking.{p_passes}
 use Rattle.st_laws_steps.proofs.Client.Losing.{Finished, calm_only, finish_is, is_done}
+use Rattle.st_laws_steps.proofs.Client.Passing.{KeepsOrAsks}
 use Rattle.st_laws_steps.proofs.Client.Replying.{calm_hear}
 use Rattle.st_laws_extents.proofs.Samples.Calm.{both_none, both_of, changes_calm, none_said, plain_none}
 use Rattle.st_laws_extents.proofs.Samples.Rules.{changes_sent}
@@ -187,24 +190,13 @@ module _ (c : ClientId) (s : ClientState) (now : Stamp) (input : ClientInput) (f
   answered : (op : ℕ) (a : AppAnswer) → N (cl.answered_at_once t op a)
   answered op a = record { none = both_none t.out (outputs.Answer op a ∷ []) begins.none (plain_none (outputs.Answer op a) tt); next = begins.next; below = begins.below }
 
-  input_none : (i : ClientInput) → N (cl.take_input t now i)
-  unfolding cl.take_input cl.app cl.app_known cl.done cr.receive cr.receive_here
-  input_none inputs.Tick = begins
-  input_none (inputs.App op ask) = full (cl.is_full t.state)
-    where
-      known : (b : Bool) → N (if b then at_each (only_at (server_of ask) (cl.take_ask op ask)) t else cl.answered_at_once t op answers.NoFile)
-      known true = each_none now s.next_command (only_at (server_of ask) (cl.take_ask op ask)) (λ x f. changes_calm false now x _ (calm_only now (server_of ask) op ask x)) t fit_t begins
-      known false = answered op answers.NoFile
-
-      full : (b : Bool) → N (if b then cl.answered_at_once t op answers.OpsFull else cl.app_known t op ask)
-      full true = answered op answers.OpsFull
-      full false = known (cl.is_configured t.state (server_of ask))
-  input_none (inputs.Control x) = go (x.header.to == t.state.id.0)
-    where
-      go : (b : Bool) → N (if b then at_each (cr.receive_at now x.header x.body) t else t)
-      go true = each_none now s.next_command (cr.receive_at now x.header x.body) (λ y f. changes_calm true now y _ (calm_hear now x.header x.body y f.fresh)) t fit_t begins
-      go false = begins
-  input_none (inputs.Done number result) =
+  input_none : (i : ClientInput) (u : ClientTurn) → Taken t now i u → N u
+  input_none _ _ (taking.Nothing i) = begins
+  input_none _ _ (taking.Full op ask e) = answered op answers.OpsFull
+  input_none _ _ (taking.Unknown op ask e f) = answered op answers.NoFile
+  input_none _ _ (taking.Takes op ask e f) = each_none now s.next_command (only_at (server_of ask) (cl.take_ask op ask)) (λ x f. changes_calm false now x _ (calm_only now (server_of ask) op ask x)) t fit_t begins
+  input_none _ _ (taking.Hears m e) = each_none now s.next_command (cr.receive_at now m.header m.body) (λ y f. changes_calm true now y _ (calm_hear now m.header m.body y f.fresh)) t fit_t begins
+  input_none _ _ (taking.Finishes number result) =
       each_none now s.next_command (cl.finish number result) (λ y f. finished_calm now number (is_done result) y (cl.finish number result y) (finish_is now number result y)) t fit_t begins
 
   -- nothing was submitted, so all that was is right
@@ -217,4 +209,4 @@ module _ (c : ClientId) (s : ClientState) (now : Stamp) (input : ClientInput) (f
 
   pub all_sent : AllSent (cl.client_step s now input)
   unfolding cl.client_step cl.work
-  all_sent = each_sent now (cp.passes now (cl.is_tick input)) (λ x. changes_sent x.operations true now x _ (p_passes now (cl.is_tick input) x)) (cl.take_input t now input) (from_none (cl.take_input t now input) (input_none input))
+  all_sent = each_sent now (cp.passes now (cl.is_tick input)) (λ x. changes_sent x.operations KeepsOrAsks now x _ (p_passes now (cl.is_tick input) x)) (cl.take_input t now input) (from_none (cl.take_input t now input) (input_none input (cl.take_input t now input) (taken t now input)))

@@ -1,5 +1,5 @@
 -- A whole step of a client: what each write that it submits carries, and the latest entries of its dirty pages behind it.
-use Rattle.std.proofs.Common.{◌≡◌, ℕ, Bool, true, false, ◌==◌, List, [], ◌∷◌, Option, Some, None, refl, sym, ap, ◌∙◌, subst, if◌then◌else◌}
+use Rattle.std.proofs.Common.{◌≡◌, ℕ, Bool, true, false, List, [], ◌∷◌, Option, Some, None, refl, sym, ap, ◌∙◌, subst}
 use Rattle.std.specs.Prelude.{length, map}
 use Rattle.st_base.specs.declared.ids.ClientId.{ClientId}
 use Rattle.st_base.specs.declared.ids.Stamp.{Stamp}
@@ -9,13 +9,12 @@ use Rattle.st_messages.specs.declared.output.Output.{Output}
 use Rattle.st_messages.specs.declared.output.Output.TheVariants as outputs
 use Rattle.st_messages.specs.declared.output.Note.{Note}
 use Rattle.st_rules.specs.declared.client.ClientInput.{ClientInput}
-use Rattle.st_rules.specs.declared.client.ClientInput.TheVariants as inputs
 use Rattle.st_rules.specs.declared.pages.DirtyPage.{DirtyPage}
 use Rattle.st_rules.specs.Client as cl
 use Rattle.st_rules.specs.ClientPages as pages
 use Rattle.st_rules.specs.ClientPasses as cp
 use Rattle.st_rules.specs.ClientReplies as cr
-use Rattle.st_rules.specs.ClientState.{Association, ClientState, ClientTurn, Turn, at_each, client_turn, only_at, server_of}
+use Rattle.st_rules.specs.ClientState.{Association, ClientState, ClientTurn, Turn, client_turn, only_at, server_of}
 use Rattle.st_rules.specs.Events as ev
 use Rattle.st_rules.specs.Events.{WorldTurn}
 use Rattle.st_rules.specs.World as world
@@ -23,6 +22,8 @@ use Rattle.st_rules.specs.World.{World, ClientSite, life_with, site_of}
 use Rattle.st_lemmas.specs.Lists.{Has}
 use Rattle.st_laws_steps.specs.Lives.Lives.{LivesHold, NodeHolds, Once, Pairwise, server_number}
 use Rattle.st_laws_steps.specs.Client.Losses.{Fit, is_ended}
+use Rattle.st_laws_steps.specs.Client.Taking as taking
+use Rattle.st_laws_steps.specs.Client.Taking.{Taken}
 use Rattle.st_laws_pages.proofs.Flush.Adding.{After, AllStill, Grows, still_adds}
 use Rattle.st_laws_steps.proofs.Client.Asking.{c_passes}
 use Rattle.st_laws_steps.proofs.Lives.Associations.{PairLeft, numbers_same, own_found, pair_left}
@@ -31,7 +32,8 @@ use Rattle.st_laws_pages.proofs.Flush.Growing.{AddsNothing}
 use Rattle.st_laws_steps.proofs.Client.Losing.{c_only, finish_is, is_done}
 use Rattle.st_laws_steps.proofs.Client.Nexts.{Next, changes_next}
 use Rattle.st_laws_steps.proofs.Client.Replying.{c_hear}
-use Rattle.st_laws_steps.proofs.Client.Stepping.{Goes, LeftAll, LossesLeft, LostOrNot, finish_next, input_left, left_each, losses_left, pairs_has, pairs_then}
+use Rattle.st_laws_steps.proofs.Client.Stepping.{Goes, LostOrNot, Phased, finish_next, pairs_then, phased}
+use Rattle.st_laws_steps.proofs.Client.Taking.{taken}
 use Rattle.st_laws_pages.specs.Causes.Stands.{LatestOwn}
 use Rattle.st_laws_pages.proofs.Causes.Placed.{Placed}
 use Rattle.st_laws_pages.proofs.Causes.Saying.{placed_grown}
@@ -69,24 +71,11 @@ module _ (w : World) (c : ClientId) (old site : ClientSite) (input : ClientInput
   m : NodeHolds w.config w.clocks w.ended c site.node
   m = subst (NodeHolds w.config w.clocks w.ended c) same (h.lives.sites c old there)
 
-  lost : LossesLeft c s now (client_turn s []) t
-  lost = losses_left c s now (client_turn s []) refl m.fit
-
-  fit_t : (a : Association) → Has a t.state.associations → Fit a
-  fit_t = pairs_has (LostOrNot s.config now) Fit Fit (λ a b r. r.fit) s.associations t.state.associations lost.pairs m.fit
-
-  heard : LeftAll c s t.state.config now t u
-  heard = input_left c s now input t fit_t
-
-  fit_u : (a : Association) → Has a u.state.associations → Fit a
-  fit_u = pairs_has (Goes t.state.config now) Fit Fit (λ a b r. r.fit) t.state.associations u.state.associations heard.pairs fit_t
+  phases : Phased c s now t u v
+  phases = phased c s now input m.fit
 
   passed : (x : Turn) → Fit x.here → Next now x (cp.passes now (cl.is_tick input) x)
   passed x f = changes_next now x (cp.passes now (cl.is_tick input) x) (c_passes now (cl.is_tick input) x)
-
-  worked : LeftAll c s u.state.config now u v
-  unfolding cl.work
-  worked = left_each c s now (cp.passes now (cl.is_tick input)) u passed fit_u
 
   module _ (size : ℕ) (own : site_of sc.world c ≡ Some after) (count : length sc.world.servers ≡ size) (placed : Placed size v.out) (latest : (a : Association) → Has a old.node.state.associations → LatestOwn c w.log a)
       (last : (a : Association) → Has a old.node.state.associations → is_ended s.config now a.session ≡ false → LatestLast c w.log a) where
@@ -100,7 +89,7 @@ module _ (w : World) (c : ClientId) (old site : ClientSite) (input : ClientInput
     adds = subst (λ os. AddsNothing w.commands (After c s sc os).world.commands w.log (After c s sc os).world.log) (sym quiet.out) (still_adds c s quiet.more sc quiet.still)
 
     fine_t : (b : Association) → Has b t.state.associations → PageFine size c s sc after own count now (After c s sc t.out).world.log b
-    fine_t b i = subst (λ es. PageFine size c s sc after own count now es b) (sym adds.log) (go (pair_of (LostOrNot s.config now) s.associations t.state.associations lost.pairs b i))
+    fine_t b i = subst (λ es. PageFine size c s sc after own count now es b) (sym adds.log) (go (pair_of (LostOrNot s.config now) s.associations t.state.associations phases.lost.pairs b i))
       where
         go : (a : Association) × Has a s.associations × LostOrNot s.config now a b → PageFine size c s sc after own count now w.log b
         go (a, j, r) = by (is_ended s.config now a.session) refl
@@ -120,7 +109,7 @@ module _ (w : World) (c : ClientId) (old site : ClientSite) (input : ClientInput
                 }
 
     numbers_t : map server_number s.associations ≡ map server_number t.state.associations
-    numbers_t = numbers_same (LostOrNot s.config now) (λ a b r. r.server) s.associations t.state.associations lost.pairs
+    numbers_t = numbers_same (LostOrNot s.config now) (λ a b r. r.server) s.associations t.state.associations phases.lost.pairs
 
     once_t : Once (map server_number t.state.associations)
     once_t = subst Once numbers_t m.once
@@ -130,7 +119,7 @@ module _ (w : World) (c : ClientId) (old site : ClientSite) (input : ClientInput
 
     stay : Pairwise Stays t.state.associations v.state.associations
     stay =
-        pairs_then (Goes t.state.config now) (Goes u.state.config now) Stays (λ a b d p q. record { server = p.server ∙ q.server; life = p.life ∙ q.life }) t.state.associations u.state.associations v.state.associations heard.pairs worked.pairs
+        pairs_then (Goes t.state.config now) (Goes u.state.config now) Stays (λ a b d p q. record { server = p.server ∙ q.server; life = p.life ∙ q.life }) t.state.associations u.state.associations v.state.associations phases.heard.pairs phases.worked.pairs
 
     right_t : (b : Association) → Has b t.state.associations → life_with v.state b.server ≡ b.life
     right_t b i = go (pair_left Stays (λ x y p. p.server) b.server t.state.associations v.state.associations stay b (own_found t.state.associations once_t b i))
@@ -139,7 +128,7 @@ module _ (w : World) (c : ClientId) (old site : ClientSite) (input : ClientInput
         go p = ap world.life_at p.is ∙ sym p.pair.life
 
     begins : A t
-    begins = record { right = right_t; once = once_t; fit = fit_t; fine = fine_t; said = subst (EachFine c s sc) (sym quiet.out) (still_fine c s quiet.more sc quiet.still) }
+    begins = record { right = right_t; once = once_t; fit = phases.fit; fine = fine_t; said = subst (EachFine c s sc) (sym quiet.out) (still_fine c s quiet.more sc quiet.still) }
 
     answered : (op : ℕ) (a : AppAnswer) → A t → A (cl.answered_at_once t op a)
     answered op a g =
@@ -152,34 +141,23 @@ module _ (w : World) (c : ClientId) (old site : ClientSite) (input : ClientInput
           said = fine_last c s t.out (outputs.Answer op a) sc g.said tt;
         }
 
-    input_all : (i : ClientInput) → Placed size (cl.take_input t now i).out → A (cl.take_input t now i)
-    unfolding cl.take_input cl.app cl.app_known cl.done cr.receive cr.receive_here
-    input_all inputs.Tick o = begins
-    input_all (inputs.App op ask) o = full (cl.is_full t.state) o
-      where
-        known : (b : Bool) → Placed size (if b then at_each (only_at (server_of ask) (cl.take_ask op ask)) t else cl.answered_at_once t op answers.NoFile).out → A (if b then at_each (only_at (server_of ask) (cl.take_ask op ask)) t else cl.answered_at_once t op answers.NoFile)
-        known true o =
-            each_all size c s sc after own count now (only_at (server_of ask) (cl.take_ask op ask)) (λ x f. changes_next now x _ (c_only now (server_of ask) op ask x))
-            (λ x f others n live p r. changes_in size c s sc after own count now x _ (c_only now (server_of ask) op ask x) others n live p r) t o begins
-        known false o = answered op answers.NoFile begins
-
-        full : (b : Bool) → Placed size (if b then cl.answered_at_once t op answers.OpsFull else cl.app_known t op ask).out → A (if b then cl.answered_at_once t op answers.OpsFull else cl.app_known t op ask)
-        full true o = answered op answers.OpsFull begins
-        full false o = known (cl.is_configured t.state (server_of ask)) o
-    input_all (inputs.Control x) o = go (x.header.to == t.state.id.0) o
-      where
-        go : (b : Bool) → Placed size (if b then at_each (cr.receive_at now x.header x.body) t else t).out → A (if b then at_each (cr.receive_at now x.header x.body) t else t)
-        go true o =
-            each_all size c s sc after own count now (cr.receive_at now x.header x.body) (λ y f. changes_next now y _ (c_hear now x.header x.body y f.fresh))
-            (λ y f others n live p r. changes_in size c s sc after own count now y _ (c_hear now x.header x.body y f.fresh) others n live p r) t o begins
-        go false o = begins
-    input_all (inputs.Done number result) o =
+    input_all : (i : ClientInput) (x : ClientTurn) → Taken t now i x → Placed size x.out → A x
+    input_all _ _ (taking.Nothing i) o = begins
+    input_all _ _ (taking.Full op ask e) o = answered op answers.OpsFull begins
+    input_all _ _ (taking.Unknown op ask e g) o = answered op answers.NoFile begins
+    input_all _ _ (taking.Takes op ask e g) o =
+        each_all size c s sc after own count now (only_at (server_of ask) (cl.take_ask op ask)) (λ x f. changes_next now x _ (c_only now (server_of ask) op ask x))
+        (λ x f others n live p r. changes_in size c s sc after own count now x _ (c_only now (server_of ask) op ask x) others n live p r) t o begins
+    input_all _ _ (taking.Hears m e) o =
+        each_all size c s sc after own count now (cr.receive_at now m.header m.body) (λ y f. changes_next now y _ (c_hear now m.header m.body y f.fresh))
+        (λ y f others n live p r. changes_in size c s sc after own count now y _ (c_hear now m.header m.body y f.fresh) others n live p r) t o begins
+    input_all _ _ (taking.Finishes number result) o =
         each_all size c s sc after own count now (cl.finish number result) (λ y f. finish_next now number result y)
         (λ y f others n live p r. finished_in size c s sc after own count now number (is_done result) y (cl.finish number result y) (finish_is now number result y) others n live p r) t o begins
 
     work_grows : Grows u.out v.out
     unfolding cl.work
-    work_grows = each_grows size c s sc after own count now (cp.passes now (cl.is_tick input)) passed u fit_u
+    work_grows = each_grows size c s sc after own count now (cp.passes now (cl.is_tick input)) passed u phases.fit_too
 
     -- all of it, behind the step
     pub ends : A v
@@ -187,4 +165,4 @@ module _ (w : World) (c : ClientId) (old site : ClientSite) (input : ClientInput
     ends =
         each_all size c s sc after own count now (cp.passes now (cl.is_tick input)) passed
         (λ x f others n live p r. changes_in size c s sc after own count now x _ (c_passes now (cl.is_tick input) x) others n live p r) u placed
-        (input_all input (placed_grown size u.out v.out work_grows placed))
+        (input_all input u (taken t now input) (placed_grown size u.out v.out work_grows placed))

@@ -3,17 +3,15 @@ use Rattle.std.specs.Prelude.{◌≡◌, ℕ, ◌+◌, ◌≤◌, Bool, true, fa
 use Rattle.std.proofs.Common.{◌⊎◌}
 use Rattle.st_base.specs.declared.ids.GrantNo.{GrantNo}
 use Rattle.st_base.specs.declared.ids.ServerId.{ServerId}
-use Rattle.st_base.specs.declared.mode.Mode.TheVariants as modes
 use Rattle.st_messages.specs.declared.message.Body.{Body}
 use Rattle.st_messages.specs.declared.message.Body.TheVariants as bodies
 use Rattle.st_messages.specs.declared.message.Header.{Header}
 use Rattle.st_messages.specs.declared.message.NameOp.TheVariants as ops
-use Rattle.st_rules.specs.declared.client.HeldLock.{HeldLock}
 use Rattle.st_rules.specs.declared.client.Request.{Request}
-use Rattle.st_rules.specs.ClientLocks.{lock_of}
 use Rattle.st_rules.specs.ClientReplies.{is_counting, refuses_reassertion}
 use Rattle.st_rules.specs.ClientState.{ClientSession, Requests, reasserts}
 use Rattle.st_rules.specs.Keys.{server_node}
+use Rattle.st_laws_steps.specs.Client.Session.{HasExclusive}
 use Rattle.st_laws_requests.specs.Replies.Last.{IsLastRequest}
 use Rattle.st_laws_requests.specs.Replies.Reached.{Ends}
 
@@ -65,13 +63,6 @@ abbrev pub Tells : (ServerId → ℕ → ℕ → ℕ → Type 0) → Header → 
 Tells B h body server life epoch r cutting due =
     (q : Request) → r.asked ≡ Some q → h.from ≡ server_node server → h.life ≡ life → h.epoch ≡ epoch → Ends body →
     is_counting h.number body q ≡ true → refuses_reassertion body q.body ≡ false → B server life epoch (q.number + 1)
-
--- a session has an exclusive lock on a file, under this grant
-pub record HasExclusive (s : ClientSession) (ino : ℕ) (g : GrantNo) : Type 0 where
-  pub lock : HeldLock
-  pub is : lock_of s.locks ino ≡ Some lock
-  pub under : lock.g ≡ g
-  pub exclusive : lock.mode ≡ modes.X
 
 -- behind a step: what is removed was given before, or is held under an exclusive lock
 abbrev pub GivenOrHeld : (ServerId → ℕ → GrantNo → Type 0) → ClientSession → ServerId → ℕ → GrantNo → Type 0

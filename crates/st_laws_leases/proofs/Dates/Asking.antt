@@ -1,5 +1,5 @@
 -- A client's step: what it asks has its clock's reading for a stamp, and is of the life that it has at its server; its leases are dated by messages that came.
-use Rattle.std.proofs.Common.{◌≡◌, ℕ, ◌⊎◌, Bool, true, false, List, [], ◌∷◌, ◌++◌, refl, sym, ap, subst, inl, inr, if◌then◌else◌}
+use Rattle.std.proofs.Common.{◌≡◌, ℕ, ◌⊎◌, Bool, true, false, List, [], ◌∷◌, ◌++◌, Option, refl, sym, ap, subst, inl, inr, if◌then◌else◌}
 use Rattle.std.specs.Prelude.{map}
 use Rattle.st_base.specs.declared.ids.ClientId.{ClientId}
 use Rattle.st_base.specs.declared.ids.ServerId.{ServerId}
@@ -26,21 +26,21 @@ use Rattle.st_lemmas.specs.Lists.{Has}
 use Rattle.st_lemmas.proofs.Tables.{has_append, has_map}
 use Rattle.st_laws_steps.specs.Client.Client as client
 use Rattle.st_laws_steps.specs.Client.Client.{Change, Plain}
-use Rattle.st_laws_steps.specs.Client.Session.{SessionChange, Keeps, DropsLock, IsAsked, IsReasserted, EndsRequest, NewEpoch, AsksNew, AsksAgain}
+use Rattle.st_laws_steps.specs.Client.Session.{SessionChange, Keeps, DropsLock, IsReasserted, MayAsk, EndsRequest, NewEpoch, AsksNew, AsksAgain}
 use Rattle.st_laws_steps.proofs.Client.Asking.{p_passes}
 use Rattle.st_laws_steps.proofs.Client.Calm.{IsCalm, SaysCalm}
 use Rattle.st_laws_steps.proofs.Client.Only.{Only, Goes}
 use Rattle.st_laws_steps.proofs.Client.Only as only
-use Rattle.st_laws_steps.proofs.Client.Passing.{FollowsBy, IsPassing, SaysRight, Sends, SendsHello, SendsRequest}
+use Rattle.st_laws_steps.proofs.Client.Passing.{FollowsBy, IsPassing, KeepsOrAsks, SaysRight, Sends, SendsHello, SendsRequest}
 use Rattle.st_laws_leases.specs.Dates.Dates.{Dates, CalmRequest, SessionDated}
 
 no_bool : {A : Type 0} → false ≡ true → A
 no_bool e = cc
 
 -- what a client asks is no refusal
-asked_calm : (b : Body) → IsAsked b → is_conflict b ≡ false
-asked_calm (bodies.Nack w x y) i = absurd i
-asked_calm b i = refl
+asked_calm : (s : ClientSession) (cutting : Option ℕ) (b : Body) → MayAsk s cutting b → is_conflict b ≡ false
+asked_calm s cutting (bodies.Nack w x y) i = absurd i
+asked_calm s cutting b i = refl
 
 module _ (ms : List Message) (c : ClientId) (now : Stamp) (Lv : ServerId → ℕ → Type 0) where
   -- a message is from this client, and where it is a request it has the clock's reading
@@ -148,17 +148,17 @@ module _ (ms : List Message) (c : ClientId) (now : Stamp) (Lv : ServerId → ℕ
     says syncs t (outputs.Answer op a) q p = g_answer t op a p
     says syncs t (outputs.Note n) q p = absurd q
 
-    follows : (st : Store) (x u : ClientSession) (f : SessionChange st x u) → FollowsBy true st x u f → D x → D u
+    follows : (st : Store) (x u : ClientSession) (f : SessionChange st x u) → FollowsBy KeepsOrAsks st x u f → D x → D u
     unfolding cs.asking
     follows st x u (Keeps _ _ a) q d = (subst (λ z. Dates ms c s life z) (sym a.date) d.0, subst (λ (r : cs.Requests). CalmRequest r.asked) (sym a.requests) d.1)
     follows st x _ (DropsLock _ ino l) q d = absurd q
     follows st x _ (IsReasserted _) q d = absurd q
     follows st x _ (EndsRequest _ stamp) q d = absurd q
-    follows st x _ (NewEpoch _ epoch) q d = absurd q
-    follows st x _ (AsksNew _ r at body cutting a f i) q d = (subst (λ z. Dates ms c s life z) (sym a.date) d.0, asked_calm body i)
+    follows st x _ (NewEpoch _ epoch n) q d = absurd q
+    follows st x _ (AsksNew _ r at body cutting a f i) q d = (subst (λ z. Dates ms c s life z) (sym a.date) d.0, asked_calm r cutting body i.may)
     follows st x _ (AsksAgain _ at r e) q d = (d.0, subst CalmRequest e d.1)
 
-    change_passing : (syncs : List Operation) (t u : Turn) (f : Change now t u) → IsPassing syncs true now t u f → G t → G u
+    change_passing : (syncs : List Operation) (t u : Turn) (f : Change now t u) → IsPassing syncs KeepsOrAsks now t u f → G t → G u
     unfolding cp.submit_read cp.submit_write cp.submit_command
     change_passing syncs t _ (client.Says _ o i) q p = says syncs t o q p
     change_passing syncs t _ (client.Operates _ os) q p = g_ops t os p
@@ -176,7 +176,7 @@ module _ (ms : List Message) (c : ClientId) (now : Stamp) (Lv : ServerId → ℕ
     change_passing syncs t _ (client.Submits _ x ino r d m se e i w) q p =
         g_say (cp.with_command d.ino d.page (io.Write d.version) t) _ (λ m e. cc) (record { id_ = p.id_; server_ = p.server_; life_ = p.life_; lives = p.lives; dated = p.dated; outs = p.outs })
 
-    changes_passing : (syncs : List Operation) (t u : Turn) → Only (IsPassing syncs true) now t u → G t → G u
+    changes_passing : (syncs : List Operation) (t u : Turn) → Only (IsPassing syncs KeepsOrAsks) now t u → G t → G u
     changes_passing syncs t _ (only.Ends _) p = p
     changes_passing syncs t v (Goes _ u _ f q r) p = changes_passing syncs u v r (change_passing syncs t u f q p)
 

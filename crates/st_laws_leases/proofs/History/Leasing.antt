@@ -57,7 +57,7 @@ use Rattle.st_laws_steps.proofs.Client.Calm.{IsCalm, SaysCalm}
 use Rattle.st_laws_steps.proofs.Client.Losing.{Finished, c_end_each, calm_only, finish_is, is_done}
 use Rattle.st_laws_steps.proofs.Client.Only.{Only, Goes}
 use Rattle.st_laws_steps.proofs.Client.Only as only
-use Rattle.st_laws_steps.proofs.Client.Passing.{FollowsBy, IsPassing, SaysRight}
+use Rattle.st_laws_steps.proofs.Client.Passing.{FollowsBy, IsPassing, KeepsOrAsks, SaysRight}
 use Rattle.st_laws_leases.specs.History.Replies.{renews_lease}
 use Rattle.st_laws_leases.specs.History.Notes.{noted_one, noted}
 
@@ -545,16 +545,16 @@ module _ (k : Config) (init base : ServerId → Option Stamp) (sv : ServerId) (T
   quiet_change f p (notes.Leased s end) h = absurd h
   quiet_change f p n h = tt
 
-  follows : (t : Turn) (s u : ClientSession) (c : SessionChange t.here.store s u) → FollowsBy true t.here.store s u c → HasNoted s t → N (with_session u t)
+  follows : (t : Turn) (s u : ClientSession) (c : SessionChange t.here.store s u) → FollowsBy KeepsOrAsks t.here.store s u c → HasNoted s t → N (with_session u t)
   follows t s u (Keeps _ _ a) q v = n_with t s u a.date a.epoch v
   follows t s _ (DropsLock _ ino l) q v = absurd q
   follows t s _ (IsReasserted _) q v = absurd q
   follows t s _ (EndsRequest _ stamp) q v = absurd q
-  follows t s _ (NewEpoch _ epoch) q v = absurd q
+  follows t s _ (NewEpoch _ epoch n) q v = absurd q
   follows t s _ (AsksNew _ r now body cutting a c i) q v = n_with t s (cp.asking_session r now body cutting) a.date a.epoch v
   follows t s _ (AsksAgain _ now x e) q v = n_with t s (cp.again_session s now x) refl refl v
 
-  change_passing : (syncs : List Operation) (now : Stamp) (t u : Turn) (c : Change now t u) → IsPassing syncs true now t u c → N t → N u
+  change_passing : (syncs : List Operation) (now : Stamp) (t u : Turn) (c : Change now t u) → IsPassing syncs KeepsOrAsks now t u c → N t → N u
   unfolding cp.submit_read cp.submit_write cp.submit_command
   change_passing syncs now t _ (client.Says _ o p) q n = n_say t o (quiet_right syncs now t o q) n
   change_passing syncs now t _ (client.Operates _ os) q n = n_operations t os n
@@ -572,7 +572,7 @@ module _ (k : Config) (init base : ServerId → Option Stamp) (sv : ServerId) (T
   change_passing syncs now t _ (client.Submits _ s ino p d m se e i w) q n =
       let e = n_say t (outputs.Submit t.next_command m.at _) tt n in record { config = e.config; server = e.server; own = e.own; others = e.others; told = e.told; untold = e.untold }
 
-  passing : (syncs : List Operation) (now : Stamp) (t u : Turn) → Only (IsPassing syncs true) now t u → N t → N u
+  passing : (syncs : List Operation) (now : Stamp) (t u : Turn) → Only (IsPassing syncs KeepsOrAsks) now t u → N t → N u
   passing syncs now t _ (only.Ends _) n = n
   passing syncs now t v (Goes _ u _ c q r) n = passing syncs now u v r (change_passing syncs now t u c q n)
 

@@ -1,5 +1,5 @@
 -- A whole step of a client: each lease that it leaves was noted with its end, or is the one before.
-use Rattle.std.proofs.Common.{◌≡◌, ℕ, Bool, true, false, List, [], ◌∷◌, ◌++◌, ◌==◌, Option, Some, refl, sym, ap, ◌∙◌, subst, inl, inr, if◌then◌else◌}
+use Rattle.std.proofs.Common.{◌≡◌, ℕ, Bool, true, false, List, [], ◌∷◌, ◌++◌, Option, Some, refl, sym, ap, ◌∙◌, subst, inl, inr}
 use Rattle.std.specs.Prelude.{◌⊎◌, map, option_map}
 use Rattle.std.proofs.lemmas.Bool.{eqb-true}
 use Rattle.st_base.specs.declared.config.Config.{Config}
@@ -9,6 +9,7 @@ use Rattle.st_base.specs.declared.ids.Life.{Life}
 use Rattle.st_base.specs.declared.ids.ServerId.{ServerId}
 use Rattle.st_base.specs.declared.ids.Stamp.{Stamp}
 use Rattle.st_messages.specs.declared.answer.AppAnswer.{AppAnswer}
+use Rattle.st_messages.specs.declared.answer.AppAnswer.TheVariants as answers
 use Rattle.st_messages.specs.declared.message.Message.{Message}
 use Rattle.st_messages.specs.declared.output.Output.TheVariants as outputs
 use Rattle.st_rules.specs.declared.client.ClientInput.{ClientInput}
@@ -23,8 +24,11 @@ use Rattle.st_rules.specs.Keys.{same_server, server_node}
 use Rattle.st_rules.specs.Leases as leases
 use Rattle.st_lemmas.specs.Lists.{Has}
 use Rattle.st_lemmas.proofs.Tables.{has_append, has_map_in}
+use Rattle.st_laws_steps.specs.Client.Taking as taking
+use Rattle.st_laws_steps.specs.Client.Taking.{Taken}
 use Rattle.st_laws_steps.specs.Lives.Lives.{Once, server_number}
 use Rattle.st_laws_steps.proofs.Lives.Associations.{own_found}
+use Rattle.st_laws_steps.proofs.Client.Taking.{taken}
 use Rattle.st_laws_leases.specs.History.Replies.{renews_lease}
 use Rattle.st_laws_leases.specs.History.Notes.{noted}
 use Rattle.st_laws_leases.proofs.History.Leasing.{Noted, leased, none_more, noted_quiet, unsaid, n_lose, n_hear, n_only, n_finish, n_passes}
@@ -206,40 +210,28 @@ module _ (k : Config) (init : ServerId → Option Stamp) where
       (λ life epoch f l p d. record { from = f ∙ ap server_node n.server; to = to; of_life = l; of_epoch = p; renews = d; ends = refl })
       (record { config = n.config; server = n.server; own = n.own; others = n.others; told = λ end i. absurd (n.told end i); untold = n.untold })
 
-  input_noted : (c : ClientId) (t : ClientTurn) (now : Stamp) (input : ClientInput) → t.state.id ≡ c → A Nothing t → A (Brings c input) (cl.take_input t now input)
-  unfolding cl.take_input cl.done cl.app cl.app_known cr.receive cr.receive_here
-  input_noted c t now input id h = go input
+  input_noted : (c : ClientId) (t u : ClientTurn) (now : Stamp) (input : ClientInput) → Taken t now input u → t.state.id ≡ c → A Nothing t → A (Brings c input) u
+  input_noted c t u now input x id h = go input u x
     where
-      if_noted : (P : Tells) (b : Bool) (u v : ClientTurn) → A P u → A P v → A P (if b then u else v)
-      if_noted P true u v x y = x
-      if_noted P false u v x y = y
-
-      once_more : (op : ℕ) (a : AppAnswer) → A Nothing (cl.answered_at_once t op a)
-      once_more op a =
-          record {
+      once_more : (i : ClientInput) (op : ℕ) (a : AppAnswer) → A (Brings c i) (cl.answered_at_once t op a)
+      once_more i op a =
+          weaker (Brings c i) (cl.answered_at_once t op a)
+          (record {
             config = h.config;
             once = h.once;
             each = λ b i x e. noted_quiet b.server t.out (outputs.Answer op a) (init b.server) tt ∙ h.each b i x e;
             behind = λ b i end q. h.behind b i end (unsaid b.server end t.out (outputs.Answer op a) tt q);
             none = λ s f end q. h.none s f end (unsaid s end t.out (outputs.Answer op a) tt q);
             ahead = λ b i end q. absurd i;
-          }
+          })
 
-      at_each_nothing : (rule : Turn → Turn) → Rule Nothing Nothing rule → A Nothing (at_each rule t)
-      at_each_nothing rule one = every Nothing Nothing rule one t h
-
-      go : (i : ClientInput) → A (Brings c i) (cl.take_input t now i)
-      go inputs.Tick = weaker (Brings c inputs.Tick) t h
-      go (inputs.App op ask) =
-          weaker (Brings c (inputs.App op ask)) _
-          (if_noted Nothing (cl.is_full t.state) _ _ (once_more op _)
-          (if_noted Nothing (cl.is_configured t.state (server_of ask)) _ _ (at_each_nothing _ (λ base B sv u n. n_only k init base sv (Nothing sv) B (server_of ask) op ask u n)) (once_more op _)))
-      go (inputs.Control m) = to (m.header.to == t.state.id.0) refl
-        where
-          to : (b : Bool) → (m.header.to == t.state.id.0) ≡ b → A (Brings c (inputs.Control m)) (if b then cr.receive_here t now m.header m.body else t)
-          to true e = every (Brings c (inputs.Control m)) Nothing _ (hears c now m (eqb-true m.header.to t.state.id.0 e ∙ ap (λ (x : ClientId). x.0) id)) t h
-          to false e = weaker (Brings c (inputs.Control m)) t h
-      go (inputs.Done number result) = weaker (Brings c (inputs.Done number result)) _ (at_each_nothing _ (λ base B sv u n. n_finish k init base sv (Nothing sv) B number result u n))
+      go : (i : ClientInput) (u : ClientTurn) → Taken t now i u → A (Brings c i) u
+      go _ _ (taking.Nothing i) = weaker (Brings c i) t h
+      go _ _ (taking.Full op ask e) = once_more (inputs.App op ask) op answers.OpsFull
+      go _ _ (taking.Unknown op ask e f) = once_more (inputs.App op ask) op answers.NoFile
+      go _ _ (taking.Takes op ask e f) = weaker (Brings c (inputs.App op ask)) _ (every Nothing Nothing _ (λ base B sv u n. n_only k init base sv (Nothing sv) B (server_of ask) op ask u n) t h)
+      go _ _ (taking.Hears m e) = every (Brings c (inputs.Control m)) Nothing _ (hears c now m (eqb-true m.header.to t.state.id.0 e ∙ ap (λ (x : ClientId). x.0) id)) t h
+      go _ _ (taking.Finishes number result) = weaker (Brings c (inputs.Done number result)) _ (every Nothing Nothing _ (λ base B sv u n. n_finish k init base sv (Nothing sv) B number result u n) t h)
 
   lost_id : (al : List Association) (t : ClientTurn) (now : Stamp) → (at_these (cl.lose now) al t).state.id ≡ t.state.id
   unfolding at_these
@@ -250,7 +242,7 @@ module _ (k : Config) (init : ServerId → Option Stamp) where
   unfolding cl.client_step cl.work cl.losses at_each
   step_all c s now input id h =
       every (Brings c input) (Brings c input) _ (λ base B sv u n. n_passes k init base sv (Brings c input sv) B now (cl.is_tick input) u n) _
-      (input_noted c _ now input (lost_id s.associations (cs.with_associations [] (client_turn s [])) now ∙ id)
+      (input_noted c _ _ now input (taken _ now input) (lost_id s.associations (cs.with_associations [] (client_turn s [])) now ∙ id)
       (every Nothing Nothing _ (λ base B sv u n. n_lose k init base sv (Nothing sv) B (λ l p end z. z) now u n) (client_turn s []) h))
 
 -- the ends of the leases before a step

@@ -1,5 +1,5 @@
 -- A whole step of a client: which syncs it answers hard, and which operations it leaves.
-use Rattle.std.proofs.Common.{◌≡◌, ℕ, Bool, true, false, ◌==◌, ◌⊎◌, List, [], ◌∷◌, ◌++◌, Option, Some, sym, subst, refl, inl, inr, if◌then◌else◌}
+use Rattle.std.proofs.Common.{◌≡◌, ℕ, Bool, true, false, ◌⊎◌, List, [], ◌∷◌, ◌++◌, Option, Some, sym, subst, refl, inl, inr, if◌then◌else◌}
 use Rattle.std.specs.Prelude.{length, map}
 use Rattle.st_base.specs.declared.ids.ClientId.{ClientId}
 use Rattle.st_base.specs.declared.ids.FileId.{FileId}
@@ -25,6 +25,9 @@ use Rattle.st_laws_pages.specs.Fates.Fates.{GoneAll}
 use Rattle.st_laws_pages.specs.Flush.Flush.{NodeCared}
 use Rattle.st_laws_steps.specs.Lives.Lives.{LivesHold}
 use Rattle.st_laws_steps.specs.Client.Losses.{Fit}
+use Rattle.st_laws_steps.specs.Client.Taking as taking
+use Rattle.st_laws_steps.specs.Client.Taking.{Taken}
+use Rattle.st_laws_steps.proofs.Client.Taking.{taken}
 use Rattle.st_laws_pages.proofs.Flush.Flushing.{InputTold}
 use Rattle.st_laws_pages.proofs.Asks.Client.{key}
 use Rattle.st_laws_pages.proofs.Asks.Places.{Knows}
@@ -32,7 +35,7 @@ use Rattle.st_laws_pages.specs.Causes.Stands.{CommandsStand, LatestOwn}
 use Rattle.st_laws_pages.proofs.Causes.Hardly.{Hards, Ungone, each_said_at, quiet_hards}
 use Rattle.st_laws_pages.proofs.Causes.Placed.{AllPlaced, From, InputTells, Placed, Since, each_from, each_place, finish_places, hear_places, input_places, lose_places, only_left, passes_place, since_none, since_one, since_then}
 use Rattle.st_laws_pages.proofs.Causes.Saying.{placed_grown}
-use Rattle.st_laws_pages.proofs.Causes.Stepping.{fit_t, fit_u, input_all, work_grows}
+use Rattle.st_laws_pages.proofs.Causes.Stepping.{input_all, phases, work_grows}
 use Rattle.st_laws_steps.specs.Client.Client.{Unhard}
 use Rattle.st_laws_pages.proofs.Causes.Unhard.{H, h_ask, h_finish, h_hear, h_lose}
 
@@ -47,24 +50,13 @@ each_unhard : (rule : Turn → Turn) → ((t : Turn) → Fit t.here → H t (rul
 unfolding at_each
 each_unhard rule one t f = these_unhard rule one t.state.associations (with_associations [] t) f
 
-input_unhard : (now : Stamp) (input : ClientInput) (t : ClientTurn) → ((a : Association) → Has a t.state.associations → Fit a) → Since Unhard t.out (cl.take_input t now input).out
-unfolding cl.take_input cl.app cl.app_known cl.done cr.receive cr.receive_here
-input_unhard now inputs.Tick t f = since_none Unhard t.out
-input_unhard now (inputs.App op ask) t f = full (cl.is_full t.state)
-  where
-    known : (b : Bool) → Since Unhard t.out (if b then at_each (only_at (server_of ask) (cl.take_ask op ask)) t else cl.answered_at_once t op answers.NoFile).out
-    known true = each_unhard (only_at (server_of ask) (cl.take_ask op ask)) (λ u g. h_ask (server_of ask) op ask u) t f
-    known false = since_one Unhard t.out (outputs.Answer op answers.NoFile) tt
-
-    full : (b : Bool) → Since Unhard t.out (if b then cl.answered_at_once t op answers.OpsFull else cl.app_known t op ask).out
-    full true = since_one Unhard t.out (outputs.Answer op answers.OpsFull) tt
-    full false = known (cl.is_configured t.state (server_of ask))
-input_unhard now (inputs.Control m) t f = go (m.header.to == t.state.id.0)
-  where
-    go : (b : Bool) → Since Unhard t.out (if b then at_each (cr.receive_at now m.header m.body) t else t).out
-    go true = each_unhard (cr.receive_at now m.header m.body) (λ u g. h_hear now m.header m.body u g.fresh) t f
-    go false = since_none Unhard t.out
-input_unhard now (inputs.Done number r) t f = each_unhard (cl.finish number r) (λ u g. h_finish number r u) t f
+input_unhard : (now : Stamp) (input : ClientInput) (t u : ClientTurn) → Taken t now input u → ((a : Association) → Has a t.state.associations → Fit a) → Since Unhard t.out u.out
+input_unhard now _ t _ (taking.Nothing i) f = since_none Unhard t.out
+input_unhard now _ t _ (taking.Full op ask e) f = since_one Unhard t.out (outputs.Answer op answers.OpsFull) tt
+input_unhard now _ t _ (taking.Unknown op ask e g) f = since_one Unhard t.out (outputs.Answer op answers.NoFile) tt
+input_unhard now _ t _ (taking.Takes op ask e g) f = each_unhard (only_at (server_of ask) (cl.take_ask op ask)) (λ u g. h_ask (server_of ask) op ask u) t f
+input_unhard now _ t _ (taking.Hears m e) f = each_unhard (cr.receive_at now m.header m.body) (λ u g. h_hear now m.header m.body u g.fresh) t f
+input_unhard now _ t _ (taking.Finishes number r) f = each_unhard (cl.finish number r) (λ u g. h_finish number r u) t f
 
 -- The operations behind an ask: those that there were, and it.
 abbrev OrNew : List (ℕ × Ask) → ℕ × Ask → List Operation → Type 0
@@ -119,29 +111,19 @@ KeysAsked asked os = (k : ℕ × Ask) → Has k (map key os) → asked k.0 ≡ S
 from_asked : (asked : ℕ → Option Ask) (os ps : List Operation) → From (map key os) ps → KeysAsked asked os → KeysAsked asked ps
 from_asked asked os ps f h = λ k i. h k (f k i)
 
-input_asked : (n : ℕ) (now : Stamp) (asked : ℕ → Option Ask) (input : ClientInput) (t : ClientTurn) → InputTells n input → AsksIt asked input → ((b : Association) → Has b t.state.associations → Fit b) → ((b : Association) → Has b t.state.associations → Knows n b.server b.store.extents) →
-    KeysAsked asked t.state.operations → KeysAsked asked (cl.take_input t now input).state.operations
-unfolding cl.take_input cl.app cl.app_known cl.done cr.receive cr.receive_here at_each
-input_asked n now asked inputs.Tick t told new f k h = h
-input_asked n now asked (inputs.App op ask) t told new f k h = full (cl.is_full t.state)
+input_asked : (n : ℕ) (now : Stamp) (asked : ℕ → Option Ask) (input : ClientInput) (t u : ClientTurn) → Taken t now input u → InputTells n input → AsksIt asked input → ((b : Association) → Has b t.state.associations → Fit b) → ((b : Association) → Has b t.state.associations → Knows n b.server b.store.extents) →
+    KeysAsked asked t.state.operations → KeysAsked asked u.state.operations
+unfolding at_each
+input_asked n now asked _ t _ (taking.Nothing i) told new f k h = h
+input_asked n now asked _ t _ (taking.Full op ask e) told new f k h = h
+input_asked n now asked _ t _ (taking.Unknown op ask e g) told new f k h = h
+input_asked n now asked _ t _ (taking.Takes op ask e g) told new f k h = λ x i. either x (ask_these (server_of ask) op ask t.state.associations (with_associations [] t) x i)
   where
     either : (x : ℕ × Ask) → Has x (map key t.state.operations) ⊎ (x ≡ (op, ask)) → asked x.0 ≡ Some x.1
     either x (inl i) = h x i
     either x (inr e) = subst (λ (y : ℕ × Ask). asked y.0 ≡ Some y.1) (sym e) new
-
-    known : (b : Bool) → KeysAsked asked (if b then at_each (only_at (server_of ask) (cl.take_ask op ask)) t else cl.answered_at_once t op answers.NoFile).state.operations
-    known true = λ x i. either x (ask_these (server_of ask) op ask t.state.associations (with_associations [] t) x i)
-    known false = h
-
-    full : (b : Bool) → KeysAsked asked (if b then cl.answered_at_once t op answers.OpsFull else cl.app_known t op ask).state.operations
-    full true = h
-    full false = known (cl.is_configured t.state (server_of ask))
-input_asked n now asked (inputs.Control m) t told new f k h = go (m.header.to == t.state.id.0)
-  where
-    go : (b : Bool) → KeysAsked asked (if b then at_each (cr.receive_at now m.header m.body) t else t).state.operations
-    go true = from_asked asked t.state.operations (at_each (cr.receive_at now m.header m.body) t).state.operations (each_from n (cr.receive_at now m.header m.body) (hear_places n now m.header m.body told) t f k) h
-    go false = h
-input_asked n now asked (inputs.Done number r) t told new f k h = from_asked asked t.state.operations (at_each (cl.finish number r) t).state.operations (each_from n (cl.finish number r) (finish_places n now number r) t f k) h
+input_asked n now asked _ t _ (taking.Hears m e) told new f k h = from_asked asked t.state.operations (at_each (cr.receive_at now m.header m.body) t).state.operations (each_from n (cr.receive_at now m.header m.body) (hear_places n now m.header m.body told) t f k) h
+input_asked n now asked _ t _ (taking.Finishes number r) told new f k h = from_asked asked t.state.operations (at_each (cl.finish number r) t).state.operations (each_from n (cl.finish number r) (finish_places n now number r) t f k) h
 
 -- The whole step.
 module _ (past : List Step) (w : World) (c : ClientId) (old site : ClientSite) (input : ClientInput) (now : Stamp) (there : site_of w c ≡ Some old) (same : old.node ≡ site.node) (starts : old.starts ≡ site.starts) (h : LivesHold w) where
@@ -171,33 +153,33 @@ module _ (past : List Step) (w : World) (c : ClientId) (old site : ClientSite) (
     lost = each_place size (cl.lose now) (only_left size (cl.lose now) (lose_places size now)) (client_turn s []) fit knows
 
     fits_t : (b : Association) → Has b t.state.associations → Fit b
-    fits_t = fit_t past w c old site input now there same starts h
+    fits_t = (phases past w c old site input now there same starts h).fit
 
     fits_u : (b : Association) → Has b u.state.associations → Fit b
-    fits_u = fit_u past w c old site input now there same starts h
+    fits_u = (phases past w c old site input now there same starts h).fit_too
 
-    taken : AllPlaced size t u
-    taken = input_places size now input t tells fits_t lost.knows
+    places : AllPlaced size t u
+    places = input_places size now input t u (taken t now input) tells fits_t lost.knows
 
     asked_t : KeysAsked asked t.state.operations
     unfolding cl.losses
     asked_t = from_asked asked s.operations t.state.operations (each_from size (cl.lose now) (lose_places size now) (client_turn s []) fit knows) known
 
     asked_u : KeysAsked asked u.state.operations
-    asked_u = input_asked size now asked input t tells new fits_t lost.knows asked_t
+    asked_u = input_asked size now asked input t u (taken t now input) tells new fits_t lost.knows asked_t
 
     pub step_asked : KeysAsked asked v.state.operations
     unfolding cl.work
     step_asked =
-        from_asked asked u.state.operations v.state.operations (each_from size (cp.passes now (cl.is_tick input)) (passes_place size now (cl.is_tick input)) u fits_u taken.knows) asked_u
+        from_asked asked u.state.operations v.state.operations (each_from size (cp.passes now (cl.is_tick input)) (passes_place size now (cl.is_tick input)) u fits_u places.knows) asked_u
 
     said_u : Hards asked c (λ r. life_with after.node.state r) s sc u.out
     unfolding cl.losses
-    said_u = quiet_hards asked c (λ r. life_with after.node.state r) s [] u.out sc tt (since_then Unhard [] t.out u.out (each_unhard (cl.lose now) (λ z g. h_lose now z) (client_turn s []) fit) (input_unhard now input t fits_t))
+    said_u = quiet_hards asked c (λ r. life_with after.node.state r) s [] u.out sc tt (since_then Unhard [] t.out u.out (each_unhard (cl.lose now) (λ z g. h_lose now z) (client_turn s []) fit) (input_unhard now input t u (taken t now input) fits_t))
 
     pub step_said : Hards asked c (λ r. life_with after.node.state r) s sc v.out
     unfolding cl.work
     step_said =
-        each_said_at past size c s sc after own count holds now asked gone (cl.is_tick input) u taken.knows placed
-        (input_all past w c old site input now there same starts h size own count holds placed told cared latest input told
+        each_said_at past size c s sc after own count holds now asked gone (cl.is_tick input) u places.knows placed
+        (input_all past w c old site input now there same starts h size own count holds placed told cared latest input u (taken t now input) told
         (placed_grown size u.out v.out (work_grows past w c old site input now there same starts h size own count holds placed told cared latest) placed)) asked_u said_u

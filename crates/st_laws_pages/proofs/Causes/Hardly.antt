@@ -45,7 +45,7 @@ use Rattle.st_laws_steps.proofs.Client.Asking.{c_passes, p_passes}
 use Rattle.st_laws_steps.proofs.Client.Changes.{one}
 use Rattle.st_laws_steps.proofs.Client.Only.{Only, Goes, all}
 use Rattle.st_laws_steps.proofs.Client.Only as only
-use Rattle.st_laws_steps.proofs.Client.Passing.{AnswersRight, IsHardSync, IsPassing, SaysRight}
+use Rattle.st_laws_steps.proofs.Client.Passing.{AnswersRight, IsHardSync, IsPassing, KeepsOrAsks, SaysRight}
 use Rattle.st_laws_pages.proofs.Fates.GoneLaw.{gone_more}
 use Rattle.st_laws_pages.proofs.Flush.Keeping.{OfOthers}
 use Rattle.st_laws_steps.proofs.Client.Nexts.{Next, change_next, changes_next}
@@ -216,7 +216,7 @@ module _ (past : List Step) (size : ℕ) (c : ClientId) (before : ClientState) (
   said_one syncs t (outputs.Note n) q live others r f h = quiet t (outputs.Note n) tt h
 
   -- one change of a pass, and changes
-  change_said : (syncs : List Operation) (t u : Turn) (ch : Change now t u) → IsPassing syncs true now t u ch → Alive t.here → (others : List Association) → I t others → AskedAll syncs → Said t.out → Said u.out
+  change_said : (syncs : List Operation) (t u : Turn) (ch : Change now t u) → IsPassing syncs KeepsOrAsks now t u ch → Alive t.here → (others : List Association) → I t others → AskedAll syncs → Said t.out → Said u.out
   unfolding cp.submit_read cp.submit_write cp.submit_command
   change_said syncs t _ (client.Says _ o p) q live others r f h = said_one syncs t o q live others r f h
   change_said syncs t _ (client.Operates _ os) q live others r f h = h
@@ -232,12 +232,12 @@ module _ (past : List Step) (size : ℕ) (c : ClientId) (before : ClientState) (
   change_said syncs t _ (client.Reads _ ino p m i clean) q live others r f h = quiet t _ tt h
   change_said syncs t _ (client.Submits _ s ino p d m se e i w) q live others r f h = quiet t _ tt h
 
-  changes_said : (syncs : List Operation) (t v : Turn) → Only (IsPassing syncs true) now t v → (others : List Association) → OfOthers t.here.server others → Alive t.here → Placed size v.out → I t others → AskedAll syncs → Said t.out → Said v.out
+  changes_said : (syncs : List Operation) (t v : Turn) → Only (IsPassing syncs KeepsOrAsks) now t v → (others : List Association) → OfOthers t.here.server others → Alive t.here → Placed size v.out → I t others → AskedAll syncs → Said t.out → Said v.out
   changes_said syncs t _ (only.Ends _) others n live p r f h = h
   changes_said syncs t v (Goes _ u _ ch q rest) others n live p r f h =
       let x = change_next now t u ch in
       changes_said syncs u v rest others (others_next past size c before sc site there count holds now t.here.server u.here.server others x.server n) (right_next past size c before sc site there count holds now t.here u.here x.server x.life live) p
-      (moves t u (one ch) others n live (grown u v (all (IsPassing syncs true) now u v rest) p) r) f (change_said syncs t u ch q live others r f h)
+      (moves t u (one ch) others n live (grown u v (all (IsPassing syncs KeepsOrAsks) now u v rest) p) r) f (change_said syncs t u ch q live others r f h)
 
   -- all passes at a server
   pub passes_said : (tick : Bool) (t : Turn) (others : List Association) → OfOthers t.here.server others → Alive t.here → Placed size (cp.passes now tick t).out → I t others → AskedAll t.operations → Said t.out → Said (cp.passes now tick t).out

@@ -1,5 +1,5 @@
 -- Where a client's step submits writes: each goes to a disk of its file's server.
-use Rattle.std.proofs.Common.{◌≡◌, ℕ, Bool, true, false, ◌==◌, ◌⊎◌, List, [], ◌∷◌, ◌++◌, Option, refl, sym, ap, ◌∙◌, subst, inl, inr, append_assoc, if◌then◌else◌}
+use Rattle.std.proofs.Common.{◌≡◌, ℕ, Bool, true, false, ◌⊎◌, List, [], ◌∷◌, ◌++◌, Option, refl, sym, ap, ◌∙◌, subst, inl, inr, append_assoc, if◌then◌else◌}
 use Rattle.std.specs.Prelude.{map}
 use Rattle.st_base.specs.declared.disk.Command.TheVariants as commands
 use Rattle.st_base.specs.declared.disk.Tag.{Tag}
@@ -8,7 +8,6 @@ use Rattle.st_base.specs.declared.ids.FileId.{FileId}
 use Rattle.st_base.specs.declared.ids.ServerId.{ServerId}
 use Rattle.st_base.specs.declared.ids.Stamp.{Stamp}
 use Rattle.st_messages.specs.declared.answer.AppAnswer.{AppAnswer}
-use Rattle.st_messages.specs.declared.answer.AppAnswer.TheVariants as answers
 use Rattle.st_messages.specs.declared.ask.Ask.{Ask}
 use Rattle.st_messages.specs.declared.ask.Ask.TheVariants as asks
 use Rattle.st_messages.specs.declared.message.Body.{Body}
@@ -30,9 +29,12 @@ use Rattle.st_lemmas.proofs.Tables.{has_append}
 use Rattle.st_laws_steps.specs.Client.Client.{Plain, Change, Says, Operates, Answers, Greets, TellsLost, Begins, Follows, Learns, Forgets, Caches, Writes, Reads, Submits, Changes, Still, Then}
 use Rattle.st_laws_steps.specs.Client.Losses.{Fit, Ends, Unknown, Passes, Hardens, Fails, Loses, IsLost}
 use Rattle.st_laws_steps.specs.Client.Losses.{Lasts as IsLasting}
+use Rattle.st_laws_steps.specs.Client.Taking as taking
+use Rattle.st_laws_steps.specs.Client.Taking.{Taken}
 use Rattle.st_laws_steps.proofs.Client.Asking.{c_passes}
 use Rattle.st_laws_steps.proofs.Client.Replying.{c_hear}
-use Rattle.st_laws_steps.proofs.Client.Stepping.{Goes, LeftAll, input_left, LostOrNot, LossesLeft, losses_left, pairs_has}
+use Rattle.st_laws_steps.proofs.Client.Stepping.{Phased, phased}
+use Rattle.st_laws_steps.proofs.Client.Taking.{taken}
 use Rattle.st_laws_steps.proofs.Client.Nexts.{change_next, empty_right}
 use Rattle.st_laws_steps.proofs.Client.Losing.{Finished, finish_is, is_done, lose_is, rest_of}
 use Rattle.std.proofs.Common.{arith, leb-true, ◌-◌, ◌%◌, ◌+◌, pred, Some}
@@ -317,25 +319,14 @@ abbrev pub InputTells : ℕ → ClientInput → Type 0
 InputTells n (inputs.Control m) = (s : ServerId) → m.header.from ≡ server_node s → OwnBody n s m.body
 InputTells n input = Unit {0}
 
-pub input_places : (n : ℕ) (now : Stamp) (input : ClientInput) (t : ClientTurn) → InputTells n input → ((b : Association) → Has b t.state.associations → Fit b) → ((b : Association) → Has b t.state.associations → Knows n b.server b.store.extents) →
-    AllPlaced n t (cl.take_input t now input)
-unfolding cl.take_input cl.app cl.app_known cl.done cr.receive cr.receive_here
-input_places n now inputs.Tick t told f k = record { knows = k; placed = since_none _ t.out }
-input_places n now (inputs.App op ask) t told f k = full (cl.is_full t.state)
-  where
-    known : (b : Bool) → AllPlaced n t (if b then at_each (only_at (server_of ask) (cl.take_ask op ask)) t else cl.answered_at_once t op answers.NoFile)
-    known true = each_place n (only_at (server_of ask) (cl.take_ask op ask)) (ask_places n (server_of ask) op ask) t f k
-    known false = record { knows = k; placed = since_one (PlacedOne n) t.out _ tt }
-
-    full : (b : Bool) → AllPlaced n t (if b then cl.answered_at_once t op answers.OpsFull else cl.app_known t op ask)
-    full true = record { knows = k; placed = since_one (PlacedOne n) t.out _ tt }
-    full false = known (cl.is_configured t.state (server_of ask))
-input_places n now (inputs.Control m) t told f k = go (m.header.to == t.state.id.0)
-  where
-    go : (b : Bool) → AllPlaced n t (if b then at_each (cr.receive_at now m.header m.body) t else t)
-    go true = each_place n (cr.receive_at now m.header m.body) (only_left n (cr.receive_at now m.header m.body) (hear_places n now m.header m.body told)) t f k
-    go false = record { knows = k; placed = since_none _ t.out }
-input_places n now (inputs.Done number r) t told f k = each_place n (cl.finish number r) (only_left n (cl.finish number r) (finish_places n now number r)) t f k
+pub input_places : (n : ℕ) (now : Stamp) (input : ClientInput) (t u : ClientTurn) → Taken t now input u → InputTells n input → ((b : Association) → Has b t.state.associations → Fit b) → ((b : Association) → Has b t.state.associations → Knows n b.server b.store.extents) →
+    AllPlaced n t u
+input_places n now _ t _ (taking.Nothing i) told f k = record { knows = k; placed = since_none _ t.out }
+input_places n now _ t _ (taking.Full op ask e) told f k = record { knows = k; placed = since_one (PlacedOne n) t.out _ tt }
+input_places n now _ t _ (taking.Unknown op ask e g) told f k = record { knows = k; placed = since_one (PlacedOne n) t.out _ tt }
+input_places n now _ t _ (taking.Takes op ask e g) told f k = each_place n (only_at (server_of ask) (cl.take_ask op ask)) (ask_places n (server_of ask) op ask) t f k
+input_places n now _ t _ (taking.Hears m e) told f k = each_place n (cr.receive_at now m.header m.body) (only_left n (cr.receive_at now m.header m.body) (hear_places n now m.header m.body told)) t f k
+input_places n now _ t _ (taking.Finishes number r) told f k = each_place n (cl.finish number r) (only_left n (cl.finish number r) (finish_places n now number r)) t f k
 
 -- The whole step.
 pub step_placed : (n : ℕ) (c : ClientId) (s : ClientState) (now : Stamp) (input : ClientInput) → InputTells n input → ((b : Association) → Has b s.associations → Fit b) → ((b : Association) → Has b s.associations → Knows n b.server b.store.extents) →
@@ -352,26 +343,17 @@ step_placed n c s now input told f k = whole (since_then _ [] t.out v.out a.plac
     v : ClientTurn
     v = cl.work u now input
 
-    lost : LossesLeft c s now (client_turn s []) t
-    lost = losses_left c s now (client_turn s []) refl f
-
-    fit_t : (x : Association) → Has x t.state.associations → Fit x
-    fit_t = pairs_has (LostOrNot s.config now) Fit Fit (λ x y r. r.fit) s.associations t.state.associations lost.pairs f
-
-    heard : LeftAll c s t.state.config now t u
-    heard = input_left c s now input t fit_t
-
-    fit_u : (x : Association) → Has x u.state.associations → Fit x
-    fit_u = pairs_has (Goes t.state.config now) Fit Fit (λ x y r. r.fit) t.state.associations u.state.associations heard.pairs fit_t
+    p : Phased c s now t u v
+    p = phased c s now input f
 
     a : AllPlaced n (client_turn s []) t
     a = each_place n (cl.lose now) (only_left n (cl.lose now) (lose_places n now)) (client_turn s []) f k
 
     b : AllPlaced n t u
-    b = input_places n now input t told fit_t a.knows
+    b = input_places n now input t u (taken t now input) told p.fit a.knows
 
     d : AllPlaced n u v
-    d = each_place n (cp.passes now (cl.is_tick input)) (only_left n (cp.passes now (cl.is_tick input)) (passes_place n now (cl.is_tick input))) u fit_u b.knows
+    d = each_place n (cp.passes now (cl.is_tick input)) (only_left n (cp.passes now (cl.is_tick input)) (passes_place n now (cl.is_tick input))) u p.fit_too b.knows
 
     whole : Since (PlacedOne n) [] v.out → Placed n v.out
     whole z = subst (Placed n) (sym z.out) z.each

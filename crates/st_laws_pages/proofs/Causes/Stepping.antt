@@ -1,5 +1,5 @@
 -- A whole step of a client: what stands of all its associations, in the world that its outputs leave.
-use Rattle.std.proofs.Common.{◌≡◌, ℕ, Bool, true, false, List, [], ◌∷◌, ◌++◌, ◌==◌, Option, Some, None, refl, sym, ap, ◌∙◌, subst, if◌then◌else◌}
+use Rattle.std.proofs.Common.{◌≡◌, ℕ, Bool, true, false, List, [], ◌∷◌, ◌++◌, Option, Some, None, refl, sym, ap, ◌∙◌, subst}
 use Rattle.std.specs.Prelude.{map, length}
 use Rattle.st_base.specs.declared.ids.ClientId.{ClientId}
 use Rattle.st_base.specs.declared.ids.Stamp.{Stamp}
@@ -7,14 +7,13 @@ use Rattle.st_messages.specs.declared.answer.AppAnswer.{AppAnswer}
 use Rattle.st_messages.specs.declared.answer.AppAnswer.TheVariants as answers
 use Rattle.st_messages.specs.declared.output.Output.TheVariants as outputs
 use Rattle.st_rules.specs.declared.client.ClientInput.{ClientInput}
-use Rattle.st_rules.specs.declared.client.ClientInput.TheVariants as inputs
 use Rattle.st_rules.specs.declared.pages.DirtyPage.{DirtyPage}
 use Rattle.st_rules.specs.ClientPages as pages
 use Rattle.st_rules.specs.ClientPasses as cp
 use Rattle.st_rules.specs.ClientReplies as cr
 use Rattle.st_rules.specs.Client as cl
 use Rattle.st_rules.specs.ClientState as state
-use Rattle.st_rules.specs.ClientState.{Association, ClientState, ClientTurn, Turn, client_turn, at_each, only_at, server_of}
+use Rattle.st_rules.specs.ClientState.{Association, ClientState, ClientTurn, Turn, client_turn, only_at, server_of}
 use Rattle.st_rules.specs.World as world
 use Rattle.st_rules.specs.World.{World, ClientSite, numbered, site_of, life_with}
 use Rattle.st_rules.specs.Events as ev
@@ -22,6 +21,8 @@ use Rattle.st_rules.specs.Events.{WorldTurn}
 use Rattle.st_rules.specs.Safety.{Step}
 use Rattle.st_lemmas.specs.Lists.{Has}
 use Rattle.st_laws_steps.specs.Client.Losses.{Fit, is_ended}
+use Rattle.st_laws_steps.specs.Client.Taking as taking
+use Rattle.st_laws_steps.specs.Client.Taking.{Taken}
 use Rattle.st_laws_steps.specs.Lives.Lives.{Pairwise, Once, server_number, NodeHolds, LivesHold}
 use Rattle.st_laws_pages.specs.Flush.Flush.{Cared, NumbersBelow, NumbersApart, NodeCared}
 use Rattle.st_laws_steps.proofs.Lives.Associations.{own_found, numbers_same, PairLeft, pair_left}
@@ -29,7 +30,8 @@ use Rattle.st_laws_steps.proofs.Client.Nexts.{Next, changes_next}
 use Rattle.st_laws_steps.proofs.Client.Asking.{c_passes}
 use Rattle.st_laws_steps.proofs.Client.Replying.{c_hear}
 use Rattle.st_laws_steps.proofs.Client.Losing.{c_only, finish_is, is_done}
-use Rattle.st_laws_steps.proofs.Client.Stepping.{Goes, LeftAll, left_each, input_left, LostOrNot, LossesLeft, losses_left, finish_next, pairs_then, pairs_has}
+use Rattle.st_laws_steps.proofs.Client.Stepping.{Goes, LostOrNot, Phased, finish_next, pairs_then, phased}
+use Rattle.st_laws_steps.proofs.Client.Taking.{taken}
 use Rattle.st_laws_pages.proofs.Flush.Adding.{Grows, After, still_adds, more_still}
 use Rattle.st_laws_pages.proofs.Flush.Flushing.{InputTold, emptied_cared, pair_of}
 use Rattle.st_laws_pages.specs.Causes.Stands.{CommandsStand, LatestOwn}
@@ -61,24 +63,11 @@ module _ (past : List Step) (w : World) (c : ClientId) (old site : ClientSite) (
   m : NodeHolds w.config w.clocks w.ended c site.node
   m = subst (NodeHolds w.config w.clocks w.ended c) same (h.lives.sites c old there)
 
-  lost : LossesLeft c s now (client_turn s []) t
-  lost = losses_left c s now (client_turn s []) refl m.fit
-
-  pub fit_t : (a : Association) → Has a t.state.associations → Fit a
-  fit_t = pairs_has (LostOrNot s.config now) Fit Fit (λ a b r. r.fit) s.associations t.state.associations lost.pairs m.fit
-
-  heard : LeftAll c s t.state.config now t u
-  heard = input_left c s now input t fit_t
-
-  pub fit_u : (a : Association) → Has a u.state.associations → Fit a
-  fit_u = pairs_has (Goes t.state.config now) Fit Fit (λ a b r. r.fit) t.state.associations u.state.associations heard.pairs fit_t
+  pub phases : Phased c s now t u v
+  phases = phased c s now input m.fit
 
   passed : (x : Turn) → Fit x.here → Next now x (cp.passes now (cl.is_tick input) x)
   passed x f = changes_next now x (cp.passes now (cl.is_tick input) x) (c_passes now (cl.is_tick input) x)
-
-  worked : LeftAll c s u.state.config now u v
-  unfolding cl.work
-  worked = left_each c s now (cp.passes now (cl.is_tick input)) u passed fit_u
 
   -- The world behind the outputs.
   module _ (size : ℕ) (own : site_of sc.world c ≡ Some after) (count : length sc.world.servers ≡ size) (holds : CommandsStand w.log w.commands w.disks.commands) (placed : Placed size v.out) (told : InputTold past sc c site.starts input) (cared : NodeCared past w.commands w.log c old)
@@ -111,7 +100,7 @@ module _ (past : List Step) (w : World) (c : ClientId) (old site : ClientSite) (
     here = there
 
     pub cared_t : (b : Association) → Has b t.state.associations → Cared past w.commands w.log c site.starts s.next_command b
-    cared_t b i = go (pair_of (LostOrNot s.config now) s.associations t.state.associations lost.pairs b i)
+    cared_t b i = go (pair_of (LostOrNot s.config now) s.associations t.state.associations phases.lost.pairs b i)
       where
         go : (a : Association) × Has a s.associations × LostOrNot s.config now a b → Cared past w.commands w.log c site.starts s.next_command b
         go (a, j, r) = by (is_ended s.config now a.session) refl
@@ -122,7 +111,7 @@ module _ (past : List Step) (w : World) (c : ClientId) (old site : ClientSite) (
                 emptied_cared past w c old site.starts s.next_command here h a b (subst (λ (n : cl.ClientNode). Has a n.state.associations) (sym same) j) r.server (r.lost e) (r.emptied e)
 
     pub latest_t : (b : Association) → Has b t.state.associations → LatestOwn c (After c s sc t.out).world.log b
-    latest_t b i = subst (λ es. LatestOwn c es b) (sym adds.log) (go (pair_of (LostOrNot s.config now) s.associations t.state.associations lost.pairs b i))
+    latest_t b i = subst (λ es. LatestOwn c es b) (sym adds.log) (go (pair_of (LostOrNot s.config now) s.associations t.state.associations phases.lost.pairs b i))
       where
         go : (a : Association) × Has a s.associations × LostOrNot s.config now a b → LatestOwn c w.log b
         go (a, j, r) = by (is_ended s.config now a.session) refl
@@ -135,7 +124,7 @@ module _ (past : List Step) (w : World) (c : ClientId) (old site : ClientSite) (
                 none d z = cc
 
     pub apart_t : (b : Association) → Has b t.state.associations → NumbersApart b.store.commands
-    apart_t b i = go (pair_of (LostOrNot s.config now) s.associations t.state.associations lost.pairs b i)
+    apart_t b i = go (pair_of (LostOrNot s.config now) s.associations t.state.associations phases.lost.pairs b i)
       where
         go : (a : Association) × Has a s.associations × LostOrNot s.config now a b → NumbersApart b.store.commands
         go (a, j, r) = by (is_ended s.config now a.session) refl
@@ -145,7 +134,7 @@ module _ (past : List Step) (w : World) (c : ClientId) (old site : ClientSite) (
             by true e = subst (λ (z : pages.Store). NumbersApart z.commands) (sym (r.emptied e)) (λ pc qc p q n. absurd p)
 
     numbers_t : map server_number s.associations ≡ map server_number t.state.associations
-    numbers_t = numbers_same (LostOrNot s.config now) (λ a b r. r.server) s.associations t.state.associations lost.pairs
+    numbers_t = numbers_same (LostOrNot s.config now) (λ a b r. r.server) s.associations t.state.associations phases.lost.pairs
 
     once_t : Once (map server_number t.state.associations)
     once_t = subst Once numbers_t m.once
@@ -156,7 +145,7 @@ module _ (past : List Step) (w : World) (c : ClientId) (old site : ClientSite) (
 
     stay : Pairwise Stays t.state.associations v.state.associations
     stay =
-        pairs_then (Goes t.state.config now) (Goes u.state.config now) Stays (λ a b d p q. record { server = p.server ∙ q.server; life = p.life ∙ q.life }) t.state.associations u.state.associations v.state.associations heard.pairs worked.pairs
+        pairs_then (Goes t.state.config now) (Goes u.state.config now) Stays (λ a b d p q. record { server = p.server ∙ q.server; life = p.life ∙ q.life }) t.state.associations u.state.associations v.state.associations phases.heard.pairs phases.worked.pairs
 
     pub right_t : (b : Association) → Has b t.state.associations → life_with v.state b.server ≡ b.life
     right_t b i = go (pair_left Stays (λ x y p. p.server) b.server t.state.associations v.state.associations stay b (own_found t.state.associations once_t b i))
@@ -172,7 +161,7 @@ module _ (past : List Step) (w : World) (c : ClientId) (old site : ClientSite) (
           numbers = subst (λ xs. NumbersBelow xs c site.starts t.state.next_command) (sym adds.commands) (subst (λ n. NumbersBelow w.commands c site.starts n) (sym quiet.next) old_numbers);
           right = right_t;
           once = once_t;
-          fit = fit_t;
+          fit = phases.fit;
           latests = latest_t;
         }
 
@@ -191,41 +180,30 @@ module _ (past : List Step) (w : World) (c : ClientId) (old site : ClientSite) (
           latests = λ b i. subst (λ es. LatestOwn c es b) (sym z.log) (g.latests b i);
         }
 
-    pub input_all : (i : ClientInput) → InputTold past sc c site.starts i → Placed size (cl.take_input t now i).out → A (cl.take_input t now i)
-    unfolding cl.take_input cl.app cl.app_known cl.done cr.receive cr.receive_here
-    input_all inputs.Tick told o = begins
-    input_all (inputs.App op ask) told o = full (cl.is_full t.state) o
-      where
-        known : (b : Bool) → Placed size (if b then at_each (only_at (server_of ask) (cl.take_ask op ask)) t else cl.answered_at_once t op answers.NoFile).out → A (if b then at_each (only_at (server_of ask) (cl.take_ask op ask)) t else cl.answered_at_once t op answers.NoFile)
-        known true o =
-            each_all past size c s sc after own count holds now (only_at (server_of ask) (cl.take_ask op ask)) (λ x f. changes_next now x _ (c_only now (server_of ask) op ask x))
-            (λ x f others n live p r. changes_around past size c s sc after own count holds now x _ (c_only now (server_of ask) op ask x) others n live p r) t o begins
-        known false o = said op answers.NoFile begins
-
-        full : (b : Bool) → Placed size (if b then cl.answered_at_once t op answers.OpsFull else cl.app_known t op ask).out → A (if b then cl.answered_at_once t op answers.OpsFull else cl.app_known t op ask)
-        full true o = said op answers.OpsFull begins
-        full false o = known (cl.is_configured t.state (server_of ask)) o
-    input_all (inputs.Control x) told o = go (x.header.to == t.state.id.0) o
-      where
-        go : (b : Bool) → Placed size (if b then at_each (cr.receive_at now x.header x.body) t else t).out → A (if b then at_each (cr.receive_at now x.header x.body) t else t)
-        go true o =
-            each_all past size c s sc after own count holds now (cr.receive_at now x.header x.body) (λ y f. changes_next now y _ (c_hear now x.header x.body y f.fresh))
-            (λ y f others n live p r. changes_around past size c s sc after own count holds now y _ (c_hear now x.header x.body y f.fresh) others n live p r) t o begins
-        go false o = begins
-    input_all (inputs.Done number result) told o =
+    pub input_all : (i : ClientInput) (x : ClientTurn) → Taken t now i x → InputTold past sc c site.starts i → Placed size x.out → A x
+    input_all _ _ (taking.Nothing i) told o = begins
+    input_all _ _ (taking.Full op ask e) told o = said op answers.OpsFull begins
+    input_all _ _ (taking.Unknown op ask e g) told o = said op answers.NoFile begins
+    input_all _ _ (taking.Takes op ask e g) told o =
+        each_all past size c s sc after own count holds now (only_at (server_of ask) (cl.take_ask op ask)) (λ x f. changes_next now x _ (c_only now (server_of ask) op ask x))
+        (λ x f others n live p r. changes_around past size c s sc after own count holds now x _ (c_only now (server_of ask) op ask x) others n live p r) t o begins
+    input_all _ _ (taking.Hears m e) told o =
+        each_all past size c s sc after own count holds now (cr.receive_at now m.header m.body) (λ y f. changes_next now y _ (c_hear now m.header m.body y f.fresh))
+        (λ y f others n live p r. changes_around past size c s sc after own count holds now y _ (c_hear now m.header m.body y f.fresh) others n live p r) t o begins
+    input_all _ _ (taking.Finishes number result) told o =
         each_all past size c s sc after own count holds now (cl.finish number result) (λ y f. finish_next now number result y)
         (λ y f others n live p r. finished_around past size c s sc after own count holds now number (is_done result) y (cl.finish number result y) (finish_is now number result y) told others n live p r) t o begins
 
     pub work_grows : Grows u.out v.out
     unfolding cl.work
-    work_grows = each_grows past size c s sc after own count holds now (cp.passes now (cl.is_tick input)) passed u fit_u
+    work_grows = each_grows past size c s sc after own count holds now (cp.passes now (cl.is_tick input)) passed u phases.fit_too
 
     ends : A v
     unfolding cl.work
     ends =
         each_all past size c s sc after own count holds now (cp.passes now (cl.is_tick input)) passed
         (λ x f others n live p r. changes_around past size c s sc after own count holds now x _ (c_passes now (cl.is_tick input) x) others n live p r) u placed
-        (input_all input told (placed_grown size u.out v.out work_grows placed))
+        (input_all input u (taken t now input) told (placed_grown size u.out v.out work_grows placed))
 
     pub step_cared : NodeCared past (After c s sc v.out).world.commands (After c s sc v.out).world.log c after
     step_cared = record { cared = ends.cared; apart = ends.apart; numbers = ends.numbers }

@@ -31,10 +31,8 @@ use Rattle.st_laws_pages.specs.Flush.Flush.{DirtyHere, Cared, Covered}
 use Rattle.st_laws_steps.proofs.Lives.Associations.{own_found}
 use Rattle.st_laws_pages.proofs.Lives.NodeTurns.{row_is}
 use Rattle.st_laws_pages.proofs.Fates.FateLaw.{pending_known}
-use Rattle.st_laws_steps.proofs.Client.Nexts.{Next, changes_next}
-use Rattle.st_laws_steps.proofs.Client.Asking.{c_passes}
 use Rattle.st_laws_steps.proofs.Client.Losing.{is_done}
-use Rattle.st_laws_steps.proofs.Client.Stepping.{EachServer, each, Goes, LeftAll, left_each, input_left, LostOrNot, LossesLeft, losses_left, pairs_has}
+use Rattle.st_laws_steps.proofs.Client.Stepping.{EachServer, each, Goes, LostOrNot, Phased, pairs_has, phased}
 use Rattle.st_laws_pages.proofs.Flush.Keeping.{Told}
 use Rattle.st_laws_pages.proofs.Flush.Covering.{passes_cover}
 
@@ -137,36 +135,20 @@ module _ (past : List Step) (w : World) (c : ClientId) (old site : ClientSite) (
   m : NodeHolds w.config w.clocks w.ended c site.node
   m = subst (NodeHolds w.config w.clocks w.ended c) same (h.lives.sites c old there)
 
-  lost : LossesLeft c s now (client_turn s []) t
-  lost = losses_left c s now (client_turn s []) refl m.fit
-
-  fit_t : (a : Association) → Has a t.state.associations → Fit a
-  fit_t = pairs_has (LostOrNot s.config now) Fit Fit (λ a b r. r.fit) s.associations t.state.associations lost.pairs m.fit
-
-  heard : LeftAll c s t.state.config now t u
-  heard = input_left c s now input t fit_t
-
-  fit_u : (a : Association) → Has a u.state.associations → Fit a
-  fit_u = pairs_has (Goes t.state.config now) Fit Fit (λ a b r. r.fit) t.state.associations u.state.associations heard.pairs fit_t
-
-  passed : (x : Turn) → Fit x.here → Next now x (cp.passes now (cl.is_tick input) x)
-  passed x f = changes_next now x (cp.passes now (cl.is_tick input) x) (c_passes now (cl.is_tick input) x)
-
-  worked : LeftAll c s u.state.config now u v
-  unfolding cl.work
-  worked = left_each c s now (cp.passes now (cl.is_tick input)) u passed fit_u
+  phases : Phased c s now t u v
+  phases = phased c s now input m.fit
 
   -- The flush.
   going_t : (a : Association) → Has a t.state.associations → is_ended s.config now a.session ≡ false
-  going_t = pairs_has (LostOrNot s.config now) Fit (λ b. is_ended s.config now b.session ≡ false) (λ a b r f. r.going) s.associations t.state.associations lost.pairs m.fit
+  going_t = pairs_has (LostOrNot s.config now) Fit (λ b. is_ended s.config now b.session ≡ false) (λ a b r f. r.going) s.associations t.state.associations phases.lost.pairs m.fit
 
   going_on : (k : Config) (a b : Association) → k ≡ s.config → Goes k now a b → is_ended s.config now a.session ≡ false → is_ended s.config now b.session ≡ false
   going_on k a b e g n = open_on s.config now a.session b.session (subst (λ z. SessionNext z now a.session b.session) e g.session) n
 
   going_v : (a : Association) → Has a v.state.associations → is_ended s.config now a.session ≡ false
   going_v =
-      pairs_has (Goes u.state.config now) (λ b. is_ended s.config now b.session ≡ false) (λ b. is_ended s.config now b.session ≡ false) (λ a b. going_on u.state.config a b (sym (lost.config ∙ heard.config))) u.state.associations v.state.associations worked.pairs
-      (pairs_has (Goes t.state.config now) (λ b. is_ended s.config now b.session ≡ false) (λ b. is_ended s.config now b.session ≡ false) (λ a b. going_on t.state.config a b (sym lost.config)) t.state.associations u.state.associations heard.pairs going_t)
+      pairs_has (Goes u.state.config now) (λ b. is_ended s.config now b.session ≡ false) (λ b. is_ended s.config now b.session ≡ false) (λ a b. going_on u.state.config a b (sym (phases.lost.config ∙ phases.heard.config))) u.state.associations v.state.associations phases.worked.pairs
+      (pairs_has (Goes t.state.config now) (λ b. is_ended s.config now b.session ≡ false) (λ b. is_ended s.config now b.session ≡ false) (λ a b. going_on t.state.config a b (sym phases.lost.config)) t.state.associations u.state.associations phases.heard.pairs going_t)
 
   abbrev NoneLost : Association → List LeaseLife
   NoneLost a = []
@@ -178,10 +160,10 @@ module _ (past : List Step) (w : World) (c : ClientId) (old site : ClientSite) (
   unfolding cl.work
   covers =
       each Fit Covers NoneLost (λ os. []) (cp.passes now (cl.is_tick input)) u
-      (λ x e f. record { one = λ y q d. passes_cover now (cl.is_tick input) x f y q (ap (λ k. lease.may_drain (lease.standing_of k y.lease now)) e ∙ d); said = refl }) fit_u
+      (λ x e f. record { one = λ y q d. passes_cover now (cl.is_tick input) x f y q (ap (λ k. lease.may_drain (lease.standing_of k y.lease now)) e ∙ d); said = refl }) phases.fit_too
 
   pub step_flushed : (b : Association) → Has b v.state.associations → FlushedBy s.config now b
-  step_flushed b i = record { going = going_v b i; covered = λ x q d. covered b i x q (ap (λ k. lease.may_drain (lease.standing_of k x.lease now)) (sym (lost.config ∙ heard.config)) ∙ d) }
+  step_flushed b i = record { going = going_v b i; covered = λ x q d. covered b i x q (ap (λ k. lease.may_drain (lease.standing_of k x.lease now)) (sym (phases.lost.config ∙ phases.heard.config)) ∙ d) }
     where
       covered : (b : Association) → Has b v.state.associations → (x : ClientSession) → b.session ≡ Some x → lease.may_drain (lease.standing_of u.state.config x.lease now) ≡ true → Covered b
-      covered = pairs_has Covers Fit (λ b. (x : ClientSession) → b.session ≡ Some x → lease.may_drain (lease.standing_of u.state.config x.lease now) ≡ true → Covered b) (λ a b r f. r) u.state.associations v.state.associations covers.pairs fit_u
+      covered = pairs_has Covers Fit (λ b. (x : ClientSession) → b.session ≡ Some x → lease.may_drain (lease.standing_of u.state.config x.lease now) ≡ true → Covered b) (λ a b r f. r) u.state.associations v.state.associations covers.pairs phases.fit_too

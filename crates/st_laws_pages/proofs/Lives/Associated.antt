@@ -1,15 +1,13 @@
 -- A fact of associations stands in every run, where each rule of a client keeps it of associations that fit, and an empty
 -- association has it.
-use Rattle.std.proofs.Common.{◌≡◌, ◌≢◌, ◌⊎◌, ℕ, Bool, true, false, List, [], ◌∷◌, ◌++◌, ◌==◌, Option, Some, None, Result, Ok, Err, refl, sym, ap, ◌∙◌, subst, inl, inr, if◌then◌else◌}
+use Rattle.std.proofs.Common.{◌≡◌, ◌≢◌, ◌⊎◌, ℕ, Bool, List, [], ◌∷◌, ◌++◌, Option, Some, None, Result, Ok, Err, refl, sym, ap, ◌∙◌, subst, inl, inr}
 use Rattle.std.specs.Prelude.{map}
 use Rattle.st_base.specs.declared.config.Config.{Config}
 use Rattle.st_base.specs.declared.ids.ClientId.{ClientId}
 use Rattle.st_base.specs.declared.ids.NodeId.TheVariants as nodes
 use Rattle.st_base.specs.declared.ids.Stamp.{Stamp}
-use Rattle.st_messages.specs.declared.answer.AppAnswer.TheVariants as answers
 use Rattle.st_messages.specs.declared.event.Event.{Event}
 use Rattle.st_rules.specs.declared.client.ClientInput.{ClientInput}
-use Rattle.st_rules.specs.declared.client.ClientInput.TheVariants as inputs
 use Rattle.st_rules.specs.declared.observation.WorldRefusal.{WorldRefusal}
 use Rattle.st_rules.specs.Admissible as adm
 use Rattle.st_rules.specs.Client as cl
@@ -17,7 +15,7 @@ use Rattle.st_rules.specs.declared.pages.DirtyPage.{DirtyPage}
 use Rattle.st_rules.specs.ClientPages as pages
 use Rattle.st_rules.specs.ClientPasses as cp
 use Rattle.st_rules.specs.ClientReplies as cr
-use Rattle.st_rules.specs.ClientState.{Association, ClientState, ClientTurn, Turn, at_each, at_these, client_turn, enter, leave, only_at, server_of, with_associations}
+use Rattle.st_rules.specs.ClientState.{Association, ClientState, Turn, client_turn, only_at}
 use Rattle.st_rules.specs.Events as ev
 use Rattle.st_rules.specs.Events.{WorldTurn, counted, world_step}
 use Rattle.st_rules.specs.Extents.{numbers}
@@ -30,13 +28,15 @@ use Rattle.st_lemmas.specs.Lists.{Has}
 use Rattle.st_lemmas.proofs.Lookups.{some_is}
 use Rattle.st_lemmas.proofs.Numbers.{numbered_below, numbered_other, numbered_own}
 use Rattle.st_lemmas.proofs.Steps.{step_happens}
-use Rattle.st_lemmas.proofs.Tables.{has_append, has_map, same_or_not}
+use Rattle.st_lemmas.proofs.Tables.{has_map, same_or_not}
 use Rattle.st_laws_steps.specs.Client.Losses.{Fit, SessionFresh}
+use Rattle.st_laws_steps.specs.Client.Taking.{Each}
 use Rattle.st_laws_steps.proofs.Client.Asking.{c_passes}
 use Rattle.st_laws_steps.proofs.Client.Losing.{c_only, lose_is}
 use Rattle.st_laws_steps.proofs.Client.Nexts.{changes_next}
 use Rattle.st_laws_steps.proofs.Client.Replying.{c_hear}
 use Rattle.st_laws_steps.proofs.Client.Stepping.{finish_next, lost_fit}
+use Rattle.st_laws_steps.proofs.Client.Taking.{each, each_taken, taken}
 use Rattle.st_laws_pages.proofs.Flush.Adding.{after_clients}
 use Rattle.st_laws_pages.proofs.Lives.Each.{Cases, SteppedNode, each_event}
 use Rattle.st_laws_pages.proofs.Lives.Lasting.{flush_parts}
@@ -75,7 +75,7 @@ module _ (F : Association → Type 0) (empty : (a : Association) → a.session �
 
   -- of each association of a client
   abbrev pub EachHas : List Association → Type 0
-  EachHas xs = (a : Association) → Has a xs → H a
+  EachHas = Each H
 
   -- of each client of a world
   abbrev pub AllHave : World → Type 0
@@ -103,44 +103,12 @@ module _ (F : Association → Type 0) (empty : (a : Association) → a.session �
   h_passes : (now : Stamp) (tick : Bool) (t : Turn) → K t (cp.passes now tick t)
   h_passes now tick t (f, h) = ((changes_next now t (cp.passes now tick t) (c_passes now tick t)).fit f, k_passes now tick t h)
 
-  these_keep : (rule : Turn → Turn) → ((t : Turn) → K t (rule t)) → (al : List Association) (t : ClientTurn) → EachHas t.state.associations → EachHas al → EachHas (at_these rule al t).state.associations
-  unfolding at_these
-  these_keep rule k [] t h g = h
-  these_keep rule k (a ∷ al) t h g = these_keep rule k al (leave t (rule (enter t a))) (λ b i. one b (has_append t.state.associations ((rule (enter t a)).here ∷ []) b i)) (λ b i. g b (inr i))
-    where
-      one : (b : Association) → Has b t.state.associations ⊎ Has b ((rule (enter t a)).here ∷ []) → H b
-      one b (inl i) = h b i
-      one b (inr (inl e)) = subst H (sym e) (k (enter t a) (g a (inl refl)))
-      one b (inr (inr i)) = absurd i
-
-  each_keeps : (rule : Turn → Turn) → ((t : Turn) → K t (rule t)) → (t : ClientTurn) → EachHas t.state.associations → EachHas (at_each rule t).state.associations
-  unfolding at_each
-  each_keeps rule k t h = these_keep rule k t.state.associations (with_associations [] t) (λ a i. absurd i) h
-
-  input_keeps : (t : ClientTurn) (now : Stamp) (input : ClientInput) → EachHas t.state.associations → EachHas (cl.take_input t now input).state.associations
-  unfolding cl.take_input cl.app cl.app_known cl.done cr.receive cr.receive_here
-  input_keeps t now inputs.Tick h = h
-  input_keeps t now (inputs.App op ask) h = full (cl.is_full t.state)
-    where
-      known : (b : Bool) → EachHas (if b then at_each (only_at (server_of ask) (cl.take_ask op ask)) t else cl.answered_at_once t op answers.NoFile).state.associations
-      known true = each_keeps (only_at (server_of ask) (cl.take_ask op ask)) (h_take (server_of ask) op ask) t h
-      known false = h
-
-      full : (b : Bool) → EachHas (if b then cl.answered_at_once t op answers.OpsFull else cl.app_known t op ask).state.associations
-      full true = h
-      full false = known (cl.is_configured t.state (server_of ask))
-  input_keeps t now (inputs.Control m) h = go (m.header.to == t.state.id.0)
-    where
-      go : (b : Bool) → EachHas (if b then at_each (cr.receive_at now m.header m.body) t else t).state.associations
-      go true = each_keeps (cr.receive_at now m.header m.body) (h_hear now m.header m.body) t h
-      go false = h
-  input_keeps t now (inputs.Done number result) h = each_keeps (cl.finish number result) (h_finish number result) t h
-
   step_keeps : (s : ClientState) (now : Stamp) (input : ClientInput) → EachHas s.associations → EachHas (cl.client_step s now input).state.associations
   unfolding cl.client_step cl.work cl.losses
   step_keeps s now input h =
       let t = cl.losses (client_turn s []) now in
-      each_keeps (cp.passes now (cl.is_tick input)) (h_passes now (cl.is_tick input)) (cl.take_input t now input) (input_keeps t now input (each_keeps (cl.lose now) (h_lose now) (client_turn s []) h))
+      each H H (cp.passes now (cl.is_tick input)) (h_passes now (cl.is_tick input)) (cl.take_input t now input)
+      (each_taken H (λ m a. Unit {0}) now h_take (λ m u p q. h_hear now m.header m.body u p) h_finish t (cl.take_input t now input) input (taken t now input) (λ m e b a i. tt) (each H H (cl.lose now) (h_lose now) (client_turn s []) h))
 
   all_empty : {A : Type 0} (f : A → Association) → ((x : A) → Fit (f x) × ((f x).session ≡ None) × ((f x).store ≡ pages.empty_store)) → (xs : List A) → EachHas (map f xs)
   all_empty f n xs a i = let z = has_map f xs a i in let y = n z.0 in subst H (sym z.2) (y.0, empty (f z.0) y.1 y.2)

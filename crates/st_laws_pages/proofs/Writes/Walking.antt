@@ -1,5 +1,5 @@
 -- Outstanding writes through a whole step of a client, and what it submits.
-use Rattle.std.proofs.Common.{◌≡◌, ℕ, ◌⊎◌, Bool, true, false, ◌==◌, List, [], ◌∷◌, ◌++◌, Option, Some, None, refl, sym, ◌∙◌, subst, inl, inr, if◌then◌else◌}
+use Rattle.std.proofs.Common.{◌≡◌, ℕ, ◌⊎◌, Bool, true, false, List, [], ◌∷◌, ◌++◌, Option, Some, None, refl, sym, ◌∙◌, subst, inl, inr, if◌then◌else◌}
 use Rattle.st_base.specs.declared.config.Config.{Config}
 use Rattle.st_base.specs.declared.disk.BlockAt.{BlockAt}
 use Rattle.st_base.specs.declared.disk.Tag.{Tag}
@@ -24,12 +24,16 @@ use Rattle.st_rules.specs.ClientState.{Association, ClientState, ClientSession, 
 use Rattle.st_lemmas.specs.Lists.{Has}
 use Rattle.st_lemmas.proofs.Tables.{has_append}
 use Rattle.st_laws_steps.specs.Client.Losses.{Fit, is_ended}
+use Rattle.st_laws_steps.specs.Client.Taking as taking
+use Rattle.st_laws_steps.specs.Client.Taking.{Taken}
 use Rattle.st_laws_steps.specs.Lives.Lives.{Pairwise}
 use Rattle.st_laws_steps.proofs.Client.Nexts.{changes_next}
 use Rattle.st_laws_steps.proofs.Client.Asking.{c_passes}
 use Rattle.st_laws_steps.proofs.Client.Replying.{c_hear}
 use Rattle.st_laws_steps.proofs.Client.Losing.{c_only, finish_is, is_done}
-use Rattle.st_laws_steps.proofs.Client.Stepping.{each, input_left, LostOrNot, LossesLeft, losses_left, finish_next, pairs_then, pairs_has, pairs_same, Goes}
+use Rattle.st_laws_steps.proofs.Client.Noting.{pair_has}
+use Rattle.st_laws_steps.proofs.Client.Stepping.{each, LostOrNot, Phased, finish_next, pairs_then, pairs_has, pairs_same, phased}
+use Rattle.st_laws_steps.proofs.Client.Taking.{taken}
 use Rattle.st_laws_pages.specs.Writes.Writes.{IsListed, WritesOnce}
 use Rattle.st_laws_pages.proofs.Writes.Listing.{Keeps, NoneEnds, write_said, changes_keep, finished_keeps}
 
@@ -119,13 +123,11 @@ EndedBy input n = ⊥
 same_on : (E : ℕ → Type 0) (a : Association) → FollowsOn E a a
 same_on E a = record { server = refl; life = refl; stays = λ n tag f h. h }
 
-input_keeps : (now : Stamp) (input : ClientInput) (t : ClientTurn) → ((a : Association) → Has a t.state.associations → Fit a) → ((a : Association) → Has a t.state.associations → WritesOnce a) → AllKeep (EndedBy input) t (cl.take_input t now input)
-unfolding cl.take_input cl.app cl.app_known cl.done cr.receive cr.receive_here
-input_keeps now inputs.Tick t f o = record { pairs = pairs_same (FollowsOn NoneEnds) (same_on NoneEnds) t.state.associations; said = λ n at to tag bytes i. inl i }
-input_keeps now (inputs.App op ask) t f o = full (cl.is_full t.state)
+input_keeps : (now : Stamp) (input : ClientInput) (t u : ClientTurn) → Taken t now input u → ((a : Association) → Has a t.state.associations → Fit a) → ((a : Association) → Has a t.state.associations → WritesOnce a) → AllKeep (EndedBy input) t u
+input_keeps now _ t _ k f o = go _ _ k
   where
-    at_once : (a : AppAnswer) → AllKeep NoneEnds t (cl.answered_at_once t op a)
-    at_once a = record { pairs = pairs_same (FollowsOn NoneEnds) (same_on NoneEnds) t.state.associations; said = said }
+    at_once : (op : ℕ) (a : AppAnswer) → AllKeep NoneEnds t (cl.answered_at_once t op a)
+    at_once op a = record { pairs = pairs_same (FollowsOn NoneEnds) (same_on NoneEnds) t.state.associations; said = said }
       where
         said : (n : ℕ) (at to : BlockAt) (tag : Tag) (bytes : List ℕ) → Has (write_said n at to tag bytes) (cl.answered_at_once t op a).out → Has (write_said n at to tag bytes) t.out ⊎ ListedAt t.state.associations n tag
         said n at to tag bytes i = go (has_append t.out (outputs.Answer op a ∷ []) (write_said n at to tag bytes) i)
@@ -138,22 +140,16 @@ input_keeps now (inputs.App op ask) t f o = full (cl.is_full t.state)
             go (inr (inl e)) = absurd (no e)
             go (inr (inr j)) = absurd j
 
-    known : (b : Bool) → AllKeep NoneEnds t (if b then at_each (only_at (server_of ask) (cl.take_ask op ask)) t else cl.answered_at_once t op answers.NoFile)
-    known true = each_keeps Fit NoneEnds (only_at (server_of ask) (cl.take_ask op ask)) (λ u p. changes_rule now u _ (c_only now (server_of ask) op ask u)) t f
-    known false = at_once answers.NoFile
-
-    full : (b : Bool) → AllKeep NoneEnds t (if b then cl.answered_at_once t op answers.OpsFull else cl.app_known t op ask)
-    full true = at_once answers.OpsFull
-    full false = known (cl.is_configured t.state (server_of ask))
-input_keeps now (inputs.Control m) t f o = go (m.header.to == t.state.id.0)
-  where
-    go : (b : Bool) → AllKeep NoneEnds t (if b then at_each (cr.receive_at now m.header m.body) t else t)
-    go true = each_keeps Fit NoneEnds (cr.receive_at now m.header m.body) (λ u p. changes_rule now u _ (c_hear now m.header m.body u p.fresh)) t f
-    go false = record { pairs = pairs_same (FollowsOn NoneEnds) (same_on NoneEnds) t.state.associations; said = λ n at to tag bytes i. inl i }
-input_keeps now (inputs.Done number result) t f o =
-    each_keeps FitOnce (λ n. n ≡ number) (cl.finish number result)
-    (λ u p. let n = finish_next now number result u in record { keeps = finished_keeps now number (is_done result) u (cl.finish number result u) p.once (finish_is now number result u); server = n.server; life = n.life }) t
-    (λ a i. record { fit = f a i; once = o a i })
+    go : (i : ClientInput) (u : ClientTurn) → Taken t now i u → AllKeep (EndedBy i) t u
+    go _ _ (taking.Nothing i) = record { pairs = pairs_same (FollowsOn (EndedBy i)) (same_on (EndedBy i)) t.state.associations; said = λ n at to tag bytes j. inl j }
+    go _ _ (taking.Full op ask e) = at_once op answers.OpsFull
+    go _ _ (taking.Unknown op ask e g) = at_once op answers.NoFile
+    go _ _ (taking.Takes op ask e g) = each_keeps Fit NoneEnds (only_at (server_of ask) (cl.take_ask op ask)) (λ u p. changes_rule now u _ (c_only now (server_of ask) op ask u)) t f
+    go _ _ (taking.Hears m e) = each_keeps Fit NoneEnds (cr.receive_at now m.header m.body) (λ u p. changes_rule now u _ (c_hear now m.header m.body u p.fresh)) t f
+    go _ _ (taking.Finishes number result) =
+        each_keeps FitOnce (λ n. n ≡ number) (cl.finish number result)
+        (λ u p. let n = finish_next now number result u in record { keeps = finished_keeps now number (is_done result) u (cl.finish number result u) p.once (finish_is now number result u); server = n.server; life = n.life }) t
+        (λ a i. record { fit = f a i; once = o a i })
 
 -- The losses submit nothing.
 abbrev SilentOne : Output → Type 0
@@ -230,13 +226,6 @@ pub record StepKeeps (E : ℕ → Type 0) (now : Stamp) (s after : ClientState) 
   pub pairs : Pairwise (AfterStep E s.config now) s.associations after.associations
   pub said : (n : ℕ) (at to : BlockAt) (tag : Tag) (bytes : List ℕ) → Has (write_said n at to tag bytes) out → ListedAt after.associations n tag
 
--- the pair of an association
-has_pair : (R : Association → Association → Type 0) (al bl : List Association) → Pairwise R al bl → (a : Association) → Has a al → (b : Association) × Has b bl × R a b
-has_pair R [] bl p a i = absurd i
-has_pair R (x ∷ al) [] p a i = absurd p
-has_pair R (x ∷ al) (y ∷ bl) p a (inl e) = (y, inl refl, subst (λ z. R z y) (sym e) p.one)
-has_pair R (x ∷ al) (y ∷ bl) p a (inr i) = let z = has_pair R al bl p.rest a i in (z.0, inr z.1, z.2)
-
 on_then : (E : ℕ → Type 0) (a b c : Association) → FollowsOn E a b → FollowsOn NoneEnds b c → FollowsOn E a c
 on_then E a b c p q = record { server = p.server ∙ q.server; life = p.life ∙ q.life; stays = λ n tag f h. q.stays n tag (λ z. z) (p.stays n tag f h) }
 
@@ -255,7 +244,7 @@ pub step_keeps : (c : ClientId) (s : ClientState) (now : Stamp) (input : ClientI
 unfolding cl.client_step cl.work
 step_keeps c s now input f o =
     record {
-      pairs = pairs_then (LostOrNot s.config now) (FollowsOn (EndedBy input)) (AfterStep (EndedBy input) s.config now) (lost_then (EndedBy input) s.config now) s.associations t.state.associations v.state.associations lost.pairs
+      pairs = pairs_then (LostOrNot s.config now) (FollowsOn (EndedBy input)) (AfterStep (EndedBy input) s.config now) (lost_then (EndedBy input) s.config now) s.associations t.state.associations v.state.associations p.lost.pairs
           (pairs_then (FollowsOn (EndedBy input)) (FollowsOn NoneEnds) (FollowsOn (EndedBy input)) (on_then (EndedBy input)) t.state.associations u.state.associations v.state.associations heard.pairs worked.pairs);
       said = λ n at to tag bytes i. late n at to tag bytes (worked.said n at to tag bytes i);
     }
@@ -269,27 +258,21 @@ step_keeps c s now input f o =
     v : ClientTurn
     v = at_each (cp.passes now (cl.is_tick input)) u
 
-    lost : LossesLeft c s now (client_turn s []) t
-    lost = losses_left c s now (client_turn s []) refl f
-
-    fit_t : (a : Association) → Has a t.state.associations → Fit a
-    fit_t = pairs_has (LostOrNot s.config now) Fit Fit (λ a b r. r.fit) s.associations t.state.associations lost.pairs f
+    p : Phased c s now t u (cl.work u now input)
+    p = phased c s now input f
 
     once_t : (a : Association) → Has a t.state.associations → WritesOnce a
-    once_t = pairs_has (LostOrNot s.config now) WritesOnce WritesOnce (λ a b r h. lost_once s.config now a b r h) s.associations t.state.associations lost.pairs o
-
-    fit_u : (a : Association) → Has a u.state.associations → Fit a
-    fit_u = pairs_has (Goes t.state.config now) Fit Fit (λ a b r. r.fit) t.state.associations u.state.associations (input_left c s now input t fit_t).pairs fit_t
+    once_t = pairs_has (LostOrNot s.config now) WritesOnce WritesOnce (λ a b r h. lost_once s.config now a b r h) s.associations t.state.associations p.lost.pairs o
 
     heard : AllKeep (EndedBy input) t u
-    heard = input_keeps now input t fit_t once_t
+    heard = input_keeps now input t u (taken t now input) p.fit once_t
 
     worked : AllKeep NoneEnds u v
-    worked = each_keeps Fit NoneEnds (cp.passes now (cl.is_tick input)) (λ x p. changes_rule now x _ (c_passes now (cl.is_tick input) x)) u fit_u
+    worked = each_keeps Fit NoneEnds (cp.passes now (cl.is_tick input)) (λ x p. changes_rule now x _ (c_passes now (cl.is_tick input) x)) u p.fit_too
 
     early : (n : ℕ) (at to : BlockAt) (tag : Tag) (bytes : List ℕ) → Has (write_said n at to tag bytes) t.out ⊎ ListedAt u.state.associations n tag → ListedAt v.state.associations n tag
     early n at to tag bytes (inl i) = absurd (silent_none t.out (losses_silent now s) n at to tag bytes i)
-    early n at to tag bytes (inr (b, i, h)) = let z = has_pair (FollowsOn NoneEnds) u.state.associations v.state.associations worked.pairs b i in (z.0, z.1, z.2.stays n tag (λ y. y) h)
+    early n at to tag bytes (inr (b, i, h)) = let z = pair_has (FollowsOn NoneEnds) u.state.associations v.state.associations worked.pairs b i in (z.0, z.1, z.2.stays n tag (λ y. y) h)
 
     late : (n : ℕ) (at to : BlockAt) (tag : Tag) (bytes : List ℕ) → Has (write_said n at to tag bytes) u.out ⊎ ListedAt v.state.associations n tag → ListedAt v.state.associations n tag
     late n at to tag bytes (inl i) = early n at to tag bytes (heard.said n at to tag bytes i)

@@ -39,7 +39,7 @@ use Rattle.st_laws_steps.proofs.Client.Asking.{p_passes}
 use Rattle.st_laws_steps.proofs.Client.Calm.{IsCalm}
 use Rattle.st_laws_steps.proofs.Client.Only.{Only, Goes}
 use Rattle.st_laws_steps.proofs.Client.Only as only
-use Rattle.st_laws_steps.proofs.Client.Passing.{IsPassing, Uncut}
+use Rattle.st_laws_steps.proofs.Client.Passing.{IsPassing, KeepsOrAsks, Part, Uncut}
 use Rattle.st_laws_steps.proofs.Client.Replying.{calm_hear}
 use Rattle.st_laws_steps.proofs.Client.Working.{has_take}
 use Rattle.st_laws_reads.specs.AllClients.Clear.{Clear, Cleared, Cuts}
@@ -162,7 +162,7 @@ follows_clear a s u (Keeps _ _ k) h ino p c = h ino p (like s u ino p (ap (λ (r
 follows_clear a s _ (DropsLock _ i l) h ino p c = h ino p (like s _ ino p refl refl c)
 follows_clear a s _ (IsReasserted _) h ino p c = h ino p (like s _ ino p refl refl c)
 follows_clear a s _ (EndsRequest _ stamp) h ino p c = absurd (none_some c.request (ap (λ (z : ClientSession). z.requests.asked) (some_is c.is) ∙ c.asked))
-follows_clear a s _ (NewEpoch _ epoch) h ino p c = absurd (none_some c.request (ap (λ (z : ClientSession). z.requests.asked) (some_is c.is) ∙ c.asked))
+follows_clear a s _ (NewEpoch _ epoch n) h ino p c = absurd (none_some c.request (ap (λ (z : ClientSession). z.requests.asked) (some_is c.is) ∙ c.asked))
 follows_clear a s _ (AsksNew _ r now body cutting k f i) h ino p c =
     let n = some_is c.is in
     let q : body ≡ c.request.body = ap (λ (z : Request). z.body) (some_is (ap (λ (z : ClientSession). z.requests.asked) n ∙ c.asked)) in
@@ -180,7 +180,7 @@ apart : (t : Turn) (f ino : ℕ) (p : PageNo) → Uncut t f → Cuts t.here.sess
 apart t f ino p u c i = u c.session c.is (c.cutting ∙ ap (λ n. Some n) (sym i))
 
 -- Each change of a pass, and such changes.
-change_passing : (syncs : List Operation) (asks : Bool) (now : Stamp) (t u : Turn) (c : Change now t u) → IsPassing syncs asks now t u c → K t u
+change_passing : (syncs : List Operation) (asks : Part) (now : Stamp) (t u : Turn) (c : Change now t u) → IsPassing syncs asks now t u c → K t u
 unfolding cp.submit_read cp.submit_write cp.submit_command
 change_passing syncs asks now t _ (client.Says _ o p) q h = h
 change_passing syncs asks now t _ (client.Operates _ os) q h = h
@@ -197,12 +197,12 @@ change_passing syncs asks now t _ (client.Reads _ f r m i clean) q h = λ ino p 
 change_passing syncs asks now t _ (client.Submits _ s f r d m se e i w) q h =
     λ ino p c. command_clear t.here.store ino p t.next_command d.ino d.page (io.Write d.version) ((h ino p c).dirty d (found_at (pages.is_dirty_of f r) t.here.store.pages.dirty d e).1) (h ino p c)
 
-changes_passing : (syncs : List Operation) (asks : Bool) (now : Stamp) (t u : Turn) → Only (IsPassing syncs asks) now t u → K t u
+changes_passing : (syncs : List Operation) (asks : Part) (now : Stamp) (t u : Turn) → Only (IsPassing syncs asks) now t u → K t u
 changes_passing syncs asks now t _ (only.Ends _) h = h
 changes_passing syncs asks now t v (Goes _ u _ c q r) h = changes_passing syncs asks now u v r (change_passing syncs asks now t u c q h)
 
 pub k_passes : (now : Stamp) (tick : Bool) (t : Turn) → K t (cp.passes now tick t)
-k_passes now tick t = changes_passing t.operations true now t (cp.passes now tick t) (p_passes now tick t)
+k_passes now tick t = changes_passing t.operations KeepsOrAsks now t (cp.passes now tick t) (p_passes now tick t)
 
 -- Each change where a message is heard, and such changes.
 change_heard : (now : Stamp) (t u : Turn) (c : Change now t u) → IsCalm true now t u c → K t u
@@ -211,7 +211,7 @@ change_heard now t _ (client.Operates _ os) q h = h
 change_heard now t _ (client.Answers _ os ops a) q h = h
 change_heard now t _ (client.Greets _ g) q h = h
 change_heard now t _ (client.TellsLost _ lost) q h = h
-change_heard now t _ (client.Begins _ s a b n) q h = unasked (with_session s t).here (λ r e. ap (λ (z : ClientSession). z.requests.asked) (some_is (sym e)) ∙ n)
+change_heard now t _ (client.Begins _ s a b n) q h = unasked (with_session s t).here (λ r e. ap (λ (z : ClientSession). z.requests.asked) (some_is (sym e)) ∙ ap (λ (z : ClientSession). z.requests.asked) n.2)
 change_heard now t _ (client.Follows _ s u e g) q h = k_follows t s u e g.how h
 change_heard now t _ (client.Learns _ e a b) q h = unasked (with_store (record t.here.store { extents = pages.with_known e t.here.store.extents }) t).here (λ s i. subst client.Unasked i a)
 change_heard now t _ (client.Forgets _ ino p i) q h = absurd q

@@ -123,9 +123,6 @@ module _ (M : List Message) (c : ClientId) (Known : ℕ → Ask → Type 0) (Bef
     abbrev pub WIn : Turn → ClientSession → Type 0
     WIn t x = Whole s B out0 t.id t.here.server t.here.life.0 (view (Some x)) t.operations t.out
 
-    pub back : (t : Turn) (x : ClientSession) → t.here.session ≡ Some x → WIn t x → W t
-    back t x e w = subst (λ o. Whole s B out0 t.id t.here.server t.here.life.0 (view o) t.operations t.out) (sym e) w
-
     pub into : (t : Turn) (x : ClientSession) → t.here.session ≡ Some x → W t → WIn t x
     into t x e w = subst (λ o. Whole s B out0 t.id t.here.server t.here.life.0 (view o) t.operations t.out) e w
 
@@ -219,10 +216,6 @@ module _ (M : List Message) (c : ClientId) (Known : ℕ → Ask → Type 0) (Bef
         clash x y = cc
 
     -- Sessions that go on.
-    -- a session with the same epoch and requests is the same to all this
-    pub w_session : (t : Turn) (x : ClientSession) → WIn t x → W (with_session x t)
-    w_session t x w = w
-
     pub w_condemn : (t : Turn) (x : ClientSession) → WIn t x → W (cr.condemn t x)
     unfolding cr.condemn
     w_condemn t x w = w

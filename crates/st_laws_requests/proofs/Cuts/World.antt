@@ -544,9 +544,6 @@ started_ok past past2 ms c site q k =
           };
     }
   where
-    abbrev_from : Association → Type 0
-    abbrev_from a = (b : Association) × Has b site.node.state.associations × (a ≡ cl.started_association b)
-
     below : (a : Association) → (b : Association) × Has b site.node.state.associations × (a ≡ cl.started_association b) → (m : Message) → Has m ms → Between c a.server m → m.header.life + 1 ≤ a.life.0
     below a (p, h, e) m i b =
         let y = k.lives p h m i (subst (λ (v : Association). Between c v.server m) e b) in

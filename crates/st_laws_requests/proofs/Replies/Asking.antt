@@ -1,5 +1,5 @@
 -- The rules of a client keep the outstanding request the last one.
-use Rattle.std.proofs.Common.{◌≡◌, ℕ, ◌+◌, Bool, true, false, List, [], Option, Some, None, refl, sym, ap, ◌∙◌, subst, if◌then◌else◌}
+use Rattle.std.proofs.Common.{◌≡◌, ℕ, ◌+◌, Bool, List, Option, Some, None, refl, sym, ap, ◌∙◌, subst}
 use Rattle.st_base.specs.declared.disk.Tag.{Tag}
 use Rattle.st_base.specs.declared.ids.ServerId.{ServerId}
 use Rattle.st_base.specs.declared.ids.Stamp.{Stamp}
@@ -15,19 +15,13 @@ use Rattle.st_rules.specs.ClientReplies.{ended_by, in_epoch}
 use Rattle.st_rules.specs.ClientState.{ClientSession, Turn, asking, only_at}
 use Rattle.st_lemmas.proofs.Lookups.{some_is}
 use Rattle.st_laws_steps.proofs.Client.Sessions as sessions
+use Rattle.st_laws_steps.specs.Client.Client.{IsBegun}
 use Rattle.st_laws_steps.specs.Client.Losses.{Fit}
 use Rattle.st_laws_steps.specs.Client.Session.{SessionChange, Keeps, DropsLock, IsReasserted, EndsRequest, NewEpoch, AsksNew, AsksAgain}
 use Rattle.st_laws_requests.specs.Replies.Last.{AsksLast, IsLastRequest}
 
 abbrev pub K : Turn → Turn → Type 0
 K t u = AsksLast t.here.session → AsksLast u.here.session
-
-k_none : (t : Turn) → K t t
-k_none t h = h
-
-k_if : (t : Turn) (b : Bool) (u v : Turn) → K t u → K t v → K t (if b then u else v)
-k_if t true u v f g = f
-k_if t false u v f g = g
 
 -- with nothing outstanding
 none_last : (s : ClientSession) → s.requests.asked ≡ None → IsLastRequest s.requests
@@ -46,16 +40,19 @@ follows server life st s u (Keeps _ _ a) h = subst IsLastRequest (sym a.requests
 follows server life st s _ (DropsLock _ ino l) h = h
 follows server life st s _ (IsReasserted _) h = h
 follows server life st s _ (EndsRequest _ stamp) h = none_last (ended_by stamp s) refl
-follows server life st s _ (NewEpoch _ epoch) h = none_last (in_epoch epoch s) refl
+follows server life st s _ (NewEpoch _ epoch n) h = none_last (in_epoch epoch s) refl
 follows server life st s _ (AsksNew _ r now body cutting a c i) h = asking_last r now body cutting
 follows server life st s _ (AsksAgain _ now q e) h = λ r f. ap (λ (z : Request). z.number + 1) (sym (some_is f)) ∙ h q e
 
+first : (server : ServerId) (life : ℕ) (s : ClientSession) → IsBegun s → AsksLast None → AsksLast (Some s)
+first server life s b h = none_last s (ap (λ (z : ClientSession). z.requests.asked) b.2)
+
 -- The rules.
 pub k_passes : (now : Stamp) (tick : Bool) (t : Turn) → K t (cp.passes now tick t)
-k_passes = sessions.k_passes (λ s l o. AsksLast o) follows (λ server life s e. none_last s e)
+k_passes = sessions.k_passes (λ s l o. AsksLast o) follows first
 
 pub k_hear : (now : Stamp) (h : Header) (b : Body) (t : Turn) → Fit t.here → K t (cr.receive_at now h b t)
-k_hear now h b t f = sessions.k_hear (λ s l o. AsksLast o) follows (λ server life s e. none_last s e) now h b t f.fresh
+k_hear now h b t f = sessions.k_hear (λ s l o. AsksLast o) follows first now h b t f.fresh
 
 pub k_finish : (number : ℕ) (r : Option (Option (Tag × List ℕ))) (t : Turn) → K t (cl.finish number r t)
 k_finish = sessions.k_finish (λ s l o. AsksLast o)
@@ -64,9 +61,4 @@ pub k_take : (s : ServerId) (op : ℕ) (ask : Ask) (t : Turn) → K t (only_at s
 k_take = sessions.k_take (λ s l o. AsksLast o)
 
 pub k_lose : (now : Stamp) (t : Turn) → K t (cl.lose now t)
-unfolding cl.lose cl.lose_by cl.lose_over cl.lose_session
-k_lose now t = go t.here.session
-  where
-    go : (o : Option ClientSession) → K t (cl.lose_by t now o)
-    go None = k_none t
-    go (Some s) = k_if t (cl.is_over t s now) _ t (λ h. tt) (k_none t)
+k_lose = sessions.k_lose (λ s l o. AsksLast o) (λ server life. tt)

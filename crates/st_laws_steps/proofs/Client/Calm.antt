@@ -13,7 +13,7 @@ use Rattle.st_rules.specs.ClientLease as lease
 use Rattle.st_rules.specs.ClientPages as pages
 use Rattle.st_rules.specs.ClientState.{ClientSession, Turn, answer_each, answer_to, answered, keep, say, with_lost_rows, with_operations, with_session, with_store}
 use Rattle.st_laws_steps.specs.Client.Client as client
-use Rattle.st_laws_steps.specs.Client.Client.{Change, GoesOn, Plain, Unasked, Unhard, UnhardAnswer, with_greeted}
+use Rattle.st_laws_steps.specs.Client.Client.{Change, GoesOn, IsBegun, Plain, Unasked, Unhard, UnhardAnswer, with_greeted}
 use Rattle.st_laws_steps.proofs.Client.Only.{Only, all, joined, single, Ends}
 
 -- what is said: a message or a note only where a message is heard, and no answer that a sync is hard
@@ -71,7 +71,7 @@ Greets {hears} {now} t g = single (IsCalm hears) now t _ (client.Greets t g) tt
 pub TellsLost : {hears : Bool} {now : Stamp} (t : Turn) (lost : List LostPage) → Changes hears now t (with_lost_rows lost t)
 TellsLost {hears} {now} t lost = single (IsCalm hears) now t _ (client.TellsLost t lost) tt
 
-pub Begins : {now : Stamp} (t : Turn) (s : ClientSession) → t.here.session ≡ None → now.0 < (lease.end_of t.config s.lease).0 → s.requests.asked ≡ None → Changes true now t (with_session s t)
+pub Begins : {now : Stamp} (t : Turn) (s : ClientSession) → t.here.session ≡ None → now.0 < (lease.end_of t.config s.lease).0 → IsBegun s → Changes true now t (with_session s t)
 Begins {now} t s a b c = single (IsCalm true) now t _ (client.Begins t s a b c) refl
 
 pub Follows : {now : Stamp} (t : Turn) (s u : ClientSession) → t.here.session ≡ Some s → GoesOn t.here.store s u → Changes true now t (with_session u t)

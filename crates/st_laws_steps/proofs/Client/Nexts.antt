@@ -268,7 +268,7 @@ change_next now t _ (Begins _ s e b n) =
       server = refl;
       life = refl;
       session = subst (λ z. SessionNext t.config now z (Some s)) (sym e) b;
-      fit = λ f. record { mapped = f.mapped; fresh = unasked_fresh t.here.store (Some s) n };
+      fit = λ f. record { mapped = f.mapped; fresh = unasked_fresh t.here.store (Some s) (ap (λ (z : ClientSession). z.requests.asked) n.2) };
       more = [];
       out = empty_right t.out;
       unlost = record {};

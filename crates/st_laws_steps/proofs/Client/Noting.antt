@@ -1,5 +1,5 @@
 -- What a step of a client notes as changed, at each of its servers in turn.
-use Rattle.std.proofs.Common.{◌≡◌, ℕ, Bool, true, false, List, [], ◌∷◌, ◌++◌, ◌==◌, Option, Some, None, refl, sym, ap, ◌∙◌, subst, inl, inr, if◌then◌else◌}
+use Rattle.std.proofs.Common.{◌≡◌, ℕ, Bool, true, false, List, [], ◌∷◌, ◌++◌, Option, Some, None, refl, sym, ap, ◌∙◌, subst, inl, inr, if◌then◌else◌}
 use Rattle.st_base.specs.declared.config.Config.{Config}
 use Rattle.st_base.specs.declared.disk.Tag.{Tag}
 use Rattle.st_base.specs.declared.ids.ClientId.{ClientId}
@@ -13,7 +13,6 @@ use Rattle.st_messages.specs.declared.answer.AppAnswer.{AppAnswer}
 use Rattle.st_messages.specs.declared.output.Output.{Output}
 use Rattle.st_messages.specs.declared.output.Output.TheVariants as outputs
 use Rattle.st_rules.specs.declared.client.ClientInput.{ClientInput}
-use Rattle.st_rules.specs.declared.client.ClientInput.TheVariants as inputs
 use Rattle.st_rules.specs.declared.client.Operation.{Operation}
 use Rattle.st_rules.specs.ClientPages as pages
 use Rattle.st_rules.specs.ClientState.{ClientSession, Association, ClientState, ClientTurn, Turn, client_turn, enter, leave, at_these, at_each, with_associations, only_at, server_of, is_sent}
@@ -24,11 +23,14 @@ use Rattle.st_lemmas.specs.Lists.{Has}
 use Rattle.st_laws_steps.specs.Client.Losses.{Fit, Ends, Unknown, Passes, Hardens, Fails}
 use Rattle.st_laws_steps.specs.Lives.Lives.{Pairwise}
 use Rattle.st_laws_steps.specs.Client.Notes.{NotesAll, IsChanged, IsChangedAt}
+use Rattle.st_laws_steps.specs.Client.Taking as taking
+use Rattle.st_laws_steps.specs.Client.Taking.{Taken}
 use Rattle.st_laws_steps.proofs.Client.Nexts.{empty_right, append_assoc}
 use Rattle.st_laws_steps.proofs.Client.Asking.{c_passes}
 use Rattle.st_laws_steps.proofs.Client.Replying.{c_hear}
 use Rattle.st_laws_steps.proofs.Client.Losing.{c_only, Finished, finish_is, is_done, rest_of}
-use Rattle.st_laws_steps.proofs.Client.Stepping.{Phases, phases}
+use Rattle.st_laws_steps.proofs.Client.Stepping.{Phased, StaysChanged, changes_last, phased}
+use Rattle.st_laws_steps.proofs.Client.Taking.{taken}
 use Rattle.st_laws_steps.proofs.Client.Dirtying.{Dirtied, changes_dirty, notes_both, notes_map}
 
 -- nothing is noted as changed
@@ -160,38 +162,20 @@ finish_more now number result t = go (finish_is now number result t)
 quiet_all : (k : Config) (now : Stamp) (t u : ClientTurn) → More Quiet t.out u.out → NotedAll k now t u
 quiet_all k now t u m = record { more = m.more; out = m.out; noted = quiet_as (IsChangedAt k now u.state.associations) m.more m.is }
 
-input_noted : (now : Stamp) (input : ClientInput) (t : ClientTurn) → ((a : Association) → Has a t.state.associations → Fit a) → NotedAll t.state.config now t (cl.take_input t now input)
-unfolding cl.take_input cl.app cl.app_known cl.done cr.receive cr.receive_here
-input_noted now inputs.Tick t f = quiet_all t.state.config now t t (quiet_none t.out)
-input_noted now (inputs.App op ask) t f = full (cl.is_full t.state)
-  where
-    at_once : (a : AppAnswer) → NotedAll t.state.config now t (cl.answered_at_once t op a)
-    at_once a = quiet_all t.state.config now t (cl.answered_at_once t op a) (quiet_answer t.out op a)
-
-    known : (b : Bool) → NotedAll t.state.config now t (if b then at_each (only_at (server_of ask) (cl.take_ask op ask)) t else cl.answered_at_once t op answers.NoFile)
-    known true = noted_each now (only_at (server_of ask) (cl.take_ask op ask)) t (λ u p. dirtied_more now u _ (changes_dirty now u _ (c_only now (server_of ask) op ask u))) f
-    known false = at_once answers.NoFile
-
-    full : (b : Bool) → NotedAll t.state.config now t (if b then cl.answered_at_once t op answers.OpsFull else cl.app_known t op ask)
-    full true = at_once answers.OpsFull
-    full false = known (cl.is_configured t.state (server_of ask))
-input_noted now (inputs.Control m) t f = go (m.header.to == t.state.id.0)
-  where
-    go : (b : Bool) → NotedAll t.state.config now t (if b then at_each (cr.receive_at now m.header m.body) t else t)
-    go true = noted_each now (cr.receive_at now m.header m.body) t (λ u p. dirtied_more now u _ (changes_dirty now u _ (c_hear now m.header m.body u p.fresh))) f
-    go false = quiet_all t.state.config now t t (quiet_none t.out)
-input_noted now (inputs.Done number result) t f = noted_each now (cl.finish number result) t (λ u p. finish_more now number result u) f
+input_noted : (now : Stamp) (input : ClientInput) (t u : ClientTurn) → Taken t now input u → ((a : Association) → Has a t.state.associations → Fit a) → NotedAll t.state.config now t u
+input_noted now _ t _ (taking.Nothing i) f = quiet_all t.state.config now t t (quiet_none t.out)
+input_noted now _ t _ (taking.Full op ask e) f = quiet_all t.state.config now t (cl.answered_at_once t op answers.OpsFull) (quiet_answer t.out op answers.OpsFull)
+input_noted now _ t _ (taking.Unknown op ask e g) f = quiet_all t.state.config now t (cl.answered_at_once t op answers.NoFile) (quiet_answer t.out op answers.NoFile)
+input_noted now _ t _ (taking.Takes op ask e g) f = noted_each now (only_at (server_of ask) (cl.take_ask op ask)) t (λ u p. dirtied_more now u _ (changes_dirty now u _ (c_only now (server_of ask) op ask u))) f
+input_noted now _ t _ (taking.Hears m e) f = noted_each now (cr.receive_at now m.header m.body) t (λ u p. dirtied_more now u _ (changes_dirty now u _ (c_hear now m.header m.body u p.fresh))) f
+input_noted now _ t _ (taking.Finishes number result) f = noted_each now (cl.finish number result) t (λ u p. finish_more now number result u) f
 
 losses_quiet : (now : Stamp) (al : List Association) (t : ClientTurn) → More Quiet t.out (at_these (cl.lose now) al t).out
 unfolding at_these
 losses_quiet now [] t = quiet_none t.out
 losses_quiet now (a ∷ al) t = quiet_then t.out (leave t (cl.lose now (enter t a))).out _ (lose_quiet now (enter t a)) (losses_quiet now al (leave t (cl.lose now (enter t a))))
 
--- what was noted before the passes lasts through them
-abbrev pub Lasts : Config → Stamp → Association → Association → Type 0
-Lasts k now a b = (f : FileId) (p : PageNo) → IsChanged k now a f p → IsChanged k now b f p
-
-pair_has : (R : Association → Association → Type 0) (al bl : List Association) → Pairwise R al bl → (a : Association) → Has a al → (b : Association) × Has b bl × R a b
+pub pair_has : (R : Association → Association → Type 0) (al bl : List Association) → Pairwise R al bl → (a : Association) → Has a al → (b : Association) × Has b bl × R a b
 pair_has R [] bl p a h = absurd h
 pair_has R (x ∷ al) [] p a h = absurd p
 pair_has R (x ∷ al) (y ∷ bl) p a (inl e) = (y, inl refl, subst (λ z. R z y) (sym e) p.one)
@@ -200,7 +184,7 @@ pair_has R (x ∷ al) (y ∷ bl) p a (inr h) = let z = pair_has R al bl p.rest a
 -- All that a step notes as changed is dirty behind it, under a lease that is not over.
 pub step_notes : (c : ClientId) (s : ClientState) (now : Stamp) (input : ClientInput) → ((a : Association) → Has a s.associations → Fit a) → NotesAll (IsChangedAt s.config now (cl.client_step s now input).state.associations) (cl.client_step s now input).out
 unfolding cl.client_step cl.work cl.losses at_each
-step_notes c s now input f = go (losses_quiet now s.associations (with_associations [] (client_turn s []))) (phases c s now input f)
+step_notes c s now input f = go (losses_quiet now s.associations (with_associations [] (client_turn s []))) (phased c s now input f)
   where
     t : ClientTurn
     t = cl.losses (client_turn s []) now
@@ -211,16 +195,16 @@ step_notes c s now input f = go (losses_quiet now s.associations (with_associati
     v : ClientTurn
     v = cl.work u now input
 
-    go : More Quiet [] t.out → Phases s now t u v → NotesAll (IsChangedAt s.config now v.state.associations) v.out
-    go q r = heard (input_noted now input t r.fit) (noted_each now (cp.passes now (cl.is_tick input)) u (λ x p. dirtied_more now x _ (changes_dirty now x _ (c_passes now (cl.is_tick input) x))) r.fit_too)
+    go : More Quiet [] t.out → Phased c s now t u v → NotesAll (IsChangedAt s.config now v.state.associations) v.out
+    go q r = heard (input_noted now input t u (taken t now input) r.fit) (noted_each now (cp.passes now (cl.is_tick input)) u (λ x p. dirtied_more now x _ (changes_dirty now x _ (c_passes now (cl.is_tick input) x))) r.fit_too)
       where
         heard : NotedAll t.state.config now t u → NotedAll u.state.config now u v → NotesAll (IsChangedAt s.config now v.state.associations) v.out
         heard i w =
             subst (NotesAll (IsChangedAt s.config now v.state.associations)) (sym (w.out ∙ ap (λ z. z ++ w.more) (i.out ∙ ap (λ z. z ++ i.more) q.out)))
             (notes_both (IsChangedAt s.config now v.state.associations) (q.more ++ i.more) w.more
             (notes_both (IsChangedAt s.config now v.state.associations) q.more i.more (quiet_as (IsChangedAt s.config now v.state.associations) q.more q.is)
-            (notes_map (IsChangedAt t.state.config now u.state.associations) (IsChangedAt s.config now v.state.associations) (λ g p z. last g p (subst (λ k. IsChangedAt k now u.state.associations g p) (sym r.config) z)) i.more i.noted))
-            (subst (λ k. NotesAll (IsChangedAt k now v.state.associations) w.more) (sym (r.config ∙ r.config_too)) w.noted))
+            (notes_map (IsChangedAt t.state.config now u.state.associations) (IsChangedAt s.config now v.state.associations) (λ g p z. last g p (subst (λ k. IsChangedAt k now u.state.associations g p) (sym r.lost.config) z)) i.more i.noted))
+            (subst (λ k. NotesAll (IsChangedAt k now v.state.associations) w.more) (sym (r.lost.config ∙ r.heard.config)) w.noted))
           where
             last : (g : FileId) (p : PageNo) → IsChangedAt s.config now u.state.associations g p → IsChangedAt s.config now v.state.associations g p
-            last g p (a, h, z) = let y = pair_has (Lasts s.config now) u.state.associations v.state.associations r.lasts a h in (y.0, y.1, y.2 g p z)
+            last g p (a, h, z) = let y = pair_has (StaysChanged s.config now) u.state.associations v.state.associations (changes_last c s now input t u r) a h in (y.0, y.1, y.2 g p z)

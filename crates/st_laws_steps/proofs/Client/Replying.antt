@@ -105,7 +105,7 @@ module _ (now : Stamp) where
   c_welcome t epoch stamp e =
       if_changes (cr.is_timely t now stamp) t _ _
       (λ b. both (one (Greets t None))
-      (both (one (Begins (with_greeted None t) (cr.new_session epoch stamp) e (ltb-true now.0 (stamp.0 + t.config.lease) (and_true (is_some t.here.greeting) (nat_lt now.0 (stamp.0 + t.config.lease)) b).1) refl))
+      (both (one (Begins (with_greeted None t) (cr.new_session epoch stamp) e (ltb-true now.0 (stamp.0 + t.config.lease) (and_true (is_some t.here.greeting) (nat_lt now.0 (stamp.0 + t.config.lease)) b).1) (epoch, stamp, refl)))
       (one (Says (cr.begin_here (cr.new_session epoch stamp) t) _ tt refl)))) (λ b. Still t)
 
   c_without : (t : Turn) (h : Header) (body : Body) → t.here.session ≡ None → C t (cr.without_session t now h body)
@@ -119,7 +119,7 @@ module _ (now : Stamp) where
   c_newer : (t : Turn) (s : ClientSession) (epoch : Epoch) → t.here.session ≡ Some s → C t (cr.newer_epoch t s epoch)
   unfolding cr.newer_epoch cr.follow_epoch
   c_newer t s epoch e =
-      if_changes (cr.is_newer s epoch) t _ _ (λ b. both (one (Follows t s (cr.in_epoch epoch s) e (record { how = NewEpoch s epoch; date = omega arith; asks = λ x q. absurd (no_page x q) }))) (k_each (is_asked t.here.server) (answers.Uncertain s.epoch.0 epoch.0) (with_session (cr.in_epoch epoch s) t) tt))
+      if_changes (cr.is_newer s epoch) t _ _ (λ b. both (one (Follows t s (cr.in_epoch epoch s) e (record { how = NewEpoch s epoch (ltb-true s.epoch.0 epoch.0 (and_true (nat_lt s.epoch.0 epoch.0) _ b).0); date = omega arith; asks = λ x q. absurd (no_page x q) }))) (k_each (is_asked t.here.server) (answers.Uncertain s.epoch.0 epoch.0) (with_session (cr.in_epoch epoch s) t) tt))
       (λ b. Still t)
 
   c_other : (t : Turn) (s : ClientSession) (epoch : Epoch) (body : Body) → t.here.session ≡ Some s → C t (cr.of_other_epoch t s epoch body)

@@ -1,6 +1,6 @@
 -- A fact of a session through the rules of a client: it stands again where each change of the session keeps it. The rules that ask nothing leave the requests
 -- of a session, so a fact stands again through them where it does so whenever a session asks nothing.
-use Rattle.std.proofs.Common.{◌≡◌, ℕ, ◌<◌, Bool, true, false, List, [], Option, Some, None, refl, subst, if◌then◌else◌}
+use Rattle.std.proofs.Common.{◌≡◌, ℕ, ◌<◌, Bool, true, false, List, [], Option, Some, None, subst, if◌then◌else◌}
 use Rattle.st_base.specs.declared.disk.Tag.{Tag}
 use Rattle.st_base.specs.declared.ids.GrantNo.{GrantNo}
 use Rattle.st_base.specs.declared.ids.ServerId.{ServerId}
@@ -15,21 +15,20 @@ use Rattle.st_rules.specs.declared.client.KnownExtent.{KnownExtent}
 use Rattle.st_rules.specs.declared.client.Operation.{Operation}
 use Rattle.st_rules.specs.Client as cl
 use Rattle.st_rules.specs.ClientLocks as locks
-use Rattle.st_rules.specs.ClientPages as pages
 use Rattle.st_rules.specs.ClientPages.{Store}
 use Rattle.st_rules.specs.ClientPasses as cp
 use Rattle.st_rules.specs.ClientReplies as cr
 use Rattle.st_rules.specs.ClientState.{ClientSession, Turn, only_at, send, with_cache, with_session}
 use Rattle.st_laws_steps.specs.Client.Client as client
-use Rattle.st_laws_steps.specs.Client.Client.{Change, GoesOn}
+use Rattle.st_laws_steps.specs.Client.Client.{Change, GoesOn, IsBegun}
 use Rattle.st_laws_steps.specs.Client.Losses.{Ends, Unknown, Passes, Hardens, Fails, SessionFresh}
 use Rattle.st_laws_steps.specs.Client.Session.{AsksNothing, SessionChange, Keeps, DropsLock, IsReasserted, EndsRequest, NewEpoch, AsksNew, AsksAgain}
-use Rattle.st_laws_steps.proofs.Client.Asking.{p_passes}
+use Rattle.st_laws_steps.proofs.Client.Asking.{p_passes, p_requests}
 use Rattle.st_laws_steps.proofs.Client.Calm.{IsCalm}
 use Rattle.st_laws_steps.proofs.Client.Losing.{Finished, calm_only, finish_is, is_done}
 use Rattle.st_laws_steps.proofs.Client.Only.{Only}
 use Rattle.st_laws_steps.proofs.Client.Only as only
-use Rattle.st_laws_steps.proofs.Client.Passing.{FollowsBy, IsPassing}
+use Rattle.st_laws_steps.proofs.Client.Passing.{FollowsBy, IsPassing, KeepsOrAsks, OnlyAsks, OnlyKeeps}
 use Rattle.st_laws_steps.proofs.Client.Replying.{alike_condemned, alike_demanded, alike_unheld, calm_hear, granted_alike}
 use Rattle.st_laws_steps.proofs.Client.Working.{p_greeting, p_operations, p_reductions, p_writes}
 
@@ -47,8 +46,8 @@ module _ (Q : ServerId → ℕ → Option ClientSession → Type 0) where
   module _ (P : (now : Stamp) (t u : Turn) → Change now t u → Type 0)
       (follows : (now : Stamp) (t : Turn) (s u : ClientSession) (e : t.here.session ≡ Some s) (g : GoesOn t.here.store s u) → P now t (with_session u t) (client.Follows t s u e g) →
       Q t.here.server t.here.life.0 (Some s) → Q t.here.server t.here.life.0 (Some u))
-      (begins : (now : Stamp) (t : Turn) (s : ClientSession) (a : t.here.session ≡ None) (b : now.0 < (Rattle.st_rules.specs.ClientLease.end_of t.config s.lease).0) (c : s.requests.asked ≡ None) →
-      P now t (with_session s t) (client.Begins t s a b c) → Q t.here.server t.here.life.0 (Some s)) where
+      (begins : (now : Stamp) (t : Turn) (s : ClientSession) (a : t.here.session ≡ None) (b : now.0 < (Rattle.st_rules.specs.ClientLease.end_of t.config s.lease).0) (c : IsBegun s) →
+      P now t (with_session s t) (client.Begins t s a b c) → Q t.here.server t.here.life.0 None → Q t.here.server t.here.life.0 (Some s)) where
     change_walked : (now : Stamp) (t u : Turn) (c : Change now t u) → P now t u c → K t u
     unfolding cp.submit_read cp.submit_write cp.submit_command
     change_walked now t _ (client.Says _ o p) q h = h
@@ -56,7 +55,7 @@ module _ (Q : ServerId → ℕ → Option ClientSession → Type 0) where
     change_walked now t _ (client.Answers _ os ops a) q h = h
     change_walked now t _ (client.Greets _ g) q h = h
     change_walked now t _ (client.TellsLost _ lost) q h = h
-    change_walked now t _ (client.Begins _ s a b c) q h = begins now t s a b c q
+    change_walked now t _ (client.Begins _ s a b c) q h = begins now t s a b c q (subst (Q t.here.server t.here.life.0) a h)
     change_walked now t _ (client.Follows _ s u e g) q h = follows now t s u e g q (subst (Q t.here.server t.here.life.0) e h)
     change_walked now t _ (client.Learns _ e a b) q h = h
     change_walked now t _ (client.Forgets _ ino p i) q h = h
@@ -94,17 +93,17 @@ module _ (Q : ServerId → ℕ → Option ClientSession → Type 0) where
     pub k_session : (t : Turn) (s r : ClientSession) → t.here.session ≡ Some s → AsksNothing t.here.store.extents s r → K t (with_session r t)
     k_session t s r e a h = alike t.here.store.extents t.here.server t.here.life.0 s r a (subst (Q t.here.server t.here.life.0) e h)
 
-    keeps : (server : ServerId) (life : ℕ) (st : Store) (s u : ClientSession) (c : SessionChange st s u) → FollowsBy false st s u c → Q server life (Some s) → Q server life (Some u)
+    keeps : (server : ServerId) (life : ℕ) (st : Store) (s u : ClientSession) (c : SessionChange st s u) → FollowsBy OnlyKeeps st s u c → Q server life (Some s) → Q server life (Some u)
     keeps server life st s u (Keeps _ _ a) q h = alike st.extents server life s u a h
     keeps server life st s _ (DropsLock _ ino l) q h = absurd q
     keeps server life st s _ (IsReasserted _) q h = absurd q
     keeps server life st s _ (EndsRequest _ stamp) q h = absurd q
-    keeps server life st s _ (NewEpoch _ epoch) q h = absurd q
-    keeps server life st s _ (AsksNew _ r now body cutting a c i) q h = no_bool q
-    keeps server life st s _ (AsksAgain _ now x e) q h = no_bool q
+    keeps server life st s _ (NewEpoch _ epoch n) q h = absurd q
+    keeps server life st s _ (AsksNew _ r now body cutting a c i) q h = no_bool q.may
+    keeps server life st s _ (AsksAgain _ now x e) q h = no_bool q.may
 
-    rests : (syncs : List Operation) (now : Stamp) (t u : Turn) → Only (IsPassing syncs false) now t u → K t u
-    rests syncs now t u cs = walked (IsPassing syncs false) (λ now t s u e g q h. keeps t.here.server t.here.life.0 t.here.store s u g.how q h) (λ now t s a b c q. absurd q) now t u cs
+    rests : (syncs : List Operation) (now : Stamp) (t u : Turn) → Only (IsPassing syncs OnlyKeeps) now t u → K t u
+    rests syncs now t u cs = walked (IsPassing syncs OnlyKeeps) (λ now t s u e g q h. keeps t.here.server t.here.life.0 t.here.store s u g.how q h) (λ now t s a b c q. absurd q) now t u cs
 
     pub k_operations : (now : Stamp) (t : Turn) → K t (cp.operations now t)
     k_operations now t = rests t.operations now t (cp.operations now t) (p_operations now t)
@@ -138,12 +137,30 @@ module _ (Q : ServerId → ℕ → Option ClientSession → Type 0) where
     unfolding cr.condemn
     k_condemn t s e = k_session t s _ e (alike_condemned t.here.store.extents s)
 
+  -- a loss ends the session
+  pub k_lose : ((server : ServerId) (life : ℕ) → Q server life None) → (now : Stamp) (t : Turn) → K t (cl.lose now t)
+  unfolding cl.lose cl.lose_by cl.lose_over cl.lose_session
+  k_lose none now t h = go t.here.session
+    where
+      over : (s : ClientSession) (b : Bool) → At (if b then cl.lose_session t s else t)
+      over s true = none _ _
+      over s false = h
+
+      go : (o : Option ClientSession) → At (cl.lose_by t now o)
+      go None = h
+      go (Some s) = over s (cl.is_over t s now)
+
+  -- The last pass, which only asks.
+  pub k_requests : ((server : ServerId) (life : ℕ) (st : Store) (s u : ClientSession) (c : SessionChange st s u) → FollowsBy OnlyAsks st s u c → Q server life (Some s) → Q server life (Some u)) → (now : Stamp) (tick : Bool) (t : Turn) → K t (cp.requests now tick t)
+  k_requests on now tick t =
+      walked (IsPassing [] OnlyAsks) (λ now t s u e g q h. on t.here.server t.here.life.0 t.here.store s u g.how q h) (λ now t s a b c q. absurd q) now t (cp.requests now tick t) (p_requests now tick t)
+
   -- All rules.
   module _ (on : (server : ServerId) (life : ℕ) (st : Store) (s u : ClientSession) → SessionChange st s u → Q server life (Some s) → Q server life (Some u))
-      (first : (server : ServerId) (life : ℕ) (s : ClientSession) → s.requests.asked ≡ None → Q server life (Some s)) where
+      (first : (server : ServerId) (life : ℕ) (s : ClientSession) → IsBegun s → Q server life None → Q server life (Some s)) where
     pub k_passes : (now : Stamp) (tick : Bool) (t : Turn) → K t (cp.passes now tick t)
     k_passes now tick t =
-        walked (IsPassing t.operations true) (λ now t s u e g q h. on t.here.server t.here.life.0 t.here.store s u g.how h) (λ now t s a b c q. absurd q) now t (cp.passes now tick t) (p_passes now tick t)
+        walked (IsPassing t.operations KeepsOrAsks) (λ now t s u e g q h. on t.here.server t.here.life.0 t.here.store s u g.how h) (λ now t s a b c q. absurd q) now t (cp.passes now tick t) (p_passes now tick t)
 
     pub k_hear : (now : Stamp) (h : Header) (b : Body) (t : Turn) → SessionFresh t.here.store t.here.session → K t (cr.receive_at now h b t)
     k_hear now h b t f =

@@ -1,5 +1,5 @@
 -- A step of a client, at each of its servers in turn: what it does to its lives.
-use Rattle.std.proofs.Common.{◌≡◌, ℕ, Bool, true, false, List, [], ◌∷◌, ◌++◌, ◌==◌, Option, Some, None, refl, sym, ap, ◌∙◌, subst, inl, inr, if◌then◌else◌}
+use Rattle.std.proofs.Common.{◌≡◌, ℕ, Bool, true, false, List, [], ◌∷◌, ◌++◌, Option, Some, None, refl, sym, ap, ◌∙◌, subst, inl, inr, if◌then◌else◌}
 use Rattle.st_base.specs.declared.config.Config.{Config}
 use Rattle.st_base.specs.declared.ids.ClientId.{ClientId}
 use Rattle.st_base.specs.declared.ids.Stamp.{Stamp}
@@ -11,7 +11,6 @@ use Rattle.st_messages.specs.declared.output.Output.TheVariants as outputs
 use Rattle.st_base.specs.declared.disk.Tag.{Tag}
 use Rattle.st_rules.specs.declared.pages.DirtyPage.{DirtyPage}
 use Rattle.st_rules.specs.declared.client.ClientInput.{ClientInput}
-use Rattle.st_rules.specs.declared.client.ClientInput.TheVariants as inputs
 use Rattle.st_rules.specs.declared.world.LeaseLife.{LeaseLife}
 use Rattle.st_rules.specs.ClientPages as pages
 use Rattle.st_rules.specs.ClientState.{ClientSession, Association, ClientState, ClientTurn, Turn, client_turn, enter, leave, at_these, at_each, with_associations, only_at, server_of, note}
@@ -24,11 +23,14 @@ use Rattle.st_laws_steps.specs.Lives.Lives.{rows_said, ended_rows, row_lost, row
 use Rattle.st_base.specs.declared.ids.FileId.{FileId}
 use Rattle.st_base.specs.declared.ids.PageNo.{PageNo}
 use Rattle.st_laws_steps.specs.Client.Notes.{IsChanged}
+use Rattle.st_laws_steps.specs.Client.Taking as taking
+use Rattle.st_laws_steps.specs.Client.Taking.{Taken}
 use Rattle.st_laws_steps.proofs.Client.Dirtying.{Dirtied, changes_dirty, changed_lasts}
 use Rattle.st_laws_steps.proofs.Client.Nexts.{Unlost, AllUnlost, Next, next_same, next_then, changes_next, empty_right, session_same, session_then}
 use Rattle.st_laws_steps.proofs.Client.Asking.{c_passes}
 use Rattle.st_laws_steps.proofs.Client.Replying.{c_hear}
 use Rattle.st_laws_steps.proofs.Client.Losing.{lose_is, c_only, Finished, finish_is, rest_of}
+use Rattle.st_laws_steps.proofs.Client.Taking.{taken}
 use Rattle.st_laws_steps.proofs.Clash.{clash}
 
 -- the lives that outputs say to be lost
@@ -237,26 +239,18 @@ finish_next now number result t = go (finish_is now number result t)
 
 -- The input.
 pub input_left : (c : ClientId) (s : ClientState) (now : Stamp) (input : ClientInput) (t : ClientTurn) → ((a : Association) → Has a t.state.associations → Fit a) → LeftAll c s t.state.config now t (cl.take_input t now input)
-unfolding cl.take_input cl.app cl.app_known cl.done cr.receive cr.receive_here
-input_left c s now inputs.Tick t f = all_same c s t.state.config now t
-input_left c s now (inputs.App op ask) t f = full (cl.is_full t.state)
+input_left c s now input t f = go (cl.take_input t now input) input (taken t now input)
   where
-    at_once : (a : Rattle.st_messages.specs.declared.answer.AppAnswer.AppAnswer) → LeftAll c s t.state.config now t (cl.answered_at_once t op a)
-    at_once a = record { id = refl; config = refl; pairs = pairs_same (Goes t.state.config now) (goes_same t.state.config now) t.state.associations; out = rows_more c s t.out _ (record { one = tt; rest = record {} }) }
+    at_once : (op : ℕ) (a : Rattle.st_messages.specs.declared.answer.AppAnswer.AppAnswer) → LeftAll c s t.state.config now t (cl.answered_at_once t op a)
+    at_once op a = record { id = refl; config = refl; pairs = pairs_same (Goes t.state.config now) (goes_same t.state.config now) t.state.associations; out = rows_more c s t.out _ (record { one = tt; rest = record {} }) }
 
-    known : (b : Bool) → LeftAll c s t.state.config now t (if b then at_each (only_at (server_of ask) (cl.take_ask op ask)) t else cl.answered_at_once t op answers.NoFile)
-    known true = left_each c s now (only_at (server_of ask) (cl.take_ask op ask)) t (λ u p. changes_next now u _ (c_only now (server_of ask) op ask u)) f
-    known false = at_once answers.NoFile
-
-    full : (b : Bool) → LeftAll c s t.state.config now t (if b then cl.answered_at_once t op answers.OpsFull else cl.app_known t op ask)
-    full true = at_once answers.OpsFull
-    full false = known (cl.is_configured t.state (server_of ask))
-input_left c s now (inputs.Control m) t f = go (m.header.to == t.state.id.0)
-  where
-    go : (b : Bool) → LeftAll c s t.state.config now t (if b then at_each (cr.receive_at now m.header m.body) t else t)
-    go true = left_each c s now (cr.receive_at now m.header m.body) t (λ u p. changes_next now u _ (c_hear now m.header m.body u p.fresh)) f
-    go false = all_same c s t.state.config now t
-input_left c s now (inputs.Done number result) t f = left_each c s now (cl.finish number result) t (λ u p. finish_next now number result u) f
+    go : (u : ClientTurn) (i : ClientInput) → Taken t now i u → LeftAll c s t.state.config now t u
+    go _ _ (taking.Nothing i) = all_same c s t.state.config now t
+    go _ _ (taking.Full op ask e) = at_once op answers.OpsFull
+    go _ _ (taking.Unknown op ask e g) = at_once op answers.NoFile
+    go _ _ (taking.Takes op ask e g) = left_each c s now (only_at (server_of ask) (cl.take_ask op ask)) t (λ u p. changes_next now u _ (c_only now (server_of ask) op ask u)) f
+    go _ _ (taking.Hears m e) = left_each c s now (cr.receive_at now m.header m.body) t (λ u p. changes_next now u _ (c_hear now m.header m.body u p.fresh)) f
+    go _ _ (taking.Finishes number result) = left_each c s now (cl.finish number result) t (λ u p. finish_next now number result u) f
 
 -- an association before and after its loss, or as it was
 pub record LostOrNot (k : Config) (now : Stamp) (a b : Association) : Type 0 where
@@ -328,55 +322,18 @@ life_next s now a b c p q =
       lost = λ e. p.lost e ∙ q.life;
     }
 
-pub step_lives : (c : ClientId) (s : ClientState) (now : Stamp) (input : ClientInput) → ((a : Association) → Has a s.associations → Fit a) → Stepped now c s (cl.client_step s now input).state (cl.client_step s now input).out
-unfolding cl.client_step cl.work ended_rows
-step_lives c s now input f = go (losses_left c s now (client_turn s []) refl f)
-  where
-    t : ClientTurn
-    t = cl.losses (client_turn s []) now
-
-    u : ClientTurn
-    u = cl.take_input t now input
-
-    v : ClientTurn
-    v = cl.work u now input
-
-    worked : ((a : Association) → Has a u.state.associations → Fit a) → LeftAll c s u.state.config now u v
-    worked f = left_each c s now (cp.passes now (cl.is_tick input)) u (λ x p. changes_next now x _ (c_passes now (cl.is_tick input) x)) f
-
-    go : LossesLeft c s now (client_turn s []) t → Stepped now c s v.state v.out
-    go l = heard (input_left c s now input t fit)
-      where
-        fit : (a : Association) → Has a t.state.associations → Fit a
-        fit = pairs_has (LostOrNot s.config now) Fit Fit (λ a b r. r.fit) s.associations t.state.associations l.pairs f
-
-        heard : LeftAll c s t.state.config now t u → Stepped now c s v.state v.out
-        heard i = work (worked (pairs_has (Goes t.state.config now) Fit Fit (λ a b r. r.fit) t.state.associations u.state.associations i.pairs fit))
-          where
-            work : LeftAll c s u.state.config now u v → Stepped now c s v.state v.out
-            work w = joined (all_then c s s.config now t u v (subst (λ k. LeftAll c s k now t u) (sym l.config) i) (subst (λ k. LeftAll c s k now u v) (sym (l.config ∙ i.config)) w))
-              where
-                joined : LeftAll c s s.config now t v → Stepped now c s v.state v.out
-                joined r =
-                    record {
-                      id = l.id ∙ r.id;
-                      config = l.config ∙ r.config;
-                      pairs = pairs_then (LostOrNot s.config now) (Goes s.config now) (LifeNext now s) (life_next s now) s.associations t.state.associations v.state.associations l.pairs r.pairs;
-                      rows = r.out ∙ l.out;
-                    }
-
--- What stands between the phases of a step: the associations fit, and what was noted as changed lasts through the passes.
-pub record Phases (s : ClientState) (now : Stamp) (t u v : ClientTurn) : Type 0 where
-  pub config : s.config ≡ t.state.config
-  pub config_too : t.state.config ≡ u.state.config
+-- The phases of a step: what its losses, its input and its passes leave of the associations, which fit in between.
+pub record Phased (c : ClientId) (s : ClientState) (now : Stamp) (t u v : ClientTurn) : Type 0 where
+  pub lost : LossesLeft c s now (client_turn s []) t
   pub fit : (a : Association) → Has a t.state.associations → Fit a
+  pub heard : LeftAll c s t.state.config now t u
   pub fit_too : (a : Association) → Has a u.state.associations → Fit a
-  pub lasts : Pairwise (λ a b. (f : FileId) (p : PageNo) → IsChanged s.config now a f p → IsChanged s.config now b f p) u.state.associations v.state.associations
+  pub worked : LeftAll c s u.state.config now u v
 
-pub phases : (c : ClientId) (s : ClientState) (now : Stamp) (input : ClientInput) → ((a : Association) → Has a s.associations → Fit a) →
-    Phases s now (cl.losses (client_turn s []) now) (cl.take_input (cl.losses (client_turn s []) now) now input) (cl.work (cl.take_input (cl.losses (client_turn s []) now) now input) now input)
-unfolding cl.work no_rows
-phases c s now input f = go (losses_left c s now (client_turn s []) refl f)
+pub phased : (c : ClientId) (s : ClientState) (now : Stamp) (input : ClientInput) → ((a : Association) → Has a s.associations → Fit a) →
+    Phased c s now (cl.losses (client_turn s []) now) (cl.take_input (cl.losses (client_turn s []) now) now input) (cl.work (cl.take_input (cl.losses (client_turn s []) now) now input) now input)
+unfolding cl.work
+phased c s now input f = record { lost = lost; fit = fit; heard = heard; fit_too = fit_too; worked = left_each c s now (cp.passes now (cl.is_tick input)) u (λ x p. changes_next now x _ (c_passes now (cl.is_tick input) x)) fit_too }
   where
     t : ClientTurn
     t = cl.losses (client_turn s []) now
@@ -384,34 +341,46 @@ phases c s now input f = go (losses_left c s now (client_turn s []) refl f)
     u : ClientTurn
     u = cl.take_input t now input
 
-    v : ClientTurn
-    v = cl.work u now input
+    lost : LossesLeft c s now (client_turn s []) t
+    lost = losses_left c s now (client_turn s []) refl f
 
-    Lasts : Association → Association → Type 0
-    Lasts a b = (f : FileId) (p : PageNo) → IsChanged s.config now a f p → IsChanged s.config now b f p
+    fit : (a : Association) → Has a t.state.associations → Fit a
+    fit = pairs_has (LostOrNot s.config now) Fit Fit (λ a b r. r.fit) s.associations t.state.associations lost.pairs f
 
-    go : LossesLeft c s now (client_turn s []) t → Phases s now t u v
-    go l = heard (input_left c s now input t fit)
+    heard : LeftAll c s t.state.config now t u
+    heard = input_left c s now input t fit
+
+    fit_too : (a : Association) → Has a u.state.associations → Fit a
+    fit_too = pairs_has (Goes t.state.config now) Fit Fit (λ a b r. r.fit) t.state.associations u.state.associations heard.pairs fit
+
+pub step_lives : (c : ClientId) (s : ClientState) (now : Stamp) (input : ClientInput) → ((a : Association) → Has a s.associations → Fit a) → Stepped now c s (cl.client_step s now input).state (cl.client_step s now input).out
+unfolding cl.client_step ended_rows
+step_lives c s now input f = go _ _ _ (phased c s now input f)
+  where
+    go : (t u v : ClientTurn) → Phased c s now t u v → Stepped now c s v.state v.out
+    go t u v p = joined (all_then c s s.config now t u v (subst (λ k. LeftAll c s k now t u) (sym p.lost.config) p.heard) (subst (λ k. LeftAll c s k now u v) (sym (p.lost.config ∙ p.heard.config)) p.worked))
       where
-        fit : (a : Association) → Has a t.state.associations → Fit a
-        fit = pairs_has (LostOrNot s.config now) Fit Fit (λ a b r. r.fit) s.associations t.state.associations l.pairs f
+        joined : LeftAll c s s.config now t v → Stepped now c s v.state v.out
+        joined r =
+            record {
+              id = p.lost.id ∙ r.id;
+              config = p.lost.config ∙ r.config;
+              pairs = pairs_then (LostOrNot s.config now) (Goes s.config now) (LifeNext now s) (life_next s now) s.associations t.state.associations v.state.associations p.lost.pairs r.pairs;
+              rows = r.out ∙ p.lost.out;
+            }
 
-        heard : LeftAll c s t.state.config now t u → Phases s now t u v
-        heard i = worked (pairs_has (Goes t.state.config now) Fit Fit (λ a b r. r.fit) t.state.associations u.state.associations i.pairs fit)
-          where
-            one : (k : Config) → k ≡ s.config → (x y : Turn) → x.config ≡ k → Dirtied now x y → Left Lasts no_rows (λ os. []) x y
-            one k e x y q d =
-                record {
-                  one = λ g p z. changed_lasts s.config now x.here y.here d.next.server (subst (λ w. SessionNext w now x.here.session y.here.session) (q ∙ e) d.next.session) d.dirty g p z;
-                  said = refl;
-                }
+-- What was noted as changed before the passes lasts through them.
+abbrev pub StaysChanged : Config → Stamp → Association → Association → Type 0
+StaysChanged k now a b = (f : FileId) (p : PageNo) → IsChanged k now a f p → IsChanged k now b f p
 
-            worked : ((a : Association) → Has a u.state.associations → Fit a) → Phases s now t u v
-            worked fit_too =
-                record {
-                  config = l.config;
-                  config_too = i.config;
-                  fit = fit;
-                  fit_too = fit_too;
-                  lasts = (each Fit Lasts no_rows (λ os. []) (cp.passes now (cl.is_tick input)) u (λ x q p. one u.state.config (sym (l.config ∙ i.config)) x _ q (changes_dirty now x _ (c_passes now (cl.is_tick input) x))) fit_too).pairs;
-                }
+pub changes_last : (c : ClientId) (s : ClientState) (now : Stamp) (input : ClientInput) (t u : ClientTurn) → Phased c s now t u (cl.work u now input) → Pairwise (StaysChanged s.config now) u.state.associations (cl.work u now input).state.associations
+unfolding cl.work no_rows
+changes_last c s now input t u r =
+    (each Fit (StaysChanged s.config now) no_rows (λ os. []) (cp.passes now (cl.is_tick input)) u (λ x q p. one u.state.config (sym (r.lost.config ∙ r.heard.config)) x _ q (changes_dirty now x _ (c_passes now (cl.is_tick input) x))) r.fit_too).pairs
+  where
+    one : (k : Config) → k ≡ s.config → (x y : Turn) → x.config ≡ k → Dirtied now x y → Left (StaysChanged s.config now) no_rows (λ os. []) x y
+    one k e x y q d =
+        record {
+          one = λ g p z. changed_lasts s.config now x.here y.here d.next.server (subst (λ w. SessionNext w now x.here.session y.here.session) (q ∙ e) d.next.session) d.dirty g p z;
+          said = refl;
+        }

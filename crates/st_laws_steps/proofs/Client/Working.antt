@@ -31,7 +31,7 @@ use Rattle.st_laws_steps.proofs.Client.Changes.{goes_keeps}
 use Rattle.st_laws_steps.specs.Client.Client as client
 use Rattle.st_laws_steps.specs.Client.Client.{ChangesPage}
 use Rattle.st_laws_steps.specs.Client.Session.{LocksReduced, NothingKnown}
-use Rattle.st_laws_steps.proofs.Client.Passing.{changes, AnswersRight, Says, Operates, Greets, Follows, Forgets, Caches, Uncut, Writes, Reads, SendsHello, Submits, Changes, Still}
+use Rattle.st_laws_steps.proofs.Client.Passing.{changes, OnlyKeeps, Says, Operates, Greets, Follows, Forgets, Caches, Uncut, Writes, Reads, SendsHello, Submits, Changes, Still}
 use Rattle.st_lemmas.specs.Lists.{Has}
 use Rattle.st_lemmas.proofs.Lookups.{or_false, some_is}
 use Rattle.st_lemmas.proofs.Tables.{and_both, and_true, found_at, has_filter, not_true}
@@ -74,7 +74,7 @@ none_behind ino xs e i q =
 
 module _ (syncs : List Operation) (now : Stamp) where
   abbrev C : Turn → Turn → Type 0
-  C t u = Changes syncs false now t u
+  C t u = Changes syncs OnlyKeeps now t u
 
   -- operations
   c_sync : (t : Turn) (o : Operation) (f : FileId) → Has o syncs → o.ask ≡ asks.Sync f → server_of o.ask ≡ t.here.server → C t (cp.sync t o f)
@@ -169,14 +169,14 @@ module _ (syncs : List Operation) (now : Stamp) where
   c_operate_each all [] t h = Still t
   c_operate_each all (o ∷ os) t h = both (c_operate all t o (h o (inl refl))) (c_operate_each all os (cp.operate all t now o) (λ p i. h p (inr i)))
 
-pub p_operations : (now : Stamp) (t : Turn) → Changes t.operations false now t (cp.operations now t)
+pub p_operations : (now : Stamp) (t : Turn) → Changes t.operations OnlyKeeps now t (cp.operations now t)
 unfolding cp.operations
 p_operations now t = both (one (Operates t [])) (c_operate_each t.operations now t.operations t.operations (with_operations [] t) (λ o h. h))
 
 module _ (now : Stamp) where
   -- what is done behind the operations answers no sync hard
   abbrev D : Turn → Turn → Type 0
-  D t u = Changes [] false now t u
+  D t u = Changes [] OnlyKeeps now t u
 
   -- reductions
   c_forgotten : (t : Turn) (ino : ℕ) (to : Mode) → pages.is_idle t.here.store ino ≡ true → D t (with_store (cp.forgotten_at ino to t.here.store) t)
@@ -200,7 +200,7 @@ module _ (now : Stamp) where
       given s (Some (g, to)) q e i =
           both (c_forgotten t ino to i)
           (one (Follows (with_store (cp.forgotten_at ino to t.here.store) t) s (cp.released (with_cache (locks.reduce s.locks ino).locks s) ino g to) e
-          (goes_keeps (cp.forgotten_at ino to t.here.store) s _ (record { epoch = refl; requests = refl; cutting = refl; due = refl; date = refl; locks = LocksReduced s.locks ino g to q (unknown to) })) tt))
+          (goes_keeps (cp.forgotten_at ino to t.here.store) s _ (record { epoch = refl; requests = refl; cutting = refl; due = refl; date = refl; locks = LocksReduced s.locks ino g to q (unknown to) })) (record { may = refl })))
 
       go : (x : Option ClientSession) → t.here.session ≡ x → D t (cp.reduce t ino x)
       go None e = Still t

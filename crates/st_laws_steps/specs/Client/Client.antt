@@ -1,5 +1,6 @@
 -- What the rules of a client do at one server, as a list of small changes.
 use Rattle.std.specs.Prelude.{◌≡◌, ℕ, ◌≤◌, ◌<◌, ◌⊎◌, true, false, List, ◌++◌, map, Option, Some, None}
+use Rattle.st_base.specs.declared.ids.Epoch.{Epoch}
 use Rattle.st_base.specs.declared.ids.FileId.{FileId}
 use Rattle.st_base.specs.declared.ids.PageNo.{PageNo}
 use Rattle.st_base.specs.declared.ids.Stamp.{Stamp}
@@ -22,6 +23,7 @@ use Rattle.st_rules.specs.ClientLease as lease
 use Rattle.st_rules.specs.ClientPages as pages
 use Rattle.st_rules.specs.ClientPages.{Store}
 use Rattle.st_rules.specs.ClientPasses as passes
+use Rattle.st_rules.specs.ClientReplies.{new_session}
 use Rattle.st_rules.specs.ClientState.{ClientSession, Turn, with_session, with_store, with_operations, with_lost_rows, say, note, answer_to, is_serving}
 use Rattle.st_laws_steps.specs.Client.Session.{SessionChange}
 
@@ -80,6 +82,10 @@ abbrev pub Unasked : Option ClientSession → Type 0
 Unasked None = Unit {0}
 Unasked (Some s) = s.requests.asked ≡ None
 
+-- a session as it begins
+abbrev pub IsBegun : ClientSession → Type 0
+IsBegun s = (epoch : Epoch) × (stamp : Stamp) × (s ≡ new_session epoch stamp)
+
 -- with this greeting
 abbrev pub with_greeted : Option Stamp → Turn → Turn
 with_greeted g t = record t { here = record t.here { greeting = g } }
@@ -97,7 +103,7 @@ pub data Change (now : Stamp) : Turn → Turn → Type 0 where
   -- the lost pages of which nobody was told are others
   TellsLost : (t : Turn) (lost : List LostPage) → Change now t (with_lost_rows lost t)
   -- a session begins, whose lease is not over
-  Begins : (t : Turn) (s : ClientSession) → t.here.session ≡ None → now.0 < (lease.end_of t.config s.lease).0 → s.requests.asked ≡ None →
+  Begins : (t : Turn) (s : ClientSession) → t.here.session ≡ None → now.0 < (lease.end_of t.config s.lease).0 → IsBegun s →
       Change now t (with_session s t)
   -- a session goes on
   Follows : (t : Turn) (s u : ClientSession) → t.here.session ≡ Some s → GoesOn t.here.store s u → Change now t (with_session u t)

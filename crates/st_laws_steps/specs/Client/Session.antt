@@ -1,5 +1,5 @@
 -- How a rule of a client changes its session at a server.
-use Rattle.std.specs.Prelude.{◌≡◌, ℕ, true, false, List, Option, Some, None}
+use Rattle.std.specs.Prelude.{◌≡◌, ℕ, ◌≤◌, ◌<◌, true, false, List, Option, Some, None}
 use Rattle.st_base.specs.declared.ids.Epoch.{Epoch}
 use Rattle.st_base.specs.declared.ids.GrantNo.{GrantNo}
 use Rattle.st_base.specs.declared.ids.PageNo.{PageNo}
@@ -8,6 +8,7 @@ use Rattle.st_base.specs.declared.mode.Mode.{Mode}
 use Rattle.st_base.specs.declared.mode.Mode.TheVariants as modes
 use Rattle.st_messages.specs.declared.message.Body.{Body}
 use Rattle.st_messages.specs.declared.message.Body.TheVariants as bodies
+use Rattle.st_messages.specs.declared.message.NameOp.TheVariants as ops
 use Rattle.st_rules.specs.declared.client.HeldLock.{HeldLock}
 use Rattle.st_rules.specs.declared.client.KnownExtent.{KnownExtent}
 use Rattle.st_rules.specs.declared.client.Request.{Request}
@@ -17,7 +18,7 @@ use Rattle.st_rules.specs.ClientPages as pages
 use Rattle.st_rules.specs.ClientPages.{Store}
 use Rattle.st_rules.specs.ClientPasses as passes
 use Rattle.st_rules.specs.ClientReplies as replies
-use Rattle.st_rules.specs.ClientState.{ClientSession, with_cache, with_release}
+use Rattle.st_rules.specs.ClientState.{ClientSession, reasserts, with_cache, with_release}
 use Rattle.st_rules.specs.Keys.{page_no}
 use Rattle.st_lemmas.specs.Lists.{Has}
 
@@ -27,17 +28,36 @@ cuts_from (bodies.Cut ino g from) = Some from
 cuts_from (bodies.Name op) = Some (page_no 0)
 cuts_from body = None
 
--- what a client asks of a server
-abbrev pub IsAsked : Body → Type 0
-IsAsked bodies.KeepAlive = Unit {0}
-IsAsked (bodies.Reassert rows) = Unit {0}
-IsAsked (bodies.Released ino g to) = Unit {0}
-IsAsked (bodies.Acquire ino mode) = Unit {0}
-IsAsked (bodies.Map ino g p) = Unit {0}
-IsAsked (bodies.Allocate ino g p count) = Unit {0}
-IsAsked (bodies.Cut ino g from) = Unit {0}
-IsAsked (bodies.Name op) = Unit {0}
-IsAsked body = ⊥
+-- an exclusive lock of a file is held, under this grant
+pub record HasExclusive (s : ClientSession) (ino : ℕ) (g : GrantNo) : Type 0 where
+  pub lock : HeldLock
+  pub is : locks.lock_of s.locks ino ≡ Some lock
+  pub under : lock.g ≡ g
+  pub exclusive : lock.mode ≡ modes.X
+
+-- a lock of a file is held, under this grant
+abbrev pub HasLockUnder : LockCache → ℕ → GrantNo → Type 0
+HasLockUnder c ino g = (l : HeldLock) × (locks.lock_of c ino ≡ Some l) × (l.g ≡ g)
+
+-- What a session may ask of a server while a file is being cut: extents under the grant of a lock that it holds; to cut that file; and to remove it, where a
+-- grant is named under which it holds the file alone.
+abbrev pub MayAsk : ClientSession → Option ℕ → Body → Type 0
+MayAsk s cutting bodies.KeepAlive = Unit {0}
+MayAsk s cutting (bodies.Reassert rows) = Unit {0}
+MayAsk s cutting (bodies.Released ino g to) = Unit {0}
+MayAsk s cutting (bodies.Acquire ino mode) = Unit {0}
+MayAsk s cutting (bodies.Map ino g p) = HasLockUnder s.locks ino g
+MayAsk s cutting (bodies.Allocate ino g p count) = HasLockUnder s.locks ino g
+MayAsk s cutting (bodies.Cut ino g from) = cutting ≡ Some ino
+MayAsk s cutting (bodies.Name (ops.Remove dir name g)) = 1 ≤ g.0 → (ino : ℕ) × (cutting ≡ Some ino) × HasExclusive s ino g
+MayAsk s cutting (bodies.Name op) = Unit {0}
+MayAsk s cutting body = ⊥
+
+-- A new request: none is outstanding, it is a reassertion where one is due, and it may be asked.
+pub record IsAsked (s : ClientSession) (cutting : Option ℕ) (body : Body) : Type 0 where
+  pub free : s.requests.asked ≡ None
+  pub due : reasserts body ≡ s.due
+  pub may : MayAsk s cutting body
 
 -- nothing is known of where pages of this file lie
 abbrev pub NothingKnown : List KnownExtent → ℕ → Type 0
@@ -80,9 +100,9 @@ pub data SessionChange (st : Store) : ClientSession → ClientSession → Type 0
   -- the outstanding request ends
   EndsRequest : (s : ClientSession) (stamp : Stamp) → SessionChange st s (replies.ended_by stamp s)
   -- the server's epoch is a newer one
-  NewEpoch : (s : ClientSession) (epoch : Epoch) → SessionChange st s (replies.in_epoch epoch s)
+  NewEpoch : (s : ClientSession) (epoch : Epoch) → s.epoch.0 < epoch.0 → SessionChange st s (replies.in_epoch epoch s)
   -- a new request is asked
-  AsksNew : (s r : ClientSession) (now : Stamp) (body : Body) (cutting : Option ℕ) → AsksNothing st.extents s r → CutsForgotten st body cutting → IsAsked body →
+  AsksNew : (s r : ClientSession) (now : Stamp) (body : Body) (cutting : Option ℕ) → AsksNothing st.extents s r → CutsForgotten st body cutting → IsAsked r cutting body →
       SessionChange st s (passes.asking_session r now body cutting)
   -- the outstanding request is asked again
   AsksAgain : (s : ClientSession) (now : Stamp) (q : Request) → s.requests.asked ≡ Some q → SessionChange st s (passes.again_session s now q)
