@@ -1,3 +1,4 @@
+pub mod Clients
 pub mod Cuts
 pub mod Replies
 pub mod Rules

@@ -1,19 +1,28 @@
 -- Where a session keeps a reply of extents after a change of the sessions, it was there before.
 use Rattle.std.proofs.Common.{◌≡◌, ℕ, ◌⊎◌, Bool, true, false, List, ◌==◌, refl, sym, ap, ◌∙◌, subst, inl, inr, if◌then◌else◌}
-use Rattle.std.specs.Prelude.{Option, Some, None, nat_lt, option_map}
+use Rattle.std.specs.Prelude.{Option, Some, None, Result as Res, Ok, Err, find, nat_lt, option_map}
 use Rattle.std.proofs.lemmas.Bool.{eq-eqb, eqb-true}
 use Rattle.st_base.specs.declared.ids.ClientId.{ClientId}
+use Rattle.st_base.specs.declared.ids.GrantNo.{GrantNo}
 use Rattle.st_base.specs.declared.ids.Life.{Life}
+use Rattle.st_base.specs.declared.ids.Stamp.{Stamp}
+use Rattle.st_base.specs.declared.mode.Mode.{Mode}
 use Rattle.st_base.specs.declared.rows.ExtentRow.{ExtentRow}
 use Rattle.st_messages.specs.declared.message.Body.{Body}
 use Rattle.st_messages.specs.declared.message.Body.TheVariants as bodies
+use Rattle.st_rules.specs.declared.authority.AcceptRefusal.{AcceptRefusal}
+use Rattle.st_rules.specs.declared.locks.InstallRefusal.{InstallRefusal}
 use Rattle.st_rules.specs.declared.sessions.Session.{Session}
 use Rattle.st_rules.specs.declared.sessions.SessionState.{SessionState}
 use Rattle.st_rules.specs.declared.sessions.SessionState.TheVariants as states
+use Rattle.st_rules.specs.Grace as grace
+use Rattle.st_rules.specs.Locks as locks
+use Rattle.st_rules.specs.Locks.{Locks}
 use Rattle.st_rules.specs.Sessions as sessions
 use Rattle.st_lemmas.proofs.Lookups.{some_is}
 use Rattle.st_lemmas.proofs.Puts.{find_put_by, find_put_other}
 use Rattle.st_lemmas.proofs.Tables.{find_map, found_at}
+use Rattle.st_laws_requests.proofs.Clients.{end_client, keep_client}
 use Rattle.st_laws_extents.specs.ExtentReplies.Steps.{KeptRows}
 use Rattle.st_laws_steps.proofs.Server.Taking.{if_either}
 
@@ -71,14 +80,6 @@ from_hello t c life rows = go (sessions.session_of t c)
         (if_either K (nat_lt life.0 x.life.0) _ _ (from_same t) (if_either K (life.0 == x.life.0) _ _ (from_same t) (if_either K rows _ _ (from_same t) new)))
         (if_either K (sessions.is_past life x) _ _ (from_same t) new)
 
-end_client : (c : ClientId) (x : Session) → (sessions.end_of c x).client ≡ x.client
-unfolding sessions.ended
-end_client c x = at (sessions.is_session_of c x)
-  where
-    at : (z : Bool) → (if z then sessions.ended x else x).client ≡ x.client
-    at true = refl
-    at false = refl
-
 pub from_ended : (t : sessions.Sessions) (c : ClientId) → From t (sessions.end t c)
 unfolding sessions.end sessions.ended
 from_ended t c d y e number ino rows k = go (sessions.session_of t d) refl (sym (find_map (sessions.is_session_of d) (sessions.end_of c) (λ x. ap (λ (z : ClientId). z.0 == d.0) (end_client c x)) t.rows) ∙ e)
@@ -106,14 +107,6 @@ pub record IsStored (t : sessions.Sessions) (c d : ClientId) (life number : ℕ)
   pub of_life : session.life.0 ≡ life
   pub under : number ≡ n
   pub body : b ≡ bodies.Extents ino rows
-
-keep_client : (c : ClientId) (number : ℕ) (b : Body) (x : Session) → (sessions.keep_of c number b x).client ≡ x.client
-unfolding sessions.keep_reply
-keep_client c number b x = go (sessions.is_session_of c x)
-  where
-    go : (z : Bool) → (if z then sessions.keep_reply number b x else x).client ≡ x.client
-    go true = refl
-    go false = refl
 
 pub stored_rows : (t : sessions.Sessions) (c : ClientId) (number : ℕ) (b : Body) (d : ClientId) (life n ino : ℕ) (rows : List ExtentRow) →
     KeptRows (sessions.store t c number b) d life n ino rows → KeptRows t d life n ino rows ⊎ IsStored t c d life number b n ino rows
@@ -148,3 +141,24 @@ stored_rows t c number b d life n ino rows k = go (sessions.session_of t d) refl
     go : (o : Option Session) → sessions.session_of t d ≡ o → option_map (sessions.keep_of c number b) o ≡ Some k.session → Goal
     go None e f = no_some k.session f
     go (Some x) e f = at x e (sessions.is_session_of c x) refl f
+
+-- A reassertion that is accepted begins a session.
+abbrev pub AcceptedIs : ClientId → Life → sessions.Sessions → Res grace.Accepted AcceptRefusal → Type 0
+AcceptedIs c life t (Ok a) = a.sessions ≡ sessions.reasserted t c life
+AcceptedIs c life t (Err r) = Unit {0}
+
+pub accepts : (g : Option grace.Grace) (now : Stamp) (c : ClientId) (life : Life) (rows : List (ℕ × GrantNo × Mode)) (l : Locks) (t : sessions.Sessions) → AcceptedIs c life t (grace.accept g now c life rows l t)
+unfolding grace.accept grace.accept_rows grace.accept_earlier grace.accept_own grace.accept_installed grace.accepted
+accepts g now c life rows l t = if_either (AcceptedIs c life t) (grace.is_on g now) _ _ (earlier (find (grace.is_new_grant l) rows)) tt
+  where
+    installed : (r : Res Locks InstallRefusal) → AcceptedIs c life t (grace.accept_installed t c life r)
+    installed (Ok m) = refl
+    installed (Err r) = tt
+
+    own : (x : Option ℕ) → AcceptedIs c life t (grace.accept_own l t c life rows x)
+    own None = installed (locks.install l c life rows)
+    own (Some ino) = tt
+
+    earlier : (x : Option (ℕ × GrantNo × Mode)) → AcceptedIs c life t (grace.accept_earlier l t c life rows x)
+    earlier None = own (grace.own_older l c life)
+    earlier (Some r) = tt

@@ -14,6 +14,7 @@ use Rattle.st_rules.specs.Server.{ServerState, Turn, turn, steal_at, steal_from,
 use Rattle.st_lemmas.proofs.Lookups.{some_is}
 use Rattle.st_lemmas.proofs.Tables.{and_true, find_gone, find_kept, find_map}
 use Rattle.st_laws_extents.proofs.ExtentReplies.Sessions.{clash, no_some}
+use Rattle.st_laws_requests.proofs.Clients.{end_client}
 
 -- What the thefts at the beginning of a step leave: each session that lives and each row was there before.
 pub record From (x : ServerState) (t : Turn) : Type 0 where
@@ -22,14 +23,6 @@ pub record From (x : ServerState) (t : Turn) : Type 0 where
   pub stable : t.state.stable.extents ≡ x.stable.extents
   pub sessions : (c : ClientId) (y : Session) → sessions.session_of t.state.sessions c ≡ Some y → sessions.is_live y ≡ true → sessions.session_of x.sessions c ≡ Some y
   pub rows : (c : ClientId) (i : ℕ) (r : LockRow) → locks.row_of t.state.locks c i ≡ Some r → locks.row_of x.locks c i ≡ Some r
-
-end_client : (c : ClientId) (x : Session) → (sessions.end_of c x).client ≡ x.client
-unfolding sessions.ended
-end_client c x = at (sessions.is_session_of c x)
-  where
-    at : (z : Bool) → (if z then sessions.ended x else x).client ≡ x.client
-    at true = refl
-    at false = refl
 
 ended_from : (t : sessions.Sessions) (c d : ClientId) (y : Session) → sessions.session_of (sessions.end t c) d ≡ Some y → sessions.is_live y ≡ true → sessions.session_of t d ≡ Some y
 unfolding sessions.end sessions.ended

@@ -20,7 +20,6 @@ use Rattle.st_rules.specs.declared.input.ServerInput.{ServerInput}
 use Rattle.st_rules.specs.declared.input.ServerInput.TheVariants.{Tick, Control}
 use Rattle.st_rules.specs.declared.authority.AcceptRefusal.{AcceptRefusal}
 use Rattle.st_rules.specs.declared.authority.AcceptRefusal.TheVariants as refusals
-use Rattle.st_rules.specs.declared.locks.InstallRefusal.{InstallRefusal}
 use Rattle.st_rules.specs.declared.sessions.Hello.{Hello}
 use Rattle.st_rules.specs.declared.sessions.Hello.TheVariants as hellos
 use Rattle.st_rules.specs.declared.sessions.Session.{Session}
@@ -31,7 +30,6 @@ use Rattle.st_rules.specs.Authority as authority
 use Rattle.st_rules.specs.Extents.{Extents}
 use Rattle.st_rules.specs.Grace as grace
 use Rattle.st_rules.specs.Locks as locks
-use Rattle.st_rules.specs.Locks.{Locks}
 use Rattle.st_rules.specs.Sessions as sessions
 use Rattle.st_rules.specs.Server as sv
 use Rattle.st_rules.specs.Server.{ServerState, Turn, Replied, turn, with_locks, with_sessions, sender, life_in, note, reply, say, tell, steal_at, steal_from, steal, steal_each, thefts, suspect_client, greet_as, greet_by, greet, refuse_in_grace, hello, demand_seen, see_demand, refuse_epoch, reassert_by, reassert_new, reassert_again, reassert, rule, keep_and_reply, keep, serve, request_by, request, of_epoch, by_body, refuse_suspect, by_suspicion, receive_from, receive, suspect_unless, suspect_each, suspecting, suspecting_on, tell_granted, grant_by, grant_waiting, granting, tell_demanded, demand_by, demanding}
@@ -41,7 +39,7 @@ use Rattle.st_laws_steps.proofs.Server.Taking.{found_for}
 use Rattle.st_laws_extents.specs.ExtentReplies.Steps.{KeptRows}
 use Rattle.st_laws_extents.proofs.ExtentReplies.Rule.{Ruled, ruled}
 use Rattle.st_laws_steps.proofs.Server.Taking.{again_state, if_cases, if_either}
-use Rattle.st_laws_extents.proofs.ExtentReplies.Sessions.{From, IsStored, from_ended, from_hello, from_reasserted, from_rows, stored_rows}
+use Rattle.st_laws_extents.proofs.ExtentReplies.Sessions.{AcceptedIs, From, IsStored, accepts, from_ended, from_hello, from_reasserted, from_rows, stored_rows}
 
 -- a fact of a reply of extents: to whom, of which life and number, and its file and rows
 abbrev pub Fact : Type 1
@@ -143,27 +141,6 @@ module _ (Good : Fact) (x : Extents) where
   unfolding reassert_again
   o_again t h (takes.Again b) q o = o_reply t h b (again t h b q o) o
   o_again t h y q o = o
-
-  -- what is accepted
-  abbrev AcceptedIs : ClientId → Life → sessions.Sessions → Res grace.Accepted AcceptRefusal → Type 0
-  AcceptedIs c life s (Ok a) = a.sessions ≡ sessions.reasserted s c life
-  AcceptedIs c life s (Err r) = Unit {0}
-
-  accepts : (g : Option grace.Grace) (now : Stamp) (c : ClientId) (life : Life) (rows : List (ℕ × GrantNo × Mode)) (l : Locks) (s : sessions.Sessions) → AcceptedIs c life s (grace.accept g now c life rows l s)
-  unfolding grace.accept grace.accept_rows grace.accept_earlier grace.accept_own grace.accept_installed grace.accepted
-  accepts g now c life rows l s = if_either (AcceptedIs c life s) (grace.is_on g now) _ _ (earlier (Rattle.std.specs.Prelude.find (grace.is_new_grant l) rows)) tt
-    where
-      installed : (r : Res Locks InstallRefusal) → AcceptedIs c life s (grace.accept_installed s c life r)
-      installed (Ok m) = refl
-      installed (Err r) = tt
-
-      own : (y : Option ℕ) → AcceptedIs c life s (grace.accept_own l s c life rows y)
-      own None = installed (locks.install l c life rows)
-      own (Some ino) = tt
-
-      earlier : (y : Option (ℕ × GrantNo × Mode)) → AcceptedIs c life s (grace.accept_earlier l s c life rows y)
-      earlier None = own (grace.own_older l c life)
-      earlier (Some r) = tt
 
   o_reassert_by : (t : Turn) (h : Header) (r : Res grace.Accepted AcceptRefusal) → AcceptedIs (sender h) (life_in h) t.state.sessions r → O t → O (reassert_by t h r)
   unfolding reassert_by

@@ -30,7 +30,6 @@ use Rattle.st_rules.specs.declared.authority.AcceptRefusal.{AcceptRefusal}
 use Rattle.st_rules.specs.declared.authority.AcceptRefusal.TheVariants as refusals
 use Rattle.st_rules.specs.declared.extents.AllocateRefusal.TheVariants as wants
 use Rattle.st_rules.specs.declared.locks.AcquireRefusal.{AcquireRefusal}
-use Rattle.st_rules.specs.declared.locks.InstallRefusal.{InstallRefusal}
 use Rattle.st_rules.specs.declared.names.EntryRefusal.{EntryRefusal}
 use Rattle.st_rules.specs.declared.sessions.Hello.{Hello}
 use Rattle.st_rules.specs.declared.sessions.Hello.TheVariants as hellos
@@ -42,7 +41,6 @@ use Rattle.st_rules.specs.declared.sessions.Taken.TheVariants as takes
 use Rattle.st_rules.specs.Extents as extents
 use Rattle.st_rules.specs.Names as names
 use Rattle.st_rules.specs.Locks as locks
-use Rattle.st_rules.specs.Locks.{Locks}
 use Rattle.st_rules.specs.Sessions as sessions
 use Rattle.st_rules.specs.Authority as authority
 use Rattle.st_rules.specs.Grace as grace
@@ -58,6 +56,8 @@ use Rattle.st_rules.specs.declared.extents.Extent.{Extent}
 use Rattle.st_rules.specs.Extents.{Extents}
 use Rattle.st_rules.specs.Keys.{same_file, same_page}
 use Rattle.st_laws_reads.specs.Copies.Copies.{file_at}
+use Rattle.st_laws_requests.proofs.Clients.{client_same, end_client, keep_client}
+use Rattle.st_laws_extents.proofs.ExtentReplies.Sessions.{AcceptedIs, accepts}
 use Rattle.st_laws_extents.specs.Known.Told.{AllKept, RepliesTellExtents, ReplyFact, RowsRight, RowRight, Says, ToldBy}
 use Rattle.st_laws_steps.proofs.Server.Taking.{if_either, if_cases, clash, Found, again_state, found_for}
 
@@ -77,9 +77,6 @@ rows_of x f s ino e (p ∷ ps) r i = go (extents.extent_of x f p) refl i (rows_o
           at = ap (λ (z : ExtentRow). z.at) (sym j);
           birth = ap (λ (z : ExtentRow). z.birth) (sym j);
         }
-
-client_same : (c d : ClientId) → (c.0 == d.0) ≡ true → c ≡ d
-client_same c d e = ap (λ n. record { 0 = n }) (eqb-true c.0 d.0 e)
 
 no_reply : {A : Type 0} (last : ℕ) (n ino : ℕ) (rows : List ExtentRow) → states.Live last None ≡ states.Live n (Some (bd.Extents ino rows)) → A
 no_reply last n ino rows e = cc
@@ -134,15 +131,8 @@ module _ (s : ServerId) (e : Epoch) (C : ReplyFact) where
 
   kept_ended : (t : sessions.Sessions) (c : ClientId) → AllKept C t → AllKept C (sessions.end t c)
   unfolding sessions.end sessions.ended Keeps
-  kept_ended t c = kept_map t (sessions.end_of c) client_is (λ d x q k. go x (sessions.is_session_of c x) k)
+  kept_ended t c = kept_map t (sessions.end_of c) (end_client c) (λ d x q k. go x (sessions.is_session_of c x) k)
     where
-      client_is : (x : Session) → (sessions.end_of c x).client ≡ x.client
-      client_is x = at (sessions.is_session_of c x)
-        where
-          at : (z : Bool) → (if z then sessions.ended x else x).client ≡ x.client
-          at true = refl
-          at false = refl
-
       gone : {A : Type 0} (n ino : ℕ) (rows : List ExtentRow) → states.Ended ≡ states.Live n (Some (bd.Extents ino rows)) → A
       gone n ino rows q = cc q
 
@@ -152,15 +142,8 @@ module _ (s : ServerId) (e : Epoch) (C : ReplyFact) where
 
   kept_stored : (t : sessions.Sessions) (c : ClientId) (number : ℕ) (b : Body) → ((x : Session) → sessions.session_of t c ≡ Some x → (ino : ℕ) (rows : List ExtentRow) → b ≡ bd.Extents ino rows → C c.0 x.life.0 number ino rows) → AllKept C t → AllKept C (sessions.store t c number b)
   unfolding sessions.store sessions.keep_reply Keeps
-  kept_stored t c number b w = kept_map t (sessions.keep_of c number b) client_is (λ d x q k. go d x q (sessions.is_session_of c x) refl k)
+  kept_stored t c number b w = kept_map t (sessions.keep_of c number b) (keep_client c number b) (λ d x q k. go d x q (sessions.is_session_of c x) refl k)
     where
-      client_is : (x : Session) → (sessions.keep_of c number b x).client ≡ x.client
-      client_is x = at (sessions.is_session_of c x)
-        where
-          at : (z : Bool) → (if z then sessions.keep_reply number b x else x).client ≡ x.client
-          at true = refl
-          at false = refl
-
       stored : (x : SessionState) (n ino : ℕ) (rows : List ExtentRow) → sessions.kept_state number b x ≡ states.Live n (Some (bd.Extents ino rows)) → (number ≡ n) × (b ≡ bd.Extents ino rows)
       stored (states.Live last r) n ino rows q = (cc q, cc q)
       stored states.Ended n ino rows q = cc q
@@ -258,27 +241,6 @@ module _ (s : ServerId) (e : Epoch) (C : ReplyFact) where
   unfolding reassert_again
   o_reassert_again t h (takes.Again b) q o = o_reply t h b (again_kept t h b q o) o
   o_reassert_again t h x q o = o
-
-  -- what is accepted
-  abbrev AcceptedIs : ClientId → Life → sessions.Sessions → Res grace.Accepted AcceptRefusal → Type 0
-  AcceptedIs c life t (Ok a) = a.sessions ≡ sessions.reasserted t c life
-  AcceptedIs c life t (Err r) = Unit {0}
-
-  accepts : (g : Option grace.Grace) (now : Stamp) (c : ClientId) (life : Life) (rows : List (ℕ × GrantNo × Mode)) (l : Locks) (t : sessions.Sessions) → AcceptedIs c life t (grace.accept g now c life rows l t)
-  unfolding grace.accept grace.accept_rows grace.accept_earlier grace.accept_own grace.accept_installed grace.accepted
-  accepts g now c life rows l t = if_either (AcceptedIs c life t) (grace.is_on g now) _ _ (earlier (find (grace.is_new_grant l) rows)) tt
-    where
-      installed : (r : Res Locks InstallRefusal) → AcceptedIs c life t (grace.accept_installed t c life r)
-      installed (Ok m) = refl
-      installed (Err r) = tt
-
-      own : (x : Option ℕ) → AcceptedIs c life t (grace.accept_own l t c life rows x)
-      own None = installed (locks.install l c life rows)
-      own (Some ino) = tt
-
-      earlier : (x : Option (ℕ × GrantNo × Mode)) → AcceptedIs c life t (grace.accept_earlier l t c life rows x)
-      earlier None = own (grace.own_older l c life)
-      earlier (Some r) = tt
 
   o_reassert_by : (t : Turn) (h : Header) (r : Res grace.Accepted AcceptRefusal) → AcceptedIs (sender h) (life_in h) t.state.sessions r → Fine t → Fine (reassert_by t h r)
   unfolding reassert_by sessions.reasserted

@@ -46,15 +46,13 @@ use Rattle.st_lemmas.proofs.Tables.{and_true, find_map, found_at, has_append}
 use Rattle.st_laws_leases.proofs.Dates.Known.{has_left, has_right}
 use Rattle.st_laws_requests.specs.Cuts.Cuts.{KeptState}
 use Rattle.st_laws_steps.proofs.Server.Taking.{if_either, if_cases, clash, again_state, found_for}
+use Rattle.st_laws_requests.proofs.Clients.{client_same, end_client, keep_client}
 use Rattle.st_laws_requests.proofs.Rules as rules
 
 -- Sessions, with a fact of each acknowledgement that is kept.
 module _ (A : ClientId → ℕ → ℕ → Type 0) where
   abbrev pub Keeps : sessions.Sessions → Type 0
   Keeps t = (c : ClientId) (x : Session) → sessions.session_of t c ≡ Some x → KeptState (A c x.life.0) x.state
-
-  client_same : (c d : ClientId) → (c.0 == d.0) ≡ true → c ≡ d
-  client_same c d e = ap (λ n. record { 0 = n }) (eqb-true c.0 d.0 e)
 
   kept_new : (t : sessions.Sessions) (x : Session) → ((B : ℕ → Type 0) → KeptState B x.state) → Keeps t → Keeps (sessions.with_session x t)
   kept_new t x k o d y h = go (sessions.is_session_of d x) refl
@@ -98,14 +96,6 @@ module _ (A : ClientId → ℕ → ℕ → Type 0) where
       go None e q = cc
       go (Some x) e q = subst (λ (z : Session). KeptState (A d z.life.0) z.state) (some_is q) (k d x e)
 
-  keep_client : (c : ClientId) (number : ℕ) (b : Body) (x : Session) → (sessions.keep_of c number b x).client ≡ x.client
-  unfolding sessions.keep_reply
-  keep_client c number b x = go (sessions.is_session_of c x)
-    where
-      go : (z : Bool) → (if z then sessions.keep_reply number b x else x).client ≡ x.client
-      go true = refl
-      go false = refl
-
   kept_stored : (t : sessions.Sessions) (c : ClientId) (number : ℕ) (b : Body) → (b ≡ bd.Ack → (x : Session) → sessions.session_of t c ≡ Some x → A c x.life.0 number) → Keeps t → Keeps (sessions.store t c number b)
   unfolding sessions.store sessions.keep_reply
   kept_stored t c number b w o = kept_map t (sessions.keep_of c number b) (keep_client c number b) (λ d x e. go d x e (sessions.is_session_of c x) refl)
@@ -123,14 +113,6 @@ module _ (A : ClientId → ℕ → ℕ → Type 0) where
           let same = client_same d c (eq-eqb d.0 c.0 (sym (eqb-true x.client.0 d.0 (found_at (sessions.is_session_of d) t.rows x e).0) ∙ eqb-true x.client.0 c.0 q)) in
           kept (A d x.life.0) x.state (λ f. subst (λ y. A y x.life.0 number) (sym same) (w f x (subst (λ y. sessions.session_of t y ≡ Some x) same e)))
       go d x e false q = o d x e
-
-  end_client : (c : ClientId) (x : Session) → (sessions.end_of c x).client ≡ x.client
-  unfolding sessions.ended
-  end_client c x = go (sessions.is_session_of c x)
-    where
-      go : (z : Bool) → (if z then sessions.ended x else x).client ≡ x.client
-      go true = refl
-      go false = refl
 
   kept_ended : (t : sessions.Sessions) (c : ClientId) → Keeps t → Keeps (sessions.end t c)
   unfolding sessions.end sessions.ended

@@ -45,6 +45,7 @@ use Rattle.st_lemmas.proofs.Puts.{find_put_by, find_put_other}
 use Rattle.st_lemmas.proofs.Tables.{and_both, and_true, find_map, found_at, has_append, same_or_not}
 use Rattle.st_laws_requests.specs.Replies.Reached.{Ends, FindsNew, InputNew, IsBehind, Reached}
 use Rattle.st_laws_steps.proofs.Server.Taking.{if_either, if_cases, clash, Found, again_state, found_for, FreshState, fresh_state}
+use Rattle.st_laws_requests.proofs.Clients.{client_same, end_client, keep_client}
 use Rattle.st_laws_requests.proofs.Rules as rules
 
 -- Sessions that go on.
@@ -64,9 +65,6 @@ past_over a b x = go (nat_lt b a) refl
     go : (z : Bool) → nat_lt b a ≡ z → b < a
     go true e = ltb-true b a e
     go false e = let p = ltb-false b a e in absurd (clash (le-leb a b p) x)
-
-client_same : (c d : ClientId) → (c.0 == d.0) ≡ true → c ≡ d
-client_same c d e = ap (λ n. record { 0 = n }) (eqb-true c.0 d.0 e)
 
 -- a session of a higher life than its client's
 on_new : (t : sessions.Sessions) (x : Session) → ((y : Session) → sessions.session_of t x.client ≡ Some y → y.life.0 < x.life.0) → GoesOn t (sessions.with_session x t)
@@ -132,14 +130,6 @@ on_map t f same k d life n h = subst (λ o. IsBehind o life n) (sym (find_map (s
     go None e b = absurd b
     go (Some x) e b = k d x e life n b
 
-keep_client : (c : ClientId) (number : ℕ) (b : Body) (x : Session) → (sessions.keep_of c number b x).client ≡ x.client
-unfolding sessions.keep_reply
-keep_client c number b x = go (sessions.is_session_of c x)
-  where
-    go : (z : Bool) → (if z then sessions.keep_reply number b x else x).client ≡ x.client
-    go true = refl
-    go false = refl
-
 -- the next number is kept
 on_stored : (t : sessions.Sessions) (c : ClientId) (number : ℕ) (b : Body) → ((x : Session) → sessions.session_of t c ≡ Some x → FreshState number x.state) → GoesOn t (sessions.store t c number b)
 unfolding sessions.store sessions.keep_reply
@@ -181,13 +171,6 @@ on_ended : (t : sessions.Sessions) (c : ClientId) → GoesOn t (sessions.end t c
 unfolding sessions.end sessions.ended
 on_ended t c = on_map t (sessions.end_of c) (end_client c) (λ d x e life n h. go x (sessions.is_session_of c x) life n h)
   where
-    end_client : (c : ClientId) (x : Session) → (sessions.end_of c x).client ≡ x.client
-    end_client c x = at (sessions.is_session_of c x)
-      where
-        at : (z : Bool) → (if z then sessions.ended x else x).client ≡ x.client
-        at true = refl
-        at false = refl
-
     go : (x : Session) (z : Bool) (life n : ℕ) → IsBehind (Some x) life n → IsBehind (Some (if z then sessions.ended x else x)) life n
     go x true life n (inl p) = inl p
     go x true life n (inr p) = inr (p.0, tt)
