@@ -41,7 +41,7 @@ use Rattle.st_laws_refine.specs.Server.Edits.{WishInput}
 use Rattle.st_laws_refine.specs.Server.Pair.{terms_of}
 use Rattle.st_laws_refine.proofs.Server.OneRow.{row_found}
 use Rattle.st_laws_leases.specs.Sides.World.{AllStand}
-use Rattle.st_laws_leases.proofs.Sides.Beginning.{numbered_map}
+use Rattle.st_laws_pages.proofs.Lives.Fresh.{fresh_is}
 use Rattle.st_laws_pages.proofs.Lives.Fresh.{length_map, numbers_length}
 use Rattle.st_laws_waits.specs.Bounds.{AllBlocked, DemandInTime, InTime, SinceInTime}
 use Rattle.st_laws_waits.specs.Chase.{ChasedBy, ChasedDemand, ChasedRow, ChasedSince, IsFirst, Others, Repeated, RepeatedRow, answers_for}
@@ -598,7 +598,7 @@ same_number {A} {B} f g count i x e = at (slice_get (numbers 1 count) i) refl (s
     at None q e = cc
     at (Some m) q e =
         get_map g (numbers 1 count) i ∙ ap (option_map g) q
-        ∙ ap (λ n. Some (g n)) (numbered_map (λ n. n) count (suc i) m (get_map (λ n. n) (numbers 1 count) i ∙ ap (option_map (λ n. n)) q))
+        ∙ ap (λ n. Some (g n)) (fresh_is (λ n. n) count (suc i) m (get_map (λ n. n) (numbers 1 count) i ∙ ap (option_map (λ n. n)) q))
 
 fresh_clock : (k : base.Config) (clients servers disks blocks form s : ℕ) (node : ServerNode) →
     node_of (fresh_world k clients servers disks blocks form) (server s) ≡ Some node →

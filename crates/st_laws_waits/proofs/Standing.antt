@@ -41,7 +41,8 @@ use Rattle.st_laws_refine.specs.Server.View.{GraceIs, RowOk, ServesLife, Sound}
 use Rattle.st_laws_refine.proofs.Server.Delivery.{sound_of}
 use Rattle.st_laws_refine.proofs.Server.OneRow.{row_found}
 use Rattle.st_laws_leases.specs.Sides.World.{AllStand, ServerStands}
-use Rattle.st_laws_leases.proofs.Sides.Beginning.{begun, numbered_map}
+use Rattle.st_laws_leases.proofs.Sides.Beginning.{begun}
+use Rattle.st_laws_pages.proofs.Lives.Fresh.{fresh_is}
 use Rattle.st_laws_leases.proofs.Sides.Everywhere.{stays}
 use Rattle.st_laws_leases.proofs.Sides.Runs.{full, throughout_events}
 use Rattle.st_laws_waits.specs.Bounds.{RowsHaveSessions}
@@ -311,7 +312,7 @@ module _ (k : base.Config) (count : ℕ) (s : ServerId) where
 pub node_is : (k : base.Config) (clients servers disks blocks form : ℕ) (s : ServerId) (node : ServerNode) →
     node_of (fresh_world k clients servers disks blocks form) s ≡ Some node → node ≡ node_at_start k servers disks blocks s.0
 unfolding fresh_world
-node_is k clients servers disks blocks form s node e = numbered_map (node_at_start k servers disks blocks) servers s.0 node e
+node_is k clients servers disks blocks form s node e = fresh_is (node_at_start k servers disks blocks) servers s.0 node e
 
 start_settings : (k : base.Config) (servers disks blocks n : ℕ) → (node_at_start k servers disks blocks n).state.config ≡ k
 unfolding sv.fresh_server

@@ -28,7 +28,7 @@ use Rattle.st_lemmas.specs.Lists.{Has}
 use Rattle.st_lemmas.proofs.Lookups.{some_is}
 use Rattle.st_lemmas.proofs.Numbers.{length_more, numbered_below, numbered_other, numbered_own}
 use Rattle.st_lemmas.proofs.Tables.{has_map, same_or_not}
-use Rattle.st_laws_pages.proofs.Causes.Law.{site_is}
+use Rattle.st_laws_pages.proofs.Disks.Whole.{site_is}
 use Rattle.st_laws_bounds.specs.Counters.Counts.{AsksLow, FewAt}
 use Rattle.st_laws_bounds.proofs.Counters.Weights.{asks_more, of_change, of_command, of_loss, of_message, weigh}
 use Rattle.st_laws_bounds.proofs.Counters.Stepping.{AllLow, LowAt, step_low}

@@ -1,5 +1,5 @@
 -- Servers' counters are no further than events: behind every event.
-use Rattle.std.proofs.Common.{◌≡◌, ◌≢◌, ◌⊎◌, ℕ, zero, suc, ◌+◌, ◌*◌, ◌≤◌, Bool, true, false, List, [], ◌∷◌, ◌++◌, Some, refl, sym, ap, ◌∙◌, subst, inl, inr, arith, leb-true, if◌then◌else◌}
+use Rattle.std.proofs.Common.{◌≡◌, ◌≢◌, ◌⊎◌, ℕ, zero, suc, ◌+◌, ◌*◌, ◌≤◌, true, List, [], ◌∷◌, Some, refl, sym, ap, ◌∙◌, subst, inl, inr, arith, leb-true}
 use Rattle.std.specs.Prelude.{length, map, filter, flat_map, nat_le}
 use Rattle.st_base.specs.declared.config.Config.{Config}
 use Rattle.st_base.specs.declared.disk.BlockAt.{BlockAt}
@@ -21,8 +21,9 @@ use Rattle.st_lemmas.proofs.Numbers.{numbered_below, numbered_has, numbered_othe
 use Rattle.st_lemmas.proofs.Tables.{and_true, has_map, same_or_not}
 use Rattle.st_laws_bounds.proofs.Counters.Events.{Cases, ClientSteps, ServerSteps}
 use Rattle.st_laws_bounds.proofs.Counters.Clients.{flush_rows, served_all}
-use Rattle.st_laws_bounds.proofs.Counters.Stables.{step_grows}
+use Rattle.st_laws_bounds.proofs.Counters.Stables.{fewer, step_grows}
 use Rattle.st_laws_bounds.proofs.Counters.Tallies.{told_all}
+use Rattle.st_laws_bounds.proofs.Counters.Reading.{length_both, same_many}
 
 -- what stands of a server where n events were
 pub record NodeLow (n : ℕ) (node : ServerNode) : Type 0 where
@@ -90,22 +91,6 @@ how_many : (a n : ℕ) → length (numbers a n) ≡ n
 unfolding numbers
 how_many a zero = refl
 how_many a (suc n) = ap suc (how_many (a + 1) n)
-
-same_many : {A B : Type 0} (f : A → B) (xs : List A) → length (map f xs) ≡ length xs
-same_many f [] = refl
-same_many f (x ∷ xs) = ap suc (same_many f xs)
-
-pub fewer : {A : Type 0} (p : A → Bool) (xs : List A) → length (filter p xs) ≤ length xs
-fewer p [] = omega arith
-fewer {A} p (x ∷ xs) = go (p x) (fewer p xs)
-  where
-    go : (b : Bool) → length (filter p xs) ≤ length xs → length (if b then x ∷ filter p xs else filter p xs) ≤ length (x ∷ xs)
-    go true h = omega arith
-    go false h = omega arith
-
-length_both : {A : Type 0} (xs ys : List A) → length (xs ++ ys) ≡ length xs + length ys
-length_both [] ys = omega arith
-length_both (x ∷ xs) ys = let z = length_both xs ys in omega (arith, z)
 
 pub flat_many : {A B : Type 0} (f : A → List B) (n : ℕ) → ((x : A) → length (f x) ≤ n) → (xs : List A) → length (flat_map f xs) ≤ n * length xs
 flat_many f n h [] = omega arith

@@ -209,7 +209,7 @@ release_blocks : (f : FileId) (p : PageNo) (x : Extents) → extents.own_blocks 
 unfolding extents.release_from extents.own_blocks
 release_blocks f p x = refl
 
-fewer : {A : Type 0} (p : A → Bool) (xs : List A) → length (filter p xs) ≤ length xs
+pub fewer : {A : Type 0} (p : A → Bool) (xs : List A) → length (filter p xs) ≤ length xs
 fewer p [] = omega arith
 fewer {A} p (x ∷ xs) = go (p x) (fewer p xs)
   where

@@ -58,6 +58,7 @@ use Rattle.st_lemmas.proofs.Puts.{has_put}
 use Rattle.st_lemmas.proofs.Tables.{and_true, found_at, has_append, has_filter, has_map}
 use Rattle.st_laws_bounds.proofs.Counters.Weights.{weigh, weigh_both}
 use Rattle.st_laws_bounds.proofs.Counters.Clients.{of_theft}
+use Rattle.st_laws_bounds.proofs.Counters.Reading.{same_many}
 
 -- a client's number
 pub record InRange (n : ℕ) : Type 0 where
@@ -676,10 +677,6 @@ fewer_many p (x ∷ xs) = go (p x) (fewer_many p xs)
     go : (b : Bool) → length (filter p xs) ≤ length xs → length (if b then x ∷ filter p xs else filter p xs) ≤ length (x ∷ xs)
     go true h = omega (arith, h)
     go false h = omega (arith, h)
-
-same_many : {A B : Type 0} (f : A → B) (xs : List A) → length (map f xs) ≡ length xs
-same_many f [] = refl
-same_many f (x ∷ xs) = ap suc (same_many f xs)
 
 -- What stands of a server.
 pub record FewClients (s : ServerState) : Type 0 where

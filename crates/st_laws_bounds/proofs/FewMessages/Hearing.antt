@@ -41,7 +41,7 @@ use Rattle.st_rules.specs.ClientReplies as cr
 use Rattle.st_rules.specs.ClientState as state
 use Rattle.st_rules.specs.ClientState.{ClientSession, Turn, answer_each, send, with_session}
 use Rattle.st_laws_bounds.proofs.Counters.Reading.{same_many}
-use Rattle.st_laws_bounds.proofs.Counters.Servers.{fewer}
+use Rattle.st_laws_bounds.proofs.Counters.Stables.{fewer}
 use Rattle.st_laws_bounds.proofs.Counters.Weights.{of_rise, of_message, weigh, weigh_both}
 use Rattle.st_laws_bounds.proofs.FewMessages.Passing.{C, Costs, c_after, c_answers, c_answers_one, c_if, c_keep, c_none, c_says, c_sends}
 

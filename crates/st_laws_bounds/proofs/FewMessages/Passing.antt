@@ -1,6 +1,6 @@
 -- The passes of a client at a server: at most one command or change for each operation, one command for each dirty page, and two messages.
 -- Commands, changes and losses are counted together, by what raises a counter.
-use Rattle.std.proofs.Common.{◌≡◌, ℕ, ◌+◌, ◌*◌, ◌≤◌, ◌<◌, Bool, true, false, List, [], ◌∷◌, ◌++◌, Option, Some, None, Ok, Err, refl, sym, subst, arith, if◌then◌else◌}
+use Rattle.std.proofs.Common.{◌≡◌, ℕ, ◌+◌, ◌≤◌, Bool, true, false, List, [], ◌∷◌, ◌++◌, Option, Some, None, Ok, Err, refl, sym, subst, arith, if◌then◌else◌}
 use Rattle.std.specs.Prelude.{length, filter, map, not, nat_le}
 use Rattle.std.proofs.lemmas.Bool.{leb-false}
 use Rattle.st_base.specs.declared.ids.FileId.{FileId}
@@ -34,7 +34,8 @@ use Rattle.st_rules.specs.ClientPasses as cp
 use Rattle.st_rules.specs.ClientState as state
 use Rattle.st_rules.specs.ClientState.{ClientSession, Turn, answer_each, is_open_file, keep, send}
 use Rattle.st_laws_bounds.proofs.Counters.Reading.{AsMany, first_many, length_both, same_many}
-use Rattle.st_laws_bounds.proofs.Counters.Servers.{fewer, flat_many}
+use Rattle.st_laws_bounds.proofs.Counters.Servers.{flat_many}
+use Rattle.st_laws_bounds.proofs.Counters.Stables.{fewer}
 use Rattle.st_laws_bounds.proofs.Counters.Weights.{note_rises, of_message, of_rise, weigh, weigh_both}
 use Rattle.st_laws_bounds.proofs.FewMessages.Lengths.{put_few, rising_length}
 

@@ -1,5 +1,5 @@
 -- A step of a server: one wait more at most, and at most sixteen messages for each wait.
-use Rattle.std.proofs.Common.{◌≡◌, ◌⊎◌, ℕ, zero, suc, ◌+◌, ◌*◌, ◌≤◌, ◌==◌, Bool, true, false, List, [], ◌∷◌, ◌++◌, refl, sym, ap, ◌∙◌, subst, arith, if◌then◌else◌, Result, Ok, Err}
+use Rattle.std.proofs.Common.{◌≡◌, ℕ, zero, suc, ◌+◌, ◌*◌, ◌≤◌, ◌==◌, Bool, true, false, List, [], ◌∷◌, ◌++◌, refl, sym, ap, ◌∙◌, subst, arith, if◌then◌else◌, Result, Ok, Err}
 use Rattle.std.specs.Prelude.{not, filter, find, map, length, Option, Some, None}
 use Rattle.std.proofs.lemmas.Bool.{eq-eqb}
 use Rattle.st_base.specs.declared.config.Config.{Config}
@@ -50,7 +50,7 @@ use Rattle.st_lemmas.specs.Lists.{Has}
 use Rattle.st_lemmas.proofs.Keys.{rising_has, rising_rises}
 use Rattle.st_lemmas.proofs.Tables.{and_both, found_at, has_filter, has_map}
 use Rattle.st_laws_bounds.proofs.Counters.Reading.{length_both, same_many}
-use Rattle.st_laws_bounds.proofs.Counters.Servers.{fewer}
+use Rattle.st_laws_bounds.proofs.Counters.Stables.{fewer}
 use Rattle.st_laws_bounds.proofs.Counters.Thefts.{FewClients, FewLocks, InRange, demand_for_few, g_each, g_granting, g_input, stolen_each, unanswered_few, waiter_is}
 use Rattle.st_laws_bounds.proofs.Counters.Weights.{of_message, weigh, weigh_both}
 use Rattle.st_laws_bounds.proofs.FewMessages.Lengths.{few_rising, one_less, rising_length}

@@ -49,6 +49,7 @@ use Rattle.st_rules.specs.declared.locks.LockRow.{LockRow}
 use Rattle.st_rules.specs.Keys.{page_no}
 use Rattle.st_laws_steps.proofs.Server.Taking.{if_either, if_cases}
 use Rattle.st_laws_extents.proofs.ExtentReplies.Thefts.{From, f_thefts}
+use Rattle.st_laws_pages.proofs.LockedCuts.RowWalk.{removed_is}
 
 clash : {A : Type 0} {b : Bool} → b ≡ true → b ≡ false → A
 clash x y = cc
@@ -78,29 +79,6 @@ exclusive_of : (m : Mode) → covers m modes.X ≡ true → m ≡ modes.X
 exclusive_of modes.None z = cc
 exclusive_of modes.S z = cc
 exclusive_of modes.X z = refl
-
--- an entry that is removed is the one that was looked up
-removed_is : (n : names.Names) (dir : ℕ) (name : List ℕ) (ino : ℕ) (d : names.Changed) → names.lookup n dir name ≡ Ok ino → names.remove n dir name ≡ Ok d → d.ino ≡ ino
-unfolding names.lookup names.lookup_at names.remove names.remove_at names.remove_found names.remove_entry names.without
-removed_is n dir name ino d e f = go (names.place_refusal n dir name) e f
-  where
-    number : (x y : ℕ) → ◌≡◌ {A = Res ℕ EntryRefusal} (Ok x) (Ok y) → x ≡ y
-    number x y z = cc
-
-    same : (x y : names.Changed) → ◌≡◌ {A = Res names.Changed EntryRefusal} (Ok x) (Ok y) → x ≡ y
-    same x y z = cc
-
-    entry : (o : Option Rattle.st_rules.specs.declared.names.NameEntry.NameEntry) → names.ino_of o ≡ Ok ino → names.remove_found n dir name o ≡ Ok d → d.ino ≡ ino
-    entry None e f = cc e
-    entry (Some x) e f = full (names.is_full n x) f
-      where
-        full : (b : Bool) → ◌≡◌ {A = Res names.Changed EntryRefusal} (if b then Err Rattle.st_rules.specs.declared.names.EntryRefusal.TheVariants.NotEmpty else Ok (names.without n dir name x)) (Ok d) → d.ino ≡ ino
-        full true z = cc z
-        full false z = ap (λ (y : names.Changed). y.ino) (sym (same (names.without n dir name x) d z)) ∙ number x.ino ino e
-
-    go : (o : Option EntryRefusal) → names.lookup_at n dir name o ≡ Ok ino → names.remove_at n dir name o ≡ Ok d → d.ino ≡ ino
-    go (Some r) e f = cc e
-    go None e f = entry (names.entry_at n dir name) e f
 
 -- The walk: the cuts that the outputs note.
 module _ (C : FileId → PageNo → Type 0) where

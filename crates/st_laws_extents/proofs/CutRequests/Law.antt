@@ -25,7 +25,7 @@ use Rattle.st_lemmas.specs.Lists.{Has}
 use Rattle.st_lemmas.proofs.Steps.{step_happens}
 use Rattle.st_lemmas.proofs.Tables.{has_map}
 use Rattle.st_laws_refine.proofs.Views.Moves.{moves_grow}
-use Rattle.st_laws_pages.proofs.Causes.Law.{site_is}
+use Rattle.st_laws_pages.proofs.Disks.Whole.{site_is}
 use Rattle.st_laws_steps.specs.Lives.Lives.{clock_in}
 use Rattle.st_laws_leases.proofs.Dates.Law as dates
 use Rattle.st_laws_refine.specs.Server.Pair.{terms_of}

@@ -50,7 +50,8 @@ module _ (B : ServerId → ℕ → ℕ → ℕ → Type 0) (G : ServerId → ℕ
   stays_at server life (Some s) h = record { last = h.last; first = h.first; served = h.served; cut = h.cut; remove = λ q e. remove_more (G server) (GivenOrHeld G s server) (λ i g x. inl x) s.cutting q.body (h.remove q e) }
 
   -- a new request
-  ask_new : (E : ServerId → ℕ → GrantNo → Type 0) (server : ServerId) (life : ℕ) (s : ClientSession) (now : Stamp) (b : Body) (cutting : Option ℕ) → IsAsked s cutting b → Of (AsksStand B E) server life (Some s) → AsksBehind B G server life (Some (cp.asking_session s now b cutting))
+  ask_new : (E : ServerId → ℕ → GrantNo → Type 0) (server : ServerId) (life : ℕ) (s : ClientSession) (now : Stamp) (b : Body) (cutting : Option ℕ) →
+      IsAsked s cutting b → Of (AsksStand B E) server life (Some s) → AsksBehind B G server life (Some (cp.asking_session s now b cutting))
   unfolding state.asking
   ask_new E server life s now b cutting i h =
       record {
@@ -68,7 +69,8 @@ module _ (B : ServerId → ℕ → ℕ → ℕ → Type 0) (G : ServerId → ℕ
       }
 
   -- the same request again
-  ask_again : (server : ServerId) (life : ℕ) (s : ClientSession) (now : Stamp) (q : Request) → s.requests.asked ≡ Some q → AsksBehind B G server life (Some s) → AsksBehind B G server life (Some (cp.again_session s now q))
+  ask_again : (server : ServerId) (life : ℕ) (s : ClientSession) (now : Stamp) (q : Request) → s.requests.asked ≡ Some q → AsksBehind B G server life (Some s) →
+      AsksBehind B G server life (Some (cp.again_session s now q))
   ask_again server life s now q a h =
       record {
         last = λ r e. ap (λ (z : Request). z.number + 1) (sym (some_is e)) ∙ h.last q a;
@@ -87,7 +89,8 @@ module _ (B : ServerId → ℕ → ℕ → ℕ → Type 0) (G : ServerId → ℕ
       still ino g (inl x) = inl x
       still ino g (inr x) = inr (record { lock = x.lock; is = x.is; under = x.under; exclusive = x.exclusive })
 
-  follows : (server : ServerId) (life : ℕ) (st : Store) (s u : ClientSession) (c : SessionChange st s u) → FollowsBy OnlyAsks st s u c → AsksBehind B G server life (Some s) → AsksBehind B G server life (Some u)
+  follows : (server : ServerId) (life : ℕ) (st : Store) (s u : ClientSession) (c : SessionChange st s u) → FollowsBy OnlyAsks st s u c →
+      AsksBehind B G server life (Some s) → AsksBehind B G server life (Some u)
   follows server life st s u (Keeps _ _ a) k h = no_keep k.may
   follows server life st s _ (DropsLock _ ino l) k h = absurd k
   follows server life st s _ (IsReasserted _) k h = absurd k

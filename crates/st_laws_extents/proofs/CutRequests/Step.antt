@@ -51,5 +51,6 @@ module _ (B : ServerId → ℕ → ℕ → ℕ → Type 0) (G : ServerId → ℕ
       (each_taken Stand (λ m. HasFact (Tells B m.header m.body)) now (k_take (AsksStand B G)) (λ m u p q. k_hear B G start m.header m.body now u q p) (k_finish (AsksStand B G)) t (cl.take_input t now input) input (taken t now input) told
       (lost (AsksStand B G) (client_turn s []) now h))
     where
-      told : (m : Message) → input ≡ inputs.Control m → (m.header.to == (cl.losses (client_turn s []) now).state.id.0) ≡ true → Each (HasFact (Tells B m.header m.body)) (cl.losses (client_turn s []) now).state.associations
+      told : (m : Message) → input ≡ inputs.Control m → (m.header.to == (cl.losses (client_turn s []) now).state.id.0) ≡ true →
+          Each (HasFact (Tells B m.header m.body)) (cl.losses (client_turn s []) now).state.associations
       told m e q = lost (Tells B m.header m.body) (client_turn s []) now (subst (TellsEach s) e tells (eqb-true _ _ q ∙ ap (λ (c : Rattle.st_base.specs.declared.ids.ClientId.ClientId). c.0) (lose_id (client_turn s []) now)))

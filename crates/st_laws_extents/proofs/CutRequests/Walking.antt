@@ -29,7 +29,8 @@ module _ (F : Fact) where
   k_if t true u v f g = f
   k_if t false u v f g = g
 
-  pub alike : (xs : List KnownExtent) (server : ServerId) (life : ℕ) (s r : ClientSession) → AsksNothing xs s r → Of F server life (Some s) → Of F server life (Some r)
+  pub alike : (xs : List KnownExtent) (server : ServerId) (life : ℕ) (s r : ClientSession) → AsksNothing xs s r → Of F server life (Some s) →
+      Of F server life (Some r)
   alike xs server life s r a h =
       subst (λ x. F server life x.0 r.requests r.cutting r.due) (sym a.epoch)
       (subst (λ x. F server life s.epoch.0 x r.cutting r.due) (sym a.requests)

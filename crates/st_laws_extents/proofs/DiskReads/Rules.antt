@@ -1,5 +1,5 @@
 -- What each change by a rule of a client leaves of outstanding reads; so do changes, one after another.
-use Rattle.std.proofs.Common.{◌≡◌, ℕ, ◌+◌, ◌≤◌, ◌<◌, ◌⊎◌, Bool, true, false, ◌&&◌, ◌==◌, not, List, [], ◌∷◌, ◌++◌, Option, Some, None, refl, sym, ap, ◌∙◌, subst, inl, inr, arith, if◌then◌else◌}
+use Rattle.std.proofs.Common.{◌≡◌, ℕ, ◌+◌, ◌≤◌, ◌<◌, ◌⊎◌, Bool, true, false, ◌&&◌, ◌==◌, not, List, [], ◌∷◌, ◌++◌, Option, Some, None, refl, sym, ap, ◌∙◌, subst, inl, inr, arith}
 use Rattle.std.specs.Prelude.{is_some, map, nat_le}
 use Rattle.std.proofs.lemmas.Bool.{eq-eqb, eqb-true}
 use Rattle.st_base.specs.declared.ids.FileId.{FileId}
@@ -27,13 +27,12 @@ use Rattle.st_rules.specs.ClientPasses as passes
 use Rattle.st_rules.specs.ClientState.{ClientSession, Turn, answer_to, is_serving, note, say, with_lost_rows, with_operations, with_session, with_store}
 use Rattle.st_rules.specs.Keys.{same_page}
 use Rattle.st_lemmas.specs.Lists.{Has}
-use Rattle.st_lemmas.proofs.Contents.{Place_is, find_stays, one_place, other_place}
-use Rattle.st_lemmas.proofs.Puts.{find_put_by, find_put_other}
+use Rattle.st_lemmas.proofs.Contents.{Place_is, find_stays, one_place}
 use Rattle.st_lemmas.proofs.Tables.{and_both, and_true, has_append, has_filter, not_true, some_passes}
 use Rattle.st_laws_steps.specs.Client.Client as client
 use Rattle.st_laws_steps.specs.Client.Client.{ChangesPage, GoesOn, IsBegun, Plain, Unasked, with_greeted}
 use Rattle.st_laws_steps.proofs.Clash.{clash}
-use Rattle.st_laws_steps.proofs.Client.Nexts.{append_assoc, dirty_put, empty_right}
+use Rattle.st_laws_steps.proofs.Client.Nexts.{append_assoc, dirty_put, empty_right, mapped_learn}
 use Rattle.st_laws_extents.specs.DiskReads.OutstandingReads.{ReadsClean, ReadsKept, Unchanged}
 
 abbrev Changes : Stamp → Turn → Turn → Type 0
@@ -124,32 +123,12 @@ after_greets {now} t g = kept now t (with_greeted g t) [] (empty_right t.out) re
 after_tells_lost : {now : Stamp} (t : Turn) (lost : List LostPage) → Change now t (with_lost_rows lost t)
 after_tells_lost {now} t lost = kept now t (with_lost_rows lost t) [] (empty_right t.out) refl refl refl none_changed (λ h. h)
 
-after_begins : {now : Stamp} (t : Turn) (s : ClientSession) → t.here.session ≡ None → now.0 < (lease.end_of t.config s.lease).0 → IsBegun s → Change now t (with_session s t)
+after_begins : {now : Stamp} (t : Turn) (s : ClientSession) → t.here.session ≡ None → now.0 < (lease.end_of t.config s.lease).0 → IsBegun s →
+    Change now t (with_session s t)
 after_begins {now} t s a b c = kept now t (with_session s t) [] (empty_right t.out) refl refl refl none_changed (λ h. h)
 
 after_follows : {now : Stamp} (t : Turn) (s u : ClientSession) → t.here.session ≡ Some s → GoesOn t.here.store s u → Change now t (with_session u t)
 after_follows {now} t s u e g = kept now t (with_session u t) [] (empty_right t.out) refl refl refl none_changed (λ h. h)
-
--- what is known of a page behind one more thing known
-known_put : (e : KnownExtent) (xs : List KnownExtent) (ino : ℕ) (p : PageNo) → (b : Bool) → Place_is e.ino e.page ino p ≡ b → pages.known_of (pages.with_known e xs) ino p ≡ (if b then Some e else pages.known_of xs ino p)
-known_put e xs ino p true q =
-    let h = one_place e.ino e.page ino p q in
-    find_put_by (pages.is_known_of ino p) (pages.is_known_of e.ino e.page) e xs q (λ y z. subst (λ j. Place_is y.ino y.page j e.page ≡ true) (sym h.0) (subst (λ r. Place_is y.ino y.page ino r ≡ true) (sym h.1) z))
-known_put e xs ino p false q = find_put_other (pages.is_known_of ino p) (pages.is_known_of e.ino e.page) e xs q (λ y z. other_place e.ino e.page ino p q y.ino y.page z)
-
-mapped_learn : (e : KnownExtent) (xs : List KnownExtent) (ino : ℕ) (p : PageNo) → (e.mapping ≡ None → pages.known_of xs e.ino e.page ≡ None) → pages.is_mapped xs ino p ≡ true → pages.is_mapped (pages.with_known e xs) ino p ≡ true
-mapped_learn e xs ino p h m = go (Place_is e.ino e.page ino p) refl
-  where
-    none : is_some (pages.mapping_at None) ≡ true → ⊥
-    none z = cc
-
-    at : (o : Option MappedBlock) → e.mapping ≡ o → (e.ino ≡ ino) × (e.page ≡ p) → is_some o ≡ true
-    at (Some m) q w = refl
-    at None q w = absurd (none (ap (λ o. is_some (pages.mapping_at o)) (sym (h q)) ∙ ap (λ j. is_some (pages.mapping_at (pages.known_of xs j e.page))) w.0 ∙ ap (λ r. is_some (pages.mapping_at (pages.known_of xs ino r))) w.1 ∙ m))
-
-    go : (b : Bool) → Place_is e.ino e.page ino p ≡ b → pages.is_mapped (pages.with_known e xs) ino p ≡ true
-    go true q = ap (λ o. is_some (pages.mapping_at o)) (known_put e xs ino p true q) ∙ at e.mapping refl (one_place e.ino e.page ino p q)
-    go false q = ap (λ o. is_some (pages.mapping_at o)) (known_put e xs ino p false q) ∙ m
 
 after_learns : {now : Stamp} (t : Turn) (e : KnownExtent) → Unasked t.here.session → (e.mapping ≡ None → pages.known_of t.here.store.extents e.ino e.page ≡ None) → Change now t (with_store (record t.here.store { extents = pages.with_known e t.here.store.extents }) t)
 after_learns {now} t e a b =

@@ -27,7 +27,7 @@ use Rattle.st_lemmas.proofs.Tables.{and_true, has_map}
 use Rattle.st_laws_steps.specs.Client.Losses.{Fit}
 use Rattle.st_laws_pages.proofs.Disks.Steps.{counted_pages}
 use Rattle.st_laws_pages.specs.Asks.Law.{PlacesAfter}
-use Rattle.st_laws_pages.proofs.Causes.Law.{site_is}
+use Rattle.st_laws_pages.proofs.Disks.Whole.{site_is}
 use Rattle.st_laws_pages.proofs.Causes.Placed.{PlacesAt, places_at}
 use Rattle.st_laws_refine.specs.Server.Pair.{terms_of}
 use Rattle.st_laws_reads.specs.Copies.World.{Taking, taken}

@@ -168,7 +168,7 @@ fresh_right k clients servers disks blocks form c site a x q z node at =
     no : a.session ≡ None
     no =
         let y = Rattle.st_lemmas.proofs.Tables.has_map Rattle.st_rules.specs.Client.fresh_association (Rattle.st_rules.specs.Extents.numbers 1 servers) a
-        (subst (λ (s : ClientSite). Has a s.node.state.associations) (Rattle.st_laws_pages.proofs.Causes.Law.site_is k clients servers c site z.run.there).0 z.has) in
+        (subst (λ (s : ClientSite). Has a s.node.state.associations) (Rattle.st_laws_pages.proofs.Disks.Whole.site_is k clients servers c site z.run.there).0 z.has) in
         ap (λ (b : Association). b.session) y.2
 
     none : (x : ClientSession) → ◌≡◌ {A = Option ClientSession} None (Some x) → ⊥

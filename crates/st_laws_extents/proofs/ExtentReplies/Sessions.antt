@@ -147,7 +147,8 @@ abbrev pub AcceptedIs : ClientId → Life → sessions.Sessions → Res grace.Ac
 AcceptedIs c life t (Ok a) = a.sessions ≡ sessions.reasserted t c life
 AcceptedIs c life t (Err r) = Unit {0}
 
-pub accepts : (g : Option grace.Grace) (now : Stamp) (c : ClientId) (life : Life) (rows : List (ℕ × GrantNo × Mode)) (l : Locks) (t : sessions.Sessions) → AcceptedIs c life t (grace.accept g now c life rows l t)
+pub accepts : (g : Option grace.Grace) (now : Stamp) (c : ClientId) (life : Life) (rows : List (ℕ × GrantNo × Mode)) (l : Locks) (t : sessions.Sessions) →
+    AcceptedIs c life t (grace.accept g now c life rows l t)
 unfolding grace.accept grace.accept_rows grace.accept_earlier grace.accept_own grace.accept_installed grace.accepted
 accepts g now c life rows l t = if_either (AcceptedIs c life t) (grace.is_on g now) _ _ (earlier (find (grace.is_new_grant l) rows)) tt
   where

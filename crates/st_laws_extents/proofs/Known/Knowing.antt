@@ -71,7 +71,8 @@ step_keeps xs _ _ (LocksGranted z ino g mode) x i h = granted_keeps z ino g mode
 step_keeps xs c _ (LocksDemanded _ ino g to) x i h = demand_keeps c ino g to x.ino h
 
 -- and in a pass
-follows_keeps : (asks : Part) (st : Store) (s u : ClientSession) (c : SessionChange st s u) → FollowsBy asks st s u c → (x : KnownExtent) → Has x st.extents → HasLock s.locks.rows x.ino → HasLock u.locks.rows x.ino
+follows_keeps : (asks : Part) (st : Store) (s u : ClientSession) (c : SessionChange st s u) → FollowsBy asks st s u c → (x : KnownExtent) → Has x st.extents →
+    HasLock s.locks.rows x.ino → HasLock u.locks.rows x.ino
 follows_keeps asks st s u (Keeps _ _ a) q x i h = step_keeps st.extents s.locks u.locks a.locks x i h
 follows_keeps asks st s _ (DropsLock _ ino l) q x i h = absurd q
 follows_keeps asks st s _ (IsReasserted _) q x i h = absurd q

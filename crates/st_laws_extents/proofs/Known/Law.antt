@@ -24,7 +24,7 @@ use Rattle.st_laws_pages.specs.LockedCuts.Locked.{WaitsHold}
 use Rattle.st_laws_steps.specs.Client.Losses.{Fit}
 use Rattle.st_laws_pages.proofs.LockedCuts.CutLaw.{law as cut_law}
 use Rattle.st_laws_pages.proofs.Disks.Whole.{fresh_waits}
-use Rattle.st_laws_pages.proofs.Causes.Law.{site_is}
+use Rattle.st_laws_pages.proofs.Disks.Whole.{site_is}
 use Rattle.st_laws_refine.specs.Server.Pair.{terms_of}
 use Rattle.st_laws_leases.specs.Sides.World.{AllStand}
 use Rattle.st_laws_leases.proofs.Sides.Beginning.{begun}

@@ -71,7 +71,8 @@ module _ (R : Fact) where
       go y (inr (inl e)) = subst (OutputAs R) (sym e) tt
       go y (inr (inr i)) = absurd i
 
-  input_fine : (now : Stamp) (t u : ClientTurn) (input : ClientInput) → Taken t now input u → Each Cleared t.state.associations → Told t.state.associations input → Fine t → Fine u
+  input_fine : (now : Stamp) (t u : ClientTurn) (input : ClientInput) → Taken t now input u → Each Cleared t.state.associations →
+      Told t.state.associations input → Fine t → Fine u
   input_fine now t _ _ (taking.Nothing i) c k h = h
   input_fine now t _ _ (taking.Full op ask e) c k h = at_once t op answers.OpsFull h
   input_fine now t _ _ (taking.Unknown op ask e f) c k h = at_once t op answers.NoFile h

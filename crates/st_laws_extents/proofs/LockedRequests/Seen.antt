@@ -18,7 +18,9 @@ use Rattle.st_laws_extents.proofs.LockedRequests.Walking as walk
 empty_seen : (a : Association) → a.session ≡ None → a.store ≡ empty_store → Seen a
 empty_seen a e st = subst (Of any_free any_before a.server a.life.0) (sym e) (λ e n l. tt)
 
-pub seen_step : (w : World) (e : Event) (sc : WorldTurn) → world_step w e ≡ Ok sc → ((c : ClientId) (site : ClientSite) → site_of w c ≡ Some site → (a : Association) → Has a site.node.state.associations → Fit a) → AllSeen w → AllSeen sc.world
+pub seen_step : (w : World) (e : Event) (sc : WorldTurn) → world_step w e ≡ Ok sc →
+    ((c : ClientId) (site : ClientSite) → site_of w c ≡ Some site → (a : Association) → Has a site.node.state.associations → Fit a) → AllSeen w →
+    AllSeen sc.world
 seen_step =
     associated.event_keeps Seen empty_seen (walk.k_take any_free any_before) (walk.k_hear any_free any_before) (walk.k_finish any_free any_before)
     (k_lose (λ s l o. Of any_free any_before s l o) (λ server life e n l. tt)) (walk.k_passes any_free any_before)

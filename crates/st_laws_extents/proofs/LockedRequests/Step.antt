@@ -15,7 +15,8 @@ module _ (U : Free) (W : Before) where
   abbrev pub Goes : Association → Type 0
   Goes a = Of U W a.server a.life.0 a.session
 
-  pub step_goes : (s : ClientState) (now : Stamp) (input : ClientInput) → Each Fit (cl.losses (client_turn s []) now).state.associations → Each Goes (cl.losses (client_turn s []) now).state.associations →
+  pub step_goes : (s : ClientState) (now : Stamp) (input : ClientInput) → Each Fit (cl.losses (client_turn s []) now).state.associations →
+      Each Goes (cl.losses (client_turn s []) now).state.associations →
       Each Goes (cl.client_step s now input).state.associations
   unfolding cl.client_step cl.work
   step_goes s now input f h =

@@ -75,20 +75,23 @@ none_locked l z = cc
 
 module _ (U : Free) (W : Before) where
   -- the session's locks go on
-  k_locks : (server : ServerId) (life : ℕ) (s r : ClientSession) → r.epoch ≡ s.epoch → r.requests ≡ s.requests → (LockSeen s.locks → LocksGoOn s.locks r.locks) → Of U W server life (Some s) → Of U W server life (Some r)
+  k_locks : (server : ServerId) (life : ℕ) (s r : ClientSession) → r.epoch ≡ s.epoch → r.requests ≡ s.requests →
+      (LockSeen s.locks → LocksGoOn s.locks r.locks) → Of U W server life (Some s) → Of U W server life (Some r)
   k_locks server life s r e q f h =
       subst (λ x. Stand U W server life x.0 r.requests r.locks) (sym e)
       (subst (λ x. Stand U W server life s.epoch.0 x r.locks) (sym q) (locks_later U W server life s.epoch.0 s.requests s.locks r.locks (f h.seen) h))
 
   -- where nothing is outstanding
-  idle : (server : ServerId) (life epoch next : ℕ) (c : locks.LockCache) → ((e n : ℕ) → epoch < e → 1 ≤ n → U server life e n) → ((n : ℕ) → next ≤ n → U server life epoch n) → LockSeen c → Stand U W server life epoch (record { next = next; asked = None }) c
+  idle : (server : ServerId) (life epoch next : ℕ) (c : locks.LockCache) → ((e n : ℕ) → epoch < e → 1 ≤ n → U server life e n) →
+      ((n : ℕ) → next ≤ n → U server life epoch n) → LockSeen c → Stand U W server life epoch (record { next = next; asked = None }) c
   idle server life epoch next c l f h = record { later = l; next = f; seen = h; asked = λ q e. no_request q e }
 
   alike : (xs : List KnownExtent) (server : ServerId) (life : ℕ) (s r : ClientSession) → AsksNothing xs s r → Of U W server life (Some s) → Of U W server life (Some r)
   alike xs server life s r a h = k_locks server life s r a.epoch a.requests (locks_on xs s.locks r.locks a.locks) h
 
   -- a request behind one more: its number was told to nobody
-  asked_new : (server : ServerId) (life : ℕ) (r : ClientSession) (now : Stamp) (body : Body) (cutting : Option ℕ) → MayAsk r cutting body → Of U W server life (Some r) → Of U W server life (Some (cp.asking_session r now body cutting))
+  asked_new : (server : ServerId) (life : ℕ) (r : ClientSession) (now : Stamp) (body : Body) (cutting : Option ℕ) → MayAsk r cutting body →
+      Of U W server life (Some r) → Of U W server life (Some (cp.asking_session r now body cutting))
   unfolding state.asking
   asked_new server life r now body cutting m h =
       record {
@@ -99,7 +102,8 @@ module _ (U : Free) (W : Before) where
       }
 
   -- a newer epoch, of which nothing was told
-  epoch_new : (server : ServerId) (life : ℕ) (s : ClientSession) (epoch : Epoch) → s.epoch.0 < epoch.0 → Of U W server life (Some s) → Of U W server life (Some (cr.in_epoch epoch s))
+  epoch_new : (server : ServerId) (life : ℕ) (s : ClientSession) (epoch : Epoch) → s.epoch.0 < epoch.0 → Of U W server life (Some s) →
+      Of U W server life (Some (cr.in_epoch epoch s))
   unfolding locks.forget_demands
   epoch_new server life s epoch l h = idle server life epoch.0 1 (locks.forget_demands s.locks) (λ d n m. h.later d n (omega (arith, l, m))) (λ n m. h.later epoch.0 n l m) h.seen
 

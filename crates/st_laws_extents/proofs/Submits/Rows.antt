@@ -1,6 +1,6 @@
 -- A cut that another client asks finds no write of a life that a crash ended: beside the lock of a life that stands still no other client has
 -- an exclusive row.
-use Rattle.std.proofs.Common.{◌≡◌, ◌≢◌, ℕ, ◌+◌, ◌<◌, ◌≤◌, ◌⊎◌, Bool, true, false, List, Some, refl, sym, ap, ◌∙◌, subst, inl, inr, arith}
+use Rattle.std.proofs.Common.{◌≡◌, ◌≢◌, ℕ, ◌+◌, ◌<◌, ◌≤◌, ◌⊎◌, true, List, Some, refl, sym, ap, ◌∙◌, subst, inl, inr, arith}
 use Rattle.st_base.specs.Mode.{number_of}
 use Rattle.st_base.specs.declared.disk.BlockAt.{BlockAt}
 use Rattle.st_base.specs.declared.disk.Tag.{Tag}
@@ -33,14 +33,7 @@ use Rattle.st_laws_extents.specs.CutRequests.Cut.{CutIn}
 use Rattle.st_laws_reads.specs.OpenWrites.StandStill.{OverOrStill, WritesHold, writer}
 use Rattle.st_laws_reads.proofs.OpenWrites.Cases.{timely_end}
 use Rattle.st_laws_extents.specs.Submits.Left.{NoFrozenWrites, NoOwnWrites}
-
-frozen_or_not : (s : net.Server) → Frozen s ⊎ InService s
-frozen_or_not s = go s.up s.grace refl refl
-  where
-    go : (u g : Bool) → s.up ≡ u → s.grace ≡ g → Frozen s ⊎ InService s
-    go false g p q = inl (inl p)
-    go true true p q = inl (inr q)
-    go true false p q = inr (record { up = p; grace = q })
+use Rattle.st_laws_reads.proofs.AllClients.Cutting.{frozen_or_not}
 
 module _ (k : Config) (c i : ℕ) (C : Client) (W : net.World) (ok : ConfigOk k) (locked : LockedHalf C i) (lasts : (W.at c).c.clock < C.date + k.lease) (f : FrozenLife k c C.life C W) where
   st : assoc.All k (replaced W c (stood C f.begun f.messages (W.at c)))

@@ -545,7 +545,8 @@ module _ (k : Config) (init base : ServerId → Option Stamp) (sv : ServerId) (T
   quiet_change f p (notes.Leased s end) h = absurd h
   quiet_change f p n h = tt
 
-  follows : (t : Turn) (s u : ClientSession) (c : SessionChange t.here.store s u) → FollowsBy KeepsOrAsks t.here.store s u c → HasNoted s t → N (with_session u t)
+  follows : (t : Turn) (s u : ClientSession) (c : SessionChange t.here.store s u) → FollowsBy KeepsOrAsks t.here.store s u c → HasNoted s t →
+      N (with_session u t)
   follows t s u (Keeps _ _ a) q v = n_with t s u a.date a.epoch v
   follows t s _ (DropsLock _ ino l) q v = absurd q
   follows t s _ (IsReasserted _) q v = absurd q

@@ -210,7 +210,8 @@ module _ (k : Config) (init : ServerId → Option Stamp) where
       (λ life epoch f l p d. record { from = f ∙ ap server_node n.server; to = to; of_life = l; of_epoch = p; renews = d; ends = refl })
       (record { config = n.config; server = n.server; own = n.own; others = n.others; told = λ end i. absurd (n.told end i); untold = n.untold })
 
-  input_noted : (c : ClientId) (t u : ClientTurn) (now : Stamp) (input : ClientInput) → Taken t now input u → t.state.id ≡ c → A Nothing t → A (Brings c input) u
+  input_noted : (c : ClientId) (t u : ClientTurn) (now : Stamp) (input : ClientInput) → Taken t now input u → t.state.id ≡ c → A Nothing t →
+      A (Brings c input) u
   input_noted c t u now input x id h = go input u x
     where
       once_more : (i : ClientInput) (op : ℕ) (a : AppAnswer) → A (Brings c i) (cl.answered_at_once t op a)

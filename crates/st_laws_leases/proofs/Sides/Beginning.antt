@@ -20,7 +20,6 @@ use Rattle.st_rules.proofs.Drift.{pair_first, square_first}
 use Rattle.st_protocol.specs.Assoc as net
 use Rattle.st_protocol.specs.Assoc.{AtFirst, BeginsAt, ConfigOk, Reached}
 use Rattle.st_lemmas.specs.Lists.{Has}
-use Rattle.st_lemmas.proofs.Lookups.{some_is}
 use Rattle.st_lemmas.proofs.Numbers.{get_map, numbered_below}
 use Rattle.st_lemmas.proofs.Tables.{and_true}
 use Rattle.st_laws_pages.proofs.Disks.Whole.{fresh_fates}
@@ -35,7 +34,8 @@ use Rattle.st_laws_refine.proofs.Server.Counts.{few_fresh}
 use Rattle.st_laws_refine.proofs.Server.Fresh.{fresh_begins, fresh_compat, fresh_sound, idle_begins, no_ghost}
 use Rattle.st_laws_leases.specs.Sides.Stands.{Both, Standing}
 use Rattle.st_laws_leases.specs.Sides.World.{AllStand, ServerStands}
-use Rattle.st_laws_pages.proofs.Lives.Fresh.{length_map, numbers_get, numbers_length}
+use Rattle.st_laws_pages.proofs.Lives.Fresh.{length_map, numbers_length}
+use Rattle.st_laws_pages.proofs.Lives.Fresh.{fresh_is}
 
 -- Lists of numbers.
 numbers_is : (a c i : ℕ) → i < c → slice_get (numbers a c) i ≡ Some (a + i)
@@ -47,14 +47,6 @@ numbers_is a (suc c) (suc i) l = numbers_is (a + 1) c i (omega arith) ∙ ap (λ
 length_both : {A : Type 0} (xs ys : List A) → length (xs ++ ys) ≡ length xs + length ys
 length_both [] ys = omega arith
 length_both (x ∷ xs) ys = let z = length_both xs ys in omega (arith, z)
-
-pub numbered_map : {A : Type 0} (f : ℕ → A) (count n : ℕ) (x : A) → numbered (map f (numbers 1 count)) n ≡ Some x → x ≡ f n
-numbered_map f count zero x e = cc
-numbered_map {A} f count (suc i) x e = at (slice_get (numbers 1 count) i) refl (sym (get_map f (numbers 1 count) i) ∙ e)
-  where
-    at : (o : Option ℕ) → slice_get (numbers 1 count) i ≡ o → option_map f o ≡ Some x → x ≡ f (suc i)
-    at None q e = cc
-    at (Some m) q e = sym (some_is e) ∙ ap f (numbers_get 1 count i m q ∙ (let z : 1 + i ≡ suc i = omega arith in z))
 
 numbered_first : {A : Type 0} (f : ℕ → A) (count : ℕ) → 1 ≤ count → numbered (map f (numbers 1 count)) 1 ≡ Some (f 1)
 numbered_first f count l = get_map f (numbers 1 count) 0 ∙ ap (option_map f) (numbers_is 1 count 0 l)
@@ -188,11 +180,11 @@ module _ (kb : Config) (clients servers disks blocks form : ℕ) (head : IsHead 
 
   site_is : (c : ℕ) (site : ClientSite) → site_of w (client c) ≡ Some site → site ≡ fresh_site kb servers c
   unfolding fresh_world
-  site_is c site e = numbered_map (fresh_site kb servers) clients c site e
+  site_is c site e = fresh_is (fresh_site kb servers) clients c site e
 
   node_is : (s : ℕ) (node : ServerNode) → node_of w (server s) ≡ Some node → node ≡ node_at_start kb servers disks blocks s
   unfolding fresh_world
-  node_is s node e = numbered_map (node_at_start kb servers disks blocks) servers s node e
+  node_is s node e = fresh_is (node_at_start kb servers disks blocks) servers s node e
 
   within : (s : ℕ) (node : ServerNode) → node_of w (server s) ≡ Some node → (1 ≤ s) × (s ≤ servers)
   unfolding fresh_world

@@ -18,7 +18,7 @@ use Rattle.st_laws_steps.specs.Lives.Lives.{LivesHold}
 use Rattle.st_laws_pages.proofs.Lives.LifeSteps.{steps_so}
 use Rattle.st_laws_steps.proofs.Client.Stepping.{pairs_has}
 use Rattle.st_laws_leases.proofs.Sides.Alone.{numbers_has}
-use Rattle.st_laws_leases.proofs.Sides.Beginning.{numbered_map}
+use Rattle.st_laws_pages.proofs.Lives.Fresh.{fresh_is}
 use Rattle.st_laws_pages.proofs.Lives.Fresh.{length_map, numbers_length}
 
 -- at each association of these clients
@@ -59,7 +59,7 @@ start_known count w c site new there is k =
 pub fresh_known : (kb : base.Config) (clients servers disks blocks form : ℕ) → Known (length (fresh_world kb clients servers disks blocks form).servers) (fresh_world kb clients servers disks blocks form).clients
 unfolding fresh_world cl.fresh_client
 fresh_known kb clients servers disks blocks form c site e a h =
-    let m = has_map cl.fresh_association (numbers 1 servers) a (subst (λ (s : ClientSite). Has a s.node.state.associations) (numbered_map (fresh_site kb servers) clients c site e) h) in
+    let m = has_map cl.fresh_association (numbers 1 servers) a (subst (λ (s : ClientSite). Has a s.node.state.associations) (fresh_is (fresh_site kb servers) clients c site e) h) in
     let n = numbers_has 1 servers m.0 m.1 in
     let l = n.0 in
     let u = n.1 in

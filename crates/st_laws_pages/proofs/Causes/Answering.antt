@@ -50,7 +50,8 @@ each_unhard : (rule : Turn → Turn) → ((t : Turn) → Fit t.here → H t (rul
 unfolding at_each
 each_unhard rule one t f = these_unhard rule one t.state.associations (with_associations [] t) f
 
-input_unhard : (now : Stamp) (input : ClientInput) (t u : ClientTurn) → Taken t now input u → ((a : Association) → Has a t.state.associations → Fit a) → Since Unhard t.out u.out
+input_unhard : (now : Stamp) (input : ClientInput) (t u : ClientTurn) → Taken t now input u → ((a : Association) → Has a t.state.associations → Fit a) →
+    Since Unhard t.out u.out
 input_unhard now _ t _ (taking.Nothing i) f = since_none Unhard t.out
 input_unhard now _ t _ (taking.Full op ask e) f = since_one Unhard t.out (outputs.Answer op answers.OpsFull) tt
 input_unhard now _ t _ (taking.Unknown op ask e g) f = since_one Unhard t.out (outputs.Answer op answers.NoFile) tt
@@ -111,7 +112,9 @@ KeysAsked asked os = (k : ℕ × Ask) → Has k (map key os) → asked k.0 ≡ S
 from_asked : (asked : ℕ → Option Ask) (os ps : List Operation) → From (map key os) ps → KeysAsked asked os → KeysAsked asked ps
 from_asked asked os ps f h = λ k i. h k (f k i)
 
-input_asked : (n : ℕ) (now : Stamp) (asked : ℕ → Option Ask) (input : ClientInput) (t u : ClientTurn) → Taken t now input u → InputTells n input → AsksIt asked input → ((b : Association) → Has b t.state.associations → Fit b) → ((b : Association) → Has b t.state.associations → Knows n b.server b.store.extents) →
+input_asked : (n : ℕ) (now : Stamp) (asked : ℕ → Option Ask) (input : ClientInput) (t u : ClientTurn) → Taken t now input u → InputTells n input →
+    AsksIt asked input → ((b : Association) → Has b t.state.associations → Fit b) →
+    ((b : Association) → Has b t.state.associations → Knows n b.server b.store.extents) →
     KeysAsked asked t.state.operations → KeysAsked asked u.state.operations
 unfolding at_each
 input_asked n now asked _ t _ (taking.Nothing i) told new f k h = h

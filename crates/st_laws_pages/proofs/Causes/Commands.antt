@@ -123,7 +123,8 @@ lives_end ks [] es cs ds h = h
 lives_end ks (l ∷ ls) es cs ds h = lives_end ks ls (ev.log_ended ks l es) cs ds (picked_drop es (ev.is_of_life_over l) (ev.cause_at_end ks l) cs ds h)
 
 -- One more command.
-at_more : (cs : List IssuedCommand) (ds : List DiskCommand) (c x : IssuedCommand) (d y : DiskCommand) (k : ℕ) → length cs ≡ length ds → numbered (cs ++ c ∷ []) k ≡ Some x → disks.command_at (ds ++ d ∷ []) k ≡ Some y →
+pub at_more : (cs : List IssuedCommand) (ds : List DiskCommand) (c x : IssuedCommand) (d y : DiskCommand) (k : ℕ) → length cs ≡ length ds →
+    numbered (cs ++ c ∷ []) k ≡ Some x → disks.command_at (ds ++ d ∷ []) k ≡ Some y →
     ((numbered cs k ≡ Some x) × (disks.command_at ds k ≡ Some y)) ⊎ ((x ≡ c) × (y ≡ d))
 at_more cs ds c x d y zero n i j = cc
 at_more cs ds c x d y (suc k) n i j = go (get_more cs c k x i) (get_more ds d k y j)

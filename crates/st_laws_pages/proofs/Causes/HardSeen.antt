@@ -63,12 +63,13 @@ record ToldHard (past : List Step) (x : Step) (sc new : WorldTurn) : Type 0 wher
   right : AtEach (safety.IsHardAt past x) x.after.world sc.world.log more
   told : log_told x.after.world sc.world.log more ≡ new.world.log
 
-at_both : (fact : List LogEntry → Observation → Type 0) (w : World) (es : List LogEntry) (os ps : List Observation) → AtEach fact w es os → AtEach fact w (log_told w es os) ps → AtEach fact w es (os ++ ps)
+pub at_both : (fact : List LogEntry → Observation → Type 0) (w : World) (es : List LogEntry) (os ps : List Observation) → AtEach fact w es os →
+    AtEach fact w (log_told w es os) ps → AtEach fact w es (os ++ ps)
 unfolding AtEach log_told
 at_both fact w es [] ps a b = b
 at_both fact w es (o ∷ os) ps a b = (a.0, at_both fact w (log_behind w es o) os ps a.1 b)
 
-told_both : (w : World) (es : List LogEntry) (os ps : List Observation) → log_told w es (os ++ ps) ≡ log_told w (log_told w es os) ps
+pub told_both : (w : World) (es : List LogEntry) (os ps : List Observation) → log_told w es (os ++ ps) ≡ log_told w (log_told w es os) ps
 unfolding log_told
 told_both w es [] ps = refl
 told_both w es (o ∷ os) ps = told_both w (log_behind w es o) os ps

@@ -216,7 +216,8 @@ module _ (past : List Step) (size : ℕ) (c : ClientId) (before : ClientState) (
   said_one syncs t (outputs.Note n) q live others r f h = quiet t (outputs.Note n) tt h
 
   -- one change of a pass, and changes
-  change_said : (syncs : List Operation) (t u : Turn) (ch : Change now t u) → IsPassing syncs KeepsOrAsks now t u ch → Alive t.here → (others : List Association) → I t others → AskedAll syncs → Said t.out → Said u.out
+  change_said : (syncs : List Operation) (t u : Turn) (ch : Change now t u) → IsPassing syncs KeepsOrAsks now t u ch → Alive t.here →
+      (others : List Association) → I t others → AskedAll syncs → Said t.out → Said u.out
   unfolding cp.submit_read cp.submit_write cp.submit_command
   change_said syncs t _ (client.Says _ o p) q live others r f h = said_one syncs t o q live others r f h
   change_said syncs t _ (client.Operates _ os) q live others r f h = h
@@ -232,7 +233,8 @@ module _ (past : List Step) (size : ℕ) (c : ClientId) (before : ClientState) (
   change_said syncs t _ (client.Reads _ ino p m i clean) q live others r f h = quiet t _ tt h
   change_said syncs t _ (client.Submits _ s ino p d m se e i w) q live others r f h = quiet t _ tt h
 
-  changes_said : (syncs : List Operation) (t v : Turn) → Only (IsPassing syncs KeepsOrAsks) now t v → (others : List Association) → OfOthers t.here.server others → Alive t.here → Placed size v.out → I t others → AskedAll syncs → Said t.out → Said v.out
+  changes_said : (syncs : List Operation) (t v : Turn) → Only (IsPassing syncs KeepsOrAsks) now t v → (others : List Association) →
+      OfOthers t.here.server others → Alive t.here → Placed size v.out → I t others → AskedAll syncs → Said t.out → Said v.out
   changes_said syncs t _ (only.Ends _) others n live p r f h = h
   changes_said syncs t v (Goes _ u _ ch q rest) others n live p r f h =
       let x = change_next now t u ch in

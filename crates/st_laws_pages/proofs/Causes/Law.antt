@@ -1,6 +1,6 @@
 -- Drops have a cause and hard is hard, at each step and over whole runs, with no premise.
 use Rattle.std.proofs.Common.{◌≡◌, ℕ, ◌+◌, ◌≤◌, ◌<◌, true, inl, inr, subst, List, [], ◌∷◌, ◌++◌, Option, Some, None, Ok, Err, refl, sym, ap, ◌∙◌, arith}
-use Rattle.std.specs.Prelude.{Result, length, map, suc, zero, pred, slice_get, option_map}
+use Rattle.std.specs.Prelude.{Result, length, map, suc, zero}
 use Rattle.st_base.specs.declared.config.Config.{Config}
 use Rattle.st_messages.specs.declared.event.Event.{Event}
 use Rattle.st_rules.specs.declared.observation.WorldRefusal.{WorldRefusal}
@@ -18,8 +18,6 @@ use Rattle.st_laws_pages.specs.Drops.Causes.{CausesHold}
 use Rattle.st_laws_pages.specs.Flush.Flush.{Cared, NumbersApart, NodeCared, FlushHold}
 use Rattle.st_rules.specs.declared.pages.DirtyPage.{DirtyPage}
 use Rattle.st_lemmas.proofs.Tables.{has_map}
-use Rattle.st_lemmas.proofs.Lookups.{some_is}
-use Rattle.st_lemmas.proofs.Numbers.{get_map}
 use Rattle.st_laws_pages.specs.Disks.Owed.{FatesHold}
 use Rattle.st_lemmas.specs.Lists.{Has}
 use Rattle.st_rules.specs.Client as cl
@@ -37,7 +35,7 @@ use Rattle.st_laws_pages.specs.Disks.Owed.{FatesHold}
 use Rattle.st_laws_pages.proofs.Drops.Dropping.{advance_owed}
 use Rattle.st_laws_pages.proofs.Drops.Grows.{happens_causes}
 use Rattle.st_laws_pages.proofs.Disks.Steps.{counted_fates, fates_law}
-use Rattle.st_laws_pages.proofs.Disks.Whole.{fresh_fates}
+use Rattle.st_laws_pages.proofs.Disks.Whole.{fresh_fates, site_is}
 use Rattle.st_laws_pages.specs.Asks.Law.{InEveryRun, PlacesAfter, PlacesHold}
 use Rattle.st_laws_pages.proofs.Asks.Law.{places_law}
 use Rattle.st_laws_pages.specs.Causes.Stands.{LatestOwn, WritesStand}
@@ -48,15 +46,7 @@ use Rattle.st_laws_pages.proofs.Causes.Placed.{PlacesAt, places_at}
 use Rattle.st_rules.specs.Lines.{AtEach}
 use Rattle.st_rules.specs.Safety.{HardIsHard, Promise}
 use Rattle.st_laws_pages.proofs.Causes.HardEvents.{AskedHold, AskedSo, happens_left}
-use Rattle.st_laws_pages.proofs.Lives.Fresh.{length_map, numbers_get, numbers_length}
-
-pub site_is : (k : Config) (clients servers : ℕ) (j : ℕ) (s : ClientSite) → numbered (map (fresh_site k servers) (numbers 1 clients)) j ≡ Some s → (s ≡ fresh_site k servers j) × (slice_get (numbers 1 clients) (pred j) ≡ Some j)
-site_is k clients servers zero s e = cc
-site_is k clients servers (suc i) s e = at (slice_get (numbers 1 clients) i) refl (sym (get_map (fresh_site k servers) (numbers 1 clients) i) ∙ e)
-  where
-    at : (o : Option ℕ) → slice_get (numbers 1 clients) i ≡ o → option_map (fresh_site k servers) o ≡ Some s → (s ≡ fresh_site k servers (suc i)) × (slice_get (numbers 1 clients) i ≡ Some (suc i))
-    at None q e = cc
-    at (Some m) q e = let z : m ≡ suc i = numbers_get 1 clients i m q ∙ (let z : 1 + i ≡ suc i = omega arith in z) in (sym (some_is e) ∙ ap (fresh_site k servers) z, q ∙ ap (λ n. Some n) z)
+use Rattle.st_laws_pages.proofs.Lives.Fresh.{length_map, numbers_length}
 
 fresh_causes : (k : Config) (clients servers d b form : ℕ) → CausesHold [] (fresh_world k clients servers d b form)
 unfolding fresh_world

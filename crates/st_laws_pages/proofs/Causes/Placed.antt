@@ -319,7 +319,8 @@ abbrev pub InputTells : ℕ → ClientInput → Type 0
 InputTells n (inputs.Control m) = (s : ServerId) → m.header.from ≡ server_node s → OwnBody n s m.body
 InputTells n input = Unit {0}
 
-pub input_places : (n : ℕ) (now : Stamp) (input : ClientInput) (t u : ClientTurn) → Taken t now input u → InputTells n input → ((b : Association) → Has b t.state.associations → Fit b) → ((b : Association) → Has b t.state.associations → Knows n b.server b.store.extents) →
+pub input_places : (n : ℕ) (now : Stamp) (input : ClientInput) (t u : ClientTurn) → Taken t now input u → InputTells n input →
+    ((b : Association) → Has b t.state.associations → Fit b) → ((b : Association) → Has b t.state.associations → Knows n b.server b.store.extents) →
     AllPlaced n t u
 input_places n now _ t _ (taking.Nothing i) told f k = record { knows = k; placed = since_none _ t.out }
 input_places n now _ t _ (taking.Full op ask e) told f k = record { knows = k; placed = since_one (PlacedOne n) t.out _ tt }

@@ -107,7 +107,8 @@ server_numbers : (ns : List ℕ) → map server_number (map cl.fresh_association
 server_numbers [] = refl
 server_numbers (n ∷ ns) = ap (λ z. n ∷ z) (server_numbers ns)
 
-site_is : (k : Config) (clients servers : ℕ) (j : ℕ) (s : ClientSite) → numbered (map (fresh_site k servers) (numbers 1 clients)) j ≡ Some s → (s ≡ fresh_site k servers j) × (slice_get (numbers 1 clients) (pred j) ≡ Some j)
+pub site_is : (k : Config) (clients servers : ℕ) (j : ℕ) (s : ClientSite) → numbered (map (fresh_site k servers) (numbers 1 clients)) j ≡ Some s →
+    (s ≡ fresh_site k servers j) × (slice_get (numbers 1 clients) (pred j) ≡ Some j)
 site_is k clients servers zero s e = cc
 site_is k clients servers (suc i) s e = at (slice_get (numbers 1 clients) i) refl (sym (get_map (fresh_site k servers) (numbers 1 clients) i) ∙ e)
   where

@@ -140,13 +140,15 @@ pending_fewer P n picked cause (e ∷ es) h = go (picked n e.of) (pending_fewer 
     go false r = record { one = h.one; rest = r }
 
 -- a life that is known, and none of those that ended, is the association's
-pub known_life : (w : World) (c : ClientId) (site : ClientSite) → site_of w c ≡ Some site → (o : LogOwner) (a : Association) → find (is_at o.file.server) site.node.state.associations ≡ Some a → o.client.0 ≡ c.0 → ended_of w o.client o.file.server o.life ≡ None →
+pub known_life : (w : World) (c : ClientId) (site : ClientSite) → site_of w c ≡ Some site → (o : LogOwner) (a : Association) →
+    find (is_at o.file.server) site.node.state.associations ≡ Some a → o.client.0 ≡ c.0 → ended_of w o.client o.file.server o.life ≡ None →
     IsKnown w.clients w.ended o.client o.file.server o.life → a.life.0 ≡ o.life.0
 known_life w c site there o a f i n (inl (e, z)) = absurd (no_option e (sym n ∙ z))
 known_life w c site there o a f i n (inr z) = ap (λ x. (world.life_at x).0) (sym f) ∙ ap (λ x. (ev.life_of_site o.file.server x).0) (sym there) ∙ ap (λ j. (ev.life_of_site o.file.server (numbered w.clients j)).0) (sym i) ∙ z
 
 -- Crash: the client's lives end with the ends that they had.
-pub end_crashed : (w : World) (c : ClientId) (site : ClientSite) → site_of w c ≡ Some site → LivesHold w → (o : LogOwner) → IsKnown w.clients w.ended o.client o.file.server o.life → (end : Stamp) → lease_end_of w o.client o.file.server o.life ≡ Some end →
+pub end_crashed : (w : World) (c : ClientId) (site : ClientSite) → site_of w c ≡ Some site → LivesHold w → (o : LogOwner) →
+    IsKnown w.clients w.ended o.client o.file.server o.life → (end : Stamp) → lease_end_of w o.client o.file.server o.life ≡ Some end →
     lease_end_of (ev.with_site c (ev.stopped_site site) (ev.with_crashed_lives site w)) o.client o.file.server o.life ≡ Some end
 end_crashed w c site there h o kn end is = go (ended_of w o.client o.file.server o.life) refl (same_or_not o.client.0 c.0)
   where
@@ -163,14 +165,16 @@ end_crashed w c site there h o kn end is = go (ended_of w o.client o.file.server
     m = h.lives.sites c site there
 
     -- the row of the client's own life
-    own : (a : Option Association) → find (is_at o.file.server) site.node.state.associations ≡ a → o.client.0 ≡ c.0 → find p w.ended ≡ None → lease.end_at site.node.state.config (cl.lease_at a) ≡ Some end → lease_end_of v o.client o.file.server o.life ≡ Some end
+    own : (a : Option Association) → find (is_at o.file.server) site.node.state.associations ≡ a → o.client.0 ≡ c.0 → find p w.ended ≡ None →
+        lease.end_at site.node.state.config (cl.lease_at a) ≡ Some end → lease_end_of v o.client o.file.server o.life ≡ Some end
     own None f i n q = absurd (no_option end q)
     own (Some a) f i n q =
         ap (end_or_present v o.client o.file.server)
         (find_back p w.ended rows n ∙ ap (λ z. find p (map ev.crashed_life (map (life_of_association site.node.state.config z) site.node.state.associations))) (m.id ∙ ap (λ j. record { 0 = j }) (sym i))
         ∙ rows_own site.node.state.config o.client o.file.server o.life site.node.state.associations a f (known_life w c site there o a f i n kn)) ∙ q
 
-    go : (x : Option LeaseLife) → ended_of w o.client o.file.server o.life ≡ x → (o.client.0 ≡ c.0) ⊎ (o.client.0 ≢ c.0) → lease_end_of v o.client o.file.server o.life ≡ Some end
+    go : (x : Option LeaseLife) → ended_of w o.client o.file.server o.life ≡ x → (o.client.0 ≡ c.0) ⊎ (o.client.0 ≢ c.0) →
+        lease_end_of v o.client o.file.server o.life ≡ Some end
     go (Some e) q i = ap (end_or_present v o.client o.file.server) (find_front p w.ended rows e q) ∙ ap (end_or_present w o.client o.file.server) (sym q) ∙ is
     go None q (inl i) =
         own (find (is_at o.file.server) site.node.state.associations) refl i q
@@ -184,7 +188,8 @@ pub crash_before : (w : World) (c : ClientId) (site : ClientSite) → site_of w 
 crash_before w c site there h o kn b = record { end = b.end; is = end_crashed w c site there h o kn b.end b.is; before = b.before }
 
 -- Start: a client that does not run has no session, so each end is of a life that ended, or of another client.
-pub end_started : (w : World) (c : ClientId) (site : ClientSite) → site_of w c ≡ Some site → site.node.running ≡ false → LivesHold w → (o : LogOwner) (end : Stamp) → lease_end_of w o.client o.file.server o.life ≡ Some end →
+pub end_started : (w : World) (c : ClientId) (site : ClientSite) → site_of w c ≡ Some site → site.node.running ≡ false → LivesHold w →
+    (o : LogOwner) (end : Stamp) → lease_end_of w o.client o.file.server o.life ≡ Some end →
     lease_end_of (ev.with_site c (ev.started_site site) w) o.client o.file.server o.life ≡ Some end
 end_started w c site there r h o end is = go (ended_of w o.client o.file.server o.life) refl (same_or_not o.client.0 c.0)
   where
@@ -195,7 +200,8 @@ end_started w c site there r h o end is = go (ended_of w o.client o.file.server 
     none None e = refl
     none (Some a) e = ap (option_map cl.lease_of_session) ((h.lives.sites c site there).stopped r a (found_has o.file.server site.node.state.associations a e).0).session
 
-    go : (x : Option LeaseLife) → ended_of w o.client o.file.server o.life ≡ x → (o.client.0 ≡ c.0) ⊎ (o.client.0 ≢ c.0) → lease_end_of v o.client o.file.server o.life ≡ Some end
+    go : (x : Option LeaseLife) → ended_of w o.client o.file.server o.life ≡ x → (o.client.0 ≡ c.0) ⊎ (o.client.0 ≢ c.0) →
+        lease_end_of v o.client o.file.server o.life ≡ Some end
     go (Some e) q i = ap (end_or_present v o.client o.file.server) q ∙ ap (end_or_present w o.client o.file.server) (sym q) ∙ is
     go None q (inl i) =
         absurd (no_option end

@@ -285,7 +285,7 @@ failed_cared past cs es c starts next a ino p n free told h =
     fail i q d k false z m e = h.failed i q m.page k m.is (ap (λ (x : DirtyPage). x.failed) (m.other z) ∙ e)
 
 -- a command that is found
-command_is : (cs : List PageCommand) (n : ℕ) (c : PageCommand) → pages.command_of cs n ≡ Some c → Has c cs × (c.number ≡ n)
+pub command_is : (cs : List PageCommand) (n : ℕ) (c : PageCommand) → pages.command_of cs n ≡ Some c → Has c cs × (c.number ≡ n)
 command_is [] n c e = cc
 command_is (x ∷ xs) n c e = go (x.number == n) refl e (command_is xs n c)
   where

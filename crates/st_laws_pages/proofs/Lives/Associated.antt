@@ -40,7 +40,7 @@ use Rattle.st_laws_steps.proofs.Client.Taking.{each, each_taken, taken}
 use Rattle.st_laws_pages.proofs.Flush.Adding.{after_clients}
 use Rattle.st_laws_pages.proofs.Lives.Each.{Cases, SteppedNode, each_event}
 use Rattle.st_laws_pages.proofs.Lives.Lasting.{flush_parts}
-use Rattle.st_laws_pages.proofs.Causes.Law.{site_is}
+use Rattle.st_laws_pages.proofs.Disks.Whole.{site_is}
 use Rattle.st_messages.specs.declared.ask.Ask.{Ask}
 use Rattle.st_messages.specs.declared.message.Body.{Body}
 use Rattle.st_messages.specs.declared.message.Header.{Header}

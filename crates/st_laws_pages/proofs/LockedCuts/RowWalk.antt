@@ -109,6 +109,32 @@ InputAlone t now (Control m) = WaitsForNone t now m.header m.body
 abbrev IsMet : Turn → Stamp → Header → Body → Type 0
 IsMet t now h m = WaitsForNone t now h m × (sv.is_for t.state h ≡ true)
 
+-- an entry that is removed is the one that was looked up
+pub removed_is : (n : names.Names) (dir : ℕ) (name : List ℕ) (ino : ℕ) (d : names.Changed) → names.lookup n dir name ≡ Ok ino → names.remove n dir name ≡ Ok d →
+    d.ino ≡ ino
+unfolding names.lookup names.lookup_at names.remove names.remove_at names.remove_found names.remove_entry names.without
+removed_is n dir name ino d e f = go (names.place_refusal n dir name) e f
+  where
+    number : (x y : ℕ) → ◌≡◌ {A = Res ℕ EntryRefusal} (Ok x) (Ok y) → x ≡ y
+    number x y z = cc
+
+    same : (x y : names.Changed) → ◌≡◌ {A = Res names.Changed EntryRefusal} (Ok x) (Ok y) → x ≡ y
+    same x y z = cc
+
+    entry : (o : Option Rattle.st_rules.specs.declared.names.NameEntry.NameEntry) → names.ino_of o ≡ Ok ino → names.remove_found n dir name o ≡ Ok d →
+        d.ino ≡ ino
+    entry None e f = cc e
+    entry (Some x) e f = full (names.is_full n x) f
+      where
+        full : (b : Bool) →
+            ◌≡◌ {A = Res names.Changed EntryRefusal} (if b then Err Rattle.st_rules.specs.declared.names.EntryRefusal.TheVariants.NotEmpty else Ok (names.without n dir name x)) (Ok d) → d.ino ≡ ino
+        full true z = cc z
+        full false z = ap (λ (y : names.Changed). y.ino) (sym (same (names.without n dir name x) d z)) ∙ number x.ino ino e
+
+    go : (o : Option EntryRefusal) → names.lookup_at n dir name o ≡ Ok ino → names.remove_at n dir name o ≡ Ok d → d.ino ≡ ino
+    go (Some r) e f = cc e
+    go None e f = entry (names.entry_at n dir name) e f
+
 module _ (s : ServerId) where
   abbrev B : Turn → Type 0
   B t = Before s t
@@ -267,29 +293,6 @@ module _ (s : ServerId) where
   unfolding sv.names_listed sv.name_refused
   a_listed t (Ok y) b = then_after t b
   a_listed t (Err r) b = then_after t b
-
-  -- an entry that is removed is the one that was looked up
-  removed_is : (n : names.Names) (dir : ℕ) (name : List ℕ) (ino : ℕ) (d : names.Changed) → names.lookup n dir name ≡ Ok ino → names.remove n dir name ≡ Ok d → d.ino ≡ ino
-  unfolding names.lookup names.lookup_at names.remove names.remove_at names.remove_found names.remove_entry names.without
-  removed_is n dir name ino d e f = go (names.place_refusal n dir name) e f
-    where
-      number : (x y : ℕ) → ◌≡◌ {A = Res ℕ EntryRefusal} (Ok x) (Ok y) → x ≡ y
-      number x y z = cc
-
-      same : (x y : names.Changed) → ◌≡◌ {A = Res names.Changed EntryRefusal} (Ok x) (Ok y) → x ≡ y
-      same x y z = cc
-
-      entry : (o : Option Rattle.st_rules.specs.declared.names.NameEntry.NameEntry) → names.ino_of o ≡ Ok ino → names.remove_found n dir name o ≡ Ok d → d.ino ≡ ino
-      entry None e f = cc e
-      entry (Some x) e f = full (names.is_full n x) f
-        where
-          full : (b : Bool) → ◌≡◌ {A = Res names.Changed EntryRefusal} (if b then Err Rattle.st_rules.specs.declared.names.EntryRefusal.TheVariants.NotEmpty else Ok (names.without n dir name x)) (Ok d) → d.ino ≡ ino
-          full true z = cc z
-          full false z = ap (λ (y : names.Changed). y.ino) (sym (same (names.without n dir name x) d z)) ∙ number x.ino ino e
-
-      go : (o : Option EntryRefusal) → names.lookup_at n dir name o ≡ Ok ino → names.remove_at n dir name o ≡ Ok d → d.ino ≡ ino
-      go (Some r) e f = cc e
-      go None e f = entry (names.entry_at n dir name) e f
 
   file_held : (l : Locks) (ino i : ℕ) → IsHeld i l → IsHeld i (locks.drop_file_waits l ino)
   unfolding locks.drop_file_waits

@@ -1,6 +1,6 @@
 -- The commands that a client's step adds, and its outstanding writes behind it.
-use Rattle.std.proofs.Common.{◌≡◌, ◌≢◌, ℕ, zero, suc, ◌+◌, ◌%◌, ◌≤◌, ◌⊎◌, Bool, true, false, List, [], ◌∷◌, ◌++◌, Option, Some, None, refl, sym, ap, ◌∙◌, subst, inl, inr, arith}
-use Rattle.std.specs.Prelude.{find, length, map, pred, slice_get}
+use Rattle.std.proofs.Common.{◌≡◌, ◌≢◌, ℕ, suc, ◌+◌, ◌%◌, ◌≤◌, ◌⊎◌, Bool, true, false, List, [], ◌∷◌, Option, Some, None, refl, sym, ap, ◌∙◌, subst, inl, inr, arith}
+use Rattle.std.specs.Prelude.{find, length, map, pred}
 use Rattle.st_base.specs.declared.disk.BlockAt.{BlockAt}
 use Rattle.st_base.specs.declared.disk.Command.{Command}
 use Rattle.st_base.specs.declared.disk.Command.TheVariants as commands
@@ -26,7 +26,7 @@ use Rattle.st_rules.specs.World as world
 use Rattle.st_rules.specs.World.{World, ClientSite, clock_of, life_with, numbered, site_of, with_numbered}
 use Rattle.st_lemmas.specs.Lists.{Has}
 use Rattle.st_lemmas.proofs.Lookups.{some_is}
-use Rattle.st_lemmas.proofs.Numbers.{get_below, get_more, length_more, numbered_below, numbered_has, numbered_other, numbered_own}
+use Rattle.st_lemmas.proofs.Numbers.{length_more, numbered_below, numbered_has, numbered_other, numbered_own}
 use Rattle.st_lemmas.proofs.Tables.{same_or_not}
 use Rattle.st_laws_steps.specs.Client.Losses.{Fit, is_ended}
 use Rattle.st_laws_steps.specs.Lives.Lives.{IsKnown, LivesHold, NodeHolds, Once, Pairwise, server_number}
@@ -40,6 +40,7 @@ use Rattle.st_laws_pages.specs.Writes.Writes.{IsListed, ListedSince, OpenHold, W
 use Rattle.st_laws_pages.proofs.Writes.Listing.{write_said}
 use Rattle.st_laws_pages.proofs.Writes.Walking.{AfterStep, EndedBy, ListedAt, StepKeeps, step_keeps}
 use Rattle.st_laws_pages.proofs.Causes.FlushSteps.{flushes_disks}
+use Rattle.st_laws_pages.proofs.Causes.Commands.{at_more}
 
 -- a command that these outputs submit
 pub record IsNew (c : ClientId) (site : ClientSite) (size : ℕ) (os : List Output) (x : IssuedCommand) (d : DiskCommand) : Type 0 where
@@ -61,17 +62,6 @@ pub record Counted (c : ClientId) (site : ClientSite) (size : ℕ) (sc : WorldTu
 
 abbrev pub IsAt : WorldTurn → ℕ → IssuedCommand → DiskCommand → Type 0
 IsAt sc k x d = (numbered sc.world.commands k ≡ Some x) × (disks.command_at sc.world.disks.commands k ≡ Some d)
-
-at_more : (cs : List IssuedCommand) (ds : List DiskCommand) (c x : IssuedCommand) (d y : DiskCommand) (k : ℕ) → length cs ≡ length ds → numbered (cs ++ c ∷ []) k ≡ Some x → disks.command_at (ds ++ d ∷ []) k ≡ Some y →
-    ((numbered cs k ≡ Some x) × (disks.command_at ds k ≡ Some y)) ⊎ ((x ≡ c) × (y ≡ d))
-at_more cs ds c x d y zero n i j = cc
-at_more cs ds c x d y (suc k) n i j = go (get_more cs c k x i) (get_more ds d k y j)
-  where
-    go : (slice_get cs k ≡ Some x) ⊎ ((k ≡ length cs) × (x ≡ c)) → (slice_get ds k ≡ Some y) ⊎ ((k ≡ length ds) × (y ≡ d)) → ((slice_get cs k ≡ Some x) × (slice_get ds k ≡ Some y)) ⊎ ((x ≡ c) × (y ≡ d))
-    go (inl a) (inl b) = inl (a, b)
-    go (inl a) (inr b) = absurd (let z = get_below cs k x a in let q = b.0 in omega (arith, z, q, n))
-    go (inr a) (inl b) = absurd (let z = get_below ds k y b in let q = a.0 in omega (arith, z, q, n))
-    go (inr a) (inr b) = inr (a.1, b.1)
 
 -- one output
 record OneSays (c : ClientId) (site : ClientSite) (size : ℕ) (o : Output) (sc u : WorldTurn) : Type 0 where

@@ -123,7 +123,8 @@ EndedBy input n = ⊥
 same_on : (E : ℕ → Type 0) (a : Association) → FollowsOn E a a
 same_on E a = record { server = refl; life = refl; stays = λ n tag f h. h }
 
-input_keeps : (now : Stamp) (input : ClientInput) (t u : ClientTurn) → Taken t now input u → ((a : Association) → Has a t.state.associations → Fit a) → ((a : Association) → Has a t.state.associations → WritesOnce a) → AllKeep (EndedBy input) t u
+input_keeps : (now : Stamp) (input : ClientInput) (t u : ClientTurn) → Taken t now input u → ((a : Association) → Has a t.state.associations → Fit a) →
+    ((a : Association) → Has a t.state.associations → WritesOnce a) → AllKeep (EndedBy input) t u
 input_keeps now _ t _ k f o = go _ _ k
   where
     at_once : (op : ℕ) (a : AppAnswer) → AllKeep NoneEnds t (cl.answered_at_once t op a)

@@ -40,6 +40,7 @@ use Rattle.st_laws_reads.specs.AllClients.World.{CopiesHold, TakingOwed}
 use Rattle.st_laws_reads.proofs.AllClients.Reading.{known}
 use Rattle.st_laws_reads.proofs.AllClients.Untaken.{others}
 use Rattle.st_laws_reads.proofs.AllClients.Takings.{Takes, keeps, mine_there}
+use Rattle.st_laws_pages.proofs.Causes.HardSeen.{at_both, told_both}
 
 -- what is observed of outputs
 record SeenCarried (v : World) (old : List Observation) (sc : WorldTurn) (new : WorldTurn) : Type 0 where
@@ -47,16 +48,6 @@ record SeenCarried (v : World) (old : List Observation) (sc : WorldTurn) (new : 
   is : new.seen ≡ old ++ more
   right : AtEach IsCarried v sc.world.log more
   told : log_told v sc.world.log more ≡ new.world.log
-
-at_both : (fact : List LogEntry → Observation → Type 0) (w : World) (es : List LogEntry) (os ps : List Observation) → AtEach fact w es os → AtEach fact w (log_told w es os) ps → AtEach fact w es (os ++ ps)
-unfolding AtEach log_told
-at_both fact w es [] ps a b = b
-at_both fact w es (o ∷ os) ps a b = (a.0, at_both fact w (log_behind w es o) os ps a.1 b)
-
-told_both : (w : World) (es : List LogEntry) (os ps : List Observation) → log_told w es (os ++ ps) ≡ log_told w (log_told w es os) ps
-unfolding log_told
-told_both w es [] ps = refl
-told_both w es (o ∷ os) ps = told_both w (log_behind w es o) os ps
 
 module _ (asked : ℕ → Option Ask) (v : World) (c : ClientId) (before : ClientState) where
   seen_one : (last : Option Output) (o : Output) (sc : WorldTurn) → ◌≡◌ {A = ServerId → Life} (present_life v c) (present_life sc.world c) → RightOne asked c (present_life sc.world c) last sc.world.log o → SeenCarried v sc.seen sc (client_says sc c before o)

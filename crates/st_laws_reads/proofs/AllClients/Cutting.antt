@@ -52,7 +52,7 @@ use Rattle.st_laws_reads.proofs.AllClients.Alone.{leased_held, living, z}
 use Rattle.st_laws_reads.proofs.AllClients.ClearPages.{nothing_of}
 
 -- Where a client has an exclusive row, no other client has a lock under a lease that lasts.
-frozen_or_not : (s : net.Server) → Frozen s ⊎ InService s
+pub frozen_or_not : (s : net.Server) → Frozen s ⊎ InService s
 frozen_or_not s = go s.up s.grace refl refl
   where
     go : (u g : Bool) → s.up ≡ u → s.grace ≡ g → Frozen s ⊎ InService s

@@ -1,5 +1,5 @@
 -- Where a write is done and its page was not changed since, the entries of the page in this life are hard.
-use Rattle.std.proofs.Common.{◌≡◌, ℕ, Bool, true, false, ◌&&◌, List, [], ◌∷◌, ◌++◌, ◌==◌, Option, Some, None, refl, sym, ap, ◌∙◌, subst, inl, inr, if◌then◌else◌}
+use Rattle.std.proofs.Common.{◌≡◌, ℕ, Bool, true, false, ◌&&◌, List, [], ◌∷◌, ◌++◌, ◌==◌, Option, Some, None, refl, sym, ap, ◌∙◌, subst}
 use Rattle.std.specs.Prelude.{option_map, unwrap_or}
 use Rattle.std.proofs.lemmas.Bool.{eqb-true, eq-eqb}
 use Rattle.st_base.specs.declared.disk.Command.{Command}
@@ -33,7 +33,6 @@ use Rattle.st_rules.specs.Keys.{same_client, same_server}
 use Rattle.st_rules.specs.Safety.{Step}
 use Rattle.st_rules.specs.World.{World, ClientSite, clock_of, issued_of, life_with, site_of}
 use Rattle.st_lemmas.specs.Lists.{Has}
-use Rattle.st_lemmas.proofs.Lookups.{some_is}
 use Rattle.st_lemmas.proofs.Numbers.{numbered_own}
 use Rattle.st_lemmas.proofs.Tables.{and_both, and_true}
 use Rattle.st_laws_pages.specs.Fates.Fates.{GoneAll, PendingAll}
@@ -54,6 +53,7 @@ use Rattle.st_laws_pages.proofs.Causes.Latest.{success_own}
 use Rattle.st_laws_pages.proofs.Causes.Placed.{Placed, PlacesAt, step_placed}
 use Rattle.st_laws_pages.proofs.Causes.Stepping as stepping
 use Rattle.st_laws_reads.specs.Copies.Copies.{HardOn}
+use Rattle.st_laws_pages.proofs.Flush.Ending.{command_is}
 
 -- Nothing of a page is pending in a life of which nothing is gone: so it is hard.
 abbrev NotOf : ClientId → Association → ℕ → PageNo → LogOwner → Type 0
@@ -113,15 +113,6 @@ page_hard c lives a pc v es live done dirty gone same = hard_on c lives a pc.ino
     go : (o : Option DirtyPage) → pages.dirty_of a.store.pages pc.ino pc.page ≡ o → PendingAll (NotOf c a pc.ino pc.page) es
     go None q = clean_of c a pc.ino pc.page es q dirty
     go (Some d) q = not_of c a pc.ino pc.page es (done d q (sym (same ∙ ap (λ x. unwrap_or (option_map pages.version_of_dirty x) 0) q)))
-
--- the command of a number
-command_is : (cs : List PageCommand) (n : ℕ) (c : PageCommand) → pages.command_of cs n ≡ Some c → Has c cs × (c.number ≡ n)
-command_is [] n c e = cc
-command_is (x ∷ xs) n c e = go (x.number == n) refl e (command_is xs n c)
-  where
-    go : (b : Bool) → (x.number == n) ≡ b → (if b then Some x else pages.command_of xs n) ≡ Some c → (pages.command_of xs n ≡ Some c → Has c xs × (c.number ≡ n)) → Has c (x ∷ xs) × (c.number ≡ n)
-    go true f g r = (inl (sym (some_is g)), ap (λ (y : PageCommand). y.number) (sym (some_is g)) ∙ eqb-true x.number n f)
-    go false f g r = let z = r g in (inr z.0, z.1)
 
 -- An instance that runs is told of its command that is done.
 module _ (past : List Step) (x : Step) (w : World) (size : ℕ) (f : FatesHold w) (pl : PlacesAt size w) (b : BothHold past w) (k : ℕ) (ok : Bool) (d : DiskCommand) (is : disks.command w.disks k ≡ Some d) (done : ok ≡ true → d.effected ≡ true) (happens : x.event ≡ events.Report k ok)

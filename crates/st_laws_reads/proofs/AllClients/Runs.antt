@@ -18,7 +18,8 @@ use Rattle.st_protocol.specs.Assoc.{Config}
 use Rattle.st_lemmas.specs.Lists.{Has}
 use Rattle.st_lemmas.proofs.Steps.{step_happens}
 use Rattle.st_laws_pages.specs.Asks.Law.{PlacesAfter, PlacesHold}
-use Rattle.st_laws_pages.proofs.Causes.Law.{Stand, fresh_places, fresh_stand, numbers_in, one_step, site_is}
+use Rattle.st_laws_pages.proofs.Causes.Law.{Stand, fresh_places, fresh_stand, numbers_in, one_step}
+use Rattle.st_laws_pages.proofs.Disks.Whole.{site_is}
 use Rattle.st_laws_refine.specs.Server.Pair.{terms_of}
 use Rattle.st_laws_leases.specs.Sides.World.{AllStand, There}
 use Rattle.st_laws_leases.proofs.Sides.Beginning.{begun}

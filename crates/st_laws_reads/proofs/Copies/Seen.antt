@@ -29,6 +29,7 @@ use Rattle.st_laws_refine.specs.Client.World.{logged_one}
 use Rattle.st_laws_refine.proofs.Client.World.{told_one, lives_same}
 use Rattle.st_laws_reads.specs.Copies.Copies.{RightOne, RightBehind, Noted, HardRight}
 use Rattle.st_laws_reads.specs.Copies.Law.{IsWritten, AllWritten, StepsAnswerRight}
+use Rattle.st_laws_pages.proofs.Causes.HardSeen.{at_both, told_both}
 
 -- reads and syncs, at an observation
 abbrev Fact : List safety.Step → safety.Step → List LogEntry → Observation → Type 0
@@ -40,16 +41,6 @@ pub record SeenRight (past : List safety.Step) (x : safety.Step) (old : List Obs
   pub is : new.seen ≡ old ++ more
   pub right : AtEach (Fact past x) x.after.world sc.world.log more
   pub log : log_told x.after.world sc.world.log more ≡ new.world.log
-
-at_both : (fact : List LogEntry → Observation → Type 0) (w : World) (es : List LogEntry) (os ps : List Observation) → AtEach fact w es os → AtEach fact w (log_told w es os) ps → AtEach fact w es (os ++ ps)
-unfolding AtEach log_told
-at_both fact w es [] ps a b = b
-at_both fact w es (o ∷ os) ps a b = (a.0, at_both fact w (log_behind w es o) os ps a.1 b)
-
-told_both : (w : World) (es : List LogEntry) (os ps : List Observation) → log_told w es (os ++ ps) ≡ log_told w (log_told w es os) ps
-unfolding log_told
-told_both w es [] ps = refl
-told_both w es (o ∷ os) ps = told_both w (log_behind w es o) os ps
 
 seen_one : (past : List safety.Step) (x : safety.Step) (c : ClientId) (before : ClientState) (last : Option Output) (o : Output) (sc : WorldTurn) → ◌≡◌ {A = ServerId → Life} (present_life x.after.world c) (present_life sc.world c) →
     RightOne (safety.ask_of past x c) c (present_life sc.world c) last sc.world.log o → SeenRight past x sc.seen sc (client_says sc c before o)

@@ -37,5 +37,6 @@ step_lasts c s now input f = go _ _ _ (phased c s now input f)
         going : (a : Association) → Has a t.state.associations → Last a
         going = pairs_has (LostOrNot s.config now) (λ a. Unit {0}) Last (λ a b r z. ongoing_lasts s.config now b.session r.going) s.associations t.state.associations p.lost.pairs (λ a i. tt)
 
-        on : (x y : ClientTurn) (k : Config) → k ≡ s.config → Pairwise (Goes k now) x.state.associations y.state.associations → ((a : Association) → Has a x.state.associations → Last a) → (b : Association) → Has b y.state.associations → Last b
+        on : (x y : ClientTurn) (k : Config) → k ≡ s.config → Pairwise (Goes k now) x.state.associations y.state.associations →
+            ((a : Association) → Has a x.state.associations → Last a) → (b : Association) → Has b y.state.associations → Last b
         on x y k e p h = pairs_has (Goes s.config now) Last Last (λ a b g z. session_lasts s.config now a.session b.session z g.session) x.state.associations y.state.associations (subst (λ z. Pairwise (Goes z now) x.state.associations y.state.associations) e p) h

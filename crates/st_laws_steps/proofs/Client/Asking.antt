@@ -49,7 +49,8 @@ abbrev AskingAt : ClientSession → Store → Option cp.Asking → Type 0
 AskingAt s st None = Unit {0}
 AskingAt s st (Some a) = Wants s st a.wanted
 
-no_map : (s : ClientSession) (st : Store) (body : Body) (own : Bool) → MayAsk s None body → reasserts body ≡ false → map_in body ≡ None → Wants s st (record { body = body; own = own; cut = None })
+no_map : (s : ClientSession) (st : Store) (body : Body) (own : Bool) → MayAsk s None body → reasserts body ≡ false → map_in body ≡ None →
+    Wants s st (record { body = body; own = own; cut = None })
 no_map s st body own i n e = record { new = n; may = i; asks = λ x q. absurd (no x (sym e ∙ q)); cuts = λ c q. absurd (none c q) }
   where
     no : (x : ℕ × PageNo) → ◌≡◌ {A = Option (ℕ × PageNo)} None (Some x) → ⊥
@@ -58,7 +59,8 @@ no_map s st body own i n e = record { new = n; may = i; asks = λ x q. absurd (n
     none : (c : ℕ × PageNo) → ◌≡◌ {A = Option (ℕ × PageNo)} None (Some c) → ⊥
     none c q = cc
 
-if_wants : (s : ClientSession) (st : Store) (b : Bool) (u v : Option cp.Wanted) → (b ≡ true → WantsAt s st u) → (b ≡ false → WantsAt s st v) → WantsAt s st (if b then u else v)
+if_wants : (s : ClientSession) (st : Store) (b : Bool) (u v : Option cp.Wanted) → (b ≡ true → WantsAt s st u) → (b ≡ false → WantsAt s st v) →
+    WantsAt s st (if b then u else v)
 if_wants s st true u v f g = f refl
 if_wants s st false u v f g = g refl
 
@@ -89,7 +91,8 @@ w_block : (t : Turn) (s : ClientSession) (ino : ℕ) (g : GrantNo) (p : PageNo) 
 unfolding cp.want_block
 w_block t s ino g p l = if_wants s t.here.store (pages.is_mapped t.here.store.extents ino p) None _ (λ e. tt) (λ e. no_map s t.here.store (bodies.Allocate ino g p 1) false l refl refl)
 
-w_cut : (t : Turn) (s : ClientSession) (ino : ℕ) (body : Body) (p : PageNo) → MayAsk s (Some ino) body → reasserts body ≡ false → map_in body ≡ None → cuts_from body ≡ Some p → WantsAt s t.here.store (cp.want_cut t ino body p)
+w_cut : (t : Turn) (s : ClientSession) (ino : ℕ) (body : Body) (p : PageNo) → MayAsk s (Some ino) body → reasserts body ≡ false → map_in body ≡ None →
+    cuts_from body ≡ Some p → WantsAt s t.here.store (cp.want_cut t ino body p)
 unfolding cp.want_cut
 w_cut t s ino body p i n m k = if_wants s t.here.store (pages.is_idle t.here.store ino) _ None (λ e. record { new = n; may = i; asks = λ x q. absurd (no x (sym m ∙ q)); cuts = λ c q. (ap (pages.is_idle t.here.store) (sym (ino_is c q)) ∙ e, m, k ∙ ap (λ (z : ℕ × PageNo). Some z.1) (pair_is c q)) }) (λ e. tt)
   where
@@ -107,11 +110,13 @@ exclusive modes.None e = cc
 exclusive modes.S e = cc
 exclusive modes.X e = refl
 
-may_name : (s : ClientSession) (cutting : Option ℕ) (a : NameAsk) (g : GrantNo) → (1 ≤ g.0 → (ino : ℕ) × (cutting ≡ Some ino) × HasExclusive s ino g) → MayAsk s cutting (bodies.Name (cp.name_op a g))
+may_name : (s : ClientSession) (cutting : Option ℕ) (a : NameAsk) (g : GrantNo) → (1 ≤ g.0 → (ino : ℕ) × (cutting ≡ Some ino) × HasExclusive s ino g) →
+    MayAsk s cutting (bodies.Name (cp.name_op a g))
 may_name s o (names.Remove dir x ino) g f = f
 may_name s o a g f = tt
 
-w_held : (t : Turn) (s : ClientSession) (ask : Ask) (ino : ℕ) (l : HeldLock) → locks.lock_of s.locks ino ≡ Some l → covers l.mode (cp.need ask) ≡ true → WantsAt s t.here.store (cp.want_held t ask ino l.g)
+w_held : (t : Turn) (s : ClientSession) (ask : Ask) (ino : ℕ) (l : HeldLock) → locks.lock_of s.locks ino ≡ Some l → covers l.mode (cp.need ask) ≡ true →
+    WantsAt s t.here.store (cp.want_held t ask ino l.g)
 unfolding cp.want_held
 w_held t s (asks.Read f p) ino l e m = w_map t s ino l.g p (l, e, refl)
 w_held t s (asks.Write f p bytes) ino l e m = w_block t s ino l.g p (l, e, refl)
@@ -166,7 +171,8 @@ module _ (now : Stamp) where
   none_some x q = cc
 
   -- a request is sent, by a session that is as the one at hand but for what waits to be sent
-  c_ask : (t : Turn) (s r : ClientSession) (body : Body) (cutting : Option ℕ) → t.here.session ≡ Some s → AsksNothing t.here.store.extents s r → CutsForgotten t.here.store body cutting → IsAsked r cutting body →
+  c_ask : (t : Turn) (s r : ClientSession) (body : Body) (cutting : Option ℕ) → t.here.session ≡ Some s → AsksNothing t.here.store.extents s r →
+      CutsForgotten t.here.store body cutting → IsAsked r cutting body →
       ((x : ℕ × PageNo) → map_in body ≡ Some x → pages.known_of t.here.store.extents x.0 x.1 ≡ None) → C t (cp.ask t r now body cutting)
   unfolding cp.ask send Rattle.st_rules.specs.ClientState.asking
   c_ask t s r body cutting se a c i f =
@@ -174,7 +180,8 @@ module _ (now : Stamp) where
       (one (Says (with_session (cp.asking_session r now body cutting) t) _ tt (SendsRequest (cp.asking_session r now body cutting) (record { number = r.requests.next; body = body; sent = now }) refl refl)))
 
   -- a request that neither cuts a file nor asks where a page lies
-  c_plain : (t : Turn) (s r : ClientSession) (body : Body) → t.here.session ≡ Some s → AsksNothing t.here.store.extents s r → IsAsked r None body → map_in body ≡ None → C t (cp.ask t r now body None)
+  c_plain : (t : Turn) (s r : ClientSession) (body : Body) → t.here.session ≡ Some s → AsksNothing t.here.store.extents s r → IsAsked r None body →
+      map_in body ≡ None → C t (cp.ask t r now body None)
   c_plain t s r body se a i m = c_ask t s r body None se a (λ ino p q c. none_some ino q) i (λ x q. none_some x (sym m ∙ q))
 
   c_alive : (t : Turn) (s : ClientSession) → t.here.session ≡ Some s → s.requests.asked ≡ None → s.due ≡ false → C t (cp.keep_alive t s now)
@@ -182,7 +189,8 @@ module _ (now : Stamp) where
   c_alive t s se n d = if_changes (lease.is_renewing (lease.phase_of t.config s.lease now)) t _ _ (λ e. c_plain t s s bodies.KeepAlive se (alike_stay t.here.store.extents s) (record { free = n; due = sym d; may = tt }) refl) (λ e. Still t)
 
   -- the request of an operation
-  c_ask_for : (t : Turn) (s : ClientSession) (a : cp.Asking) → t.here.session ≡ Some s → s.requests.asked ≡ None → s.due ≡ false → Wants s t.here.store a.wanted → C t (cp.ask_for t s now a)
+  c_ask_for : (t : Turn) (s : ClientSession) (a : cp.Asking) → t.here.session ≡ Some s → s.requests.asked ≡ None → s.due ≡ false →
+      Wants s t.here.store a.wanted → C t (cp.ask_for t s now a)
   unfolding cp.ask_for
   c_ask_for t s a se n d w = both (one (Operates t a.operations)) (go a.wanted.cut refl)
     where

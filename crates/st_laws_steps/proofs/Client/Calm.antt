@@ -71,7 +71,8 @@ Greets {hears} {now} t g = single (IsCalm hears) now t _ (client.Greets t g) tt
 pub TellsLost : {hears : Bool} {now : Stamp} (t : Turn) (lost : List LostPage) → Changes hears now t (with_lost_rows lost t)
 TellsLost {hears} {now} t lost = single (IsCalm hears) now t _ (client.TellsLost t lost) tt
 
-pub Begins : {now : Stamp} (t : Turn) (s : ClientSession) → t.here.session ≡ None → now.0 < (lease.end_of t.config s.lease).0 → IsBegun s → Changes true now t (with_session s t)
+pub Begins : {now : Stamp} (t : Turn) (s : ClientSession) → t.here.session ≡ None → now.0 < (lease.end_of t.config s.lease).0 → IsBegun s →
+    Changes true now t (with_session s t)
 Begins {now} t s a b c = single (IsCalm true) now t _ (client.Begins t s a b c) refl
 
 pub Follows : {now : Stamp} (t : Turn) (s u : ClientSession) → t.here.session ≡ Some s → GoesOn t.here.store s u → Changes true now t (with_session u t)

@@ -110,7 +110,8 @@ next_then now t u v a b =
     }
 
 -- What is known after a row was put.
-known_put : (e : KnownExtent) (xs : List KnownExtent) (ino : ℕ) (p : PageNo) → (b : Bool) → Place_is e.ino e.page ino p ≡ b → pages.known_of (pages.with_known e xs) ino p ≡ (if b then Some e else pages.known_of xs ino p)
+pub known_put : (e : KnownExtent) (xs : List KnownExtent) (ino : ℕ) (p : PageNo) → (b : Bool) → Place_is e.ino e.page ino p ≡ b →
+    pages.known_of (pages.with_known e xs) ino p ≡ (if b then Some e else pages.known_of xs ino p)
 known_put e xs ino p true q =
     let h = one_place e.ino e.page ino p q in
     find_put_by (pages.is_known_of ino p) (pages.is_known_of e.ino e.page) e xs q (λ y z. subst (λ j. Place_is y.ino y.page j e.page ≡ true) (sym h.0) (subst (λ r. Place_is y.ino y.page ino r ≡ true) (sym h.1) z))
@@ -186,7 +187,8 @@ failed_found i r n ino p (x ∷ xs) d e = go (pages.is_dirty_of ino p x) refl (f
         (z.0, ap (λ b. if b then Some x else find (pages.is_dirty_of ino p) xs) f ∙ z.1)
 
 -- What fits stays so.
-mapped_learn : (e : KnownExtent) (xs : List KnownExtent) (ino : ℕ) (p : PageNo) → (e.mapping ≡ None → pages.known_of xs e.ino e.page ≡ None) → pages.is_mapped xs ino p ≡ true → pages.is_mapped (pages.with_known e xs) ino p ≡ true
+pub mapped_learn : (e : KnownExtent) (xs : List KnownExtent) (ino : ℕ) (p : PageNo) → (e.mapping ≡ None → pages.known_of xs e.ino e.page ≡ None) →
+    pages.is_mapped xs ino p ≡ true → pages.is_mapped (pages.with_known e xs) ino p ≡ true
 mapped_learn e xs ino p h m = go (Place_is e.ino e.page ino p) refl
   where
     none : is_some (pages.mapping_at None) ≡ true → ⊥

@@ -162,7 +162,8 @@ finish_more now number result t = go (finish_is now number result t)
 quiet_all : (k : Config) (now : Stamp) (t u : ClientTurn) → More Quiet t.out u.out → NotedAll k now t u
 quiet_all k now t u m = record { more = m.more; out = m.out; noted = quiet_as (IsChangedAt k now u.state.associations) m.more m.is }
 
-input_noted : (now : Stamp) (input : ClientInput) (t u : ClientTurn) → Taken t now input u → ((a : Association) → Has a t.state.associations → Fit a) → NotedAll t.state.config now t u
+input_noted : (now : Stamp) (input : ClientInput) (t u : ClientTurn) → Taken t now input u → ((a : Association) → Has a t.state.associations → Fit a) →
+    NotedAll t.state.config now t u
 input_noted now _ t _ (taking.Nothing i) f = quiet_all t.state.config now t t (quiet_none t.out)
 input_noted now _ t _ (taking.Full op ask e) f = quiet_all t.state.config now t (cl.answered_at_once t op answers.OpsFull) (quiet_answer t.out op answers.OpsFull)
 input_noted now _ t _ (taking.Unknown op ask e g) f = quiet_all t.state.config now t (cl.answered_at_once t op answers.NoFile) (quiet_answer t.out op answers.NoFile)
@@ -175,7 +176,8 @@ unfolding at_these
 losses_quiet now [] t = quiet_none t.out
 losses_quiet now (a ∷ al) t = quiet_then t.out (leave t (cl.lose now (enter t a))).out _ (lose_quiet now (enter t a)) (losses_quiet now al (leave t (cl.lose now (enter t a))))
 
-pub pair_has : (R : Association → Association → Type 0) (al bl : List Association) → Pairwise R al bl → (a : Association) → Has a al → (b : Association) × Has b bl × R a b
+pub pair_has : (R : Association → Association → Type 0) (al bl : List Association) → Pairwise R al bl → (a : Association) → Has a al →
+    (b : Association) × Has b bl × R a b
 pair_has R [] bl p a h = absurd h
 pair_has R (x ∷ al) [] p a h = absurd p
 pair_has R (x ∷ al) (y ∷ bl) p a (inl e) = (y, inl refl, subst (λ z. R z y) (sym e) p.one)

@@ -108,7 +108,8 @@ pub changes : {syncs : List Operation} {asks : Part} {now : Stamp} {t u : Turn} 
 changes {syncs} {asks} {now} {t} {u} c = all (IsPassing syncs asks) now t u c
 
 -- what may answer fewer syncs, and ask less, may more
-pub wider : (os syncs : List Operation) (a asks : Part) {now : Stamp} {t u : Turn} → ((o : Operation) → Has o os → Has o syncs) → (KeepsIn a → KeepsIn asks) → (AsksIn a → AsksIn asks) → Changes os a now t u → Changes syncs asks now t u
+pub wider : (os syncs : List Operation) (a asks : Part) {now : Stamp} {t u : Turn} → ((o : Operation) → Has o os → Has o syncs) → (KeepsIn a → KeepsIn asks) →
+    (AsksIn a → AsksIn asks) → Changes os a now t u → Changes syncs asks now t u
 wider os syncs a asks {now} {t} {u} f k g cs = lifted (IsPassing os a) (IsPassing syncs asks) now one t u cs
   where
     answer : (v : Turn) (op : ℕ) (x : AppAnswer) → AnswersRight os v op x → AnswersRight syncs v op x
@@ -151,10 +152,12 @@ Still t = Ends t
 pub one : {syncs : List Operation} {asks : Part} {now : Stamp} {t u : Turn} → Changes syncs asks now t u → Changes syncs asks now t u
 one c = c
 
-pub both : {syncs : List Operation} {asks : Part} {now : Stamp} {t u v : Turn} → Changes syncs asks now t u → Changes syncs asks now u v → Changes syncs asks now t v
+pub both : {syncs : List Operation} {asks : Part} {now : Stamp} {t u v : Turn} → Changes syncs asks now t u → Changes syncs asks now u v →
+    Changes syncs asks now t v
 both {syncs} {asks} {now} {t} {u} {v} a b = joined (IsPassing syncs asks) now t u v a b
 
-pub if_changes : {syncs : List Operation} {asks : Part} {now : Stamp} (b : Bool) (t u v : Turn) → (b ≡ true → Changes syncs asks now t u) → (b ≡ false → Changes syncs asks now t v) → Changes syncs asks now t (if b then u else v)
+pub if_changes : {syncs : List Operation} {asks : Part} {now : Stamp} (b : Bool) (t u v : Turn) → (b ≡ true → Changes syncs asks now t u) →
+    (b ≡ false → Changes syncs asks now t v) → Changes syncs asks now t (if b then u else v)
 if_changes true t u v f g = f refl
 if_changes false t u v f g = g refl
 
@@ -167,30 +170,38 @@ Operates {syncs} {asks} {now} t os = single (IsPassing syncs asks) now t _ (clie
 pub Greets : {syncs : List Operation} {asks : Part} {now : Stamp} (t : Turn) (g : Option Stamp) → Changes syncs asks now t (with_greeted g t)
 Greets {syncs} {asks} {now} t g = single (IsPassing syncs asks) now t _ (client.Greets t g) tt
 
-pub Follows : {syncs : List Operation} {asks : Part} {now : Stamp} (t : Turn) (s u : ClientSession) → t.here.session ≡ Some s → (g : GoesOn t.here.store s u) → FollowsBy asks t.here.store s u g.how → Changes syncs asks now t (with_session u t)
+pub Follows : {syncs : List Operation} {asks : Part} {now : Stamp} (t : Turn) (s u : ClientSession) → t.here.session ≡ Some s → (g : GoesOn t.here.store s u) →
+    FollowsBy asks t.here.store s u g.how → Changes syncs asks now t (with_session u t)
 Follows {syncs} {asks} {now} t s u e g q = single (IsPassing syncs asks) now t _ (client.Follows t s u e g) q
 
-pub Forgets : {syncs : List Operation} {asks : Part} {now : Stamp} (t : Turn) (ino : ℕ) (p : PageNo) → pages.is_idle t.here.store ino ≡ true → Changes syncs asks now t (with_store (pages.forget_from t.here.store ino p) t)
+pub Forgets : {syncs : List Operation} {asks : Part} {now : Stamp} (t : Turn) (ino : ℕ) (p : PageNo) → pages.is_idle t.here.store ino ≡ true →
+    Changes syncs asks now t (with_store (pages.forget_from t.here.store ino p) t)
 Forgets {syncs} {asks} {now} t ino p i = single (IsPassing syncs asks) now t _ (client.Forgets t ino p i) tt
 
-pub Caches : {syncs : List Operation} {asks : Part} {now : Stamp} (t : Turn) (clean : List CleanPage) → ((y : CleanPage) → Has y clean → Has y t.here.store.pages.clean) → Changes syncs asks now t (with_store (record t.here.store { pages = record t.here.store.pages { clean = clean } }) t)
+pub Caches : {syncs : List Operation} {asks : Part} {now : Stamp} (t : Turn) (clean : List CleanPage) →
+    ((y : CleanPage) → Has y clean → Has y t.here.store.pages.clean) →
+    Changes syncs asks now t (with_store (record t.here.store { pages = record t.here.store.pages { clean = clean } }) t)
 Caches {syncs} {asks} {now} t clean q = single (IsPassing syncs asks) now t _ (client.Caches t clean) q
 
-pub Writes : {syncs : List Operation} {asks : Part} {now : Stamp} (t : Turn) (s : ClientSession) (f : FileId) (p : PageNo) (bytes : List ℕ) (n : Note) → t.here.session ≡ Some s → is_serving t.config s now ≡ true →
+pub Writes : {syncs : List Operation} {asks : Part} {now : Stamp} (t : Turn) (s : ClientSession) (f : FileId) (p : PageNo) (bytes : List ℕ) (n : Note) →
+    t.here.session ≡ Some s → is_serving t.config s now ≡ true →
     f.server ≡ t.here.server → pages.is_mapped t.here.store.extents f.ino p ≡ true → ChangesPage f p n → Uncut t f.ino →
     Changes syncs asks now t (passes.with_pages_changed (pages.written t.here.store.pages f.ino p bytes) f.ino p (note t n))
 Writes {syncs} {asks} {now} t s f p bytes n se sv own m h q = single (IsPassing syncs asks) now t _ (client.Writes t s f p bytes n se sv own m h) q
 
-pub Reads : {syncs : List Operation} {asks : Part} {now : Stamp} (t : Turn) (ino : ℕ) (p : PageNo) (m : MappedBlock) → pages.mapping_of t.here.store.extents ino p ≡ Some m → pages.dirty_of t.here.store.pages ino p ≡ None → Uncut t ino →
+pub Reads : {syncs : List Operation} {asks : Part} {now : Stamp} (t : Turn) (ino : ℕ) (p : PageNo) (m : MappedBlock) →
+    pages.mapping_of t.here.store.extents ino p ≡ Some m → pages.dirty_of t.here.store.pages ino p ≡ None → Uncut t ino →
     Changes syncs asks now t (passes.submit_read t ino p m)
 Reads {syncs} {asks} {now} t ino p m i clean q = single (IsPassing syncs asks) now t _ (client.Reads t ino p m i clean) q
 
-pub Submits : {syncs : List Operation} {asks : Part} {now : Stamp} (t : Turn) (s : ClientSession) (ino : ℕ) (p : PageNo) (d : DirtyPage) (m : MappedBlock) → t.here.session ≡ Some s → pages.dirty_of t.here.store.pages ino p ≡ Some d →
+pub Submits : {syncs : List Operation} {asks : Part} {now : Stamp} (t : Turn) (s : ClientSession) (ino : ℕ) (p : PageNo) (d : DirtyPage) (m : MappedBlock) →
+    t.here.session ≡ Some s → pages.dirty_of t.here.store.pages ino p ≡ Some d →
     pages.mapping_of t.here.store.extents d.ino d.page ≡ Some m → pages.is_being_written t.here.store.commands d.ino d.page ≡ false → Changes syncs asks now t (passes.submit_write t d m)
 Submits {syncs} {asks} {now} t s ino p d m se e i w = single (IsPassing syncs asks) now t _ (client.Submits t s ino p d m se e i w) tt
 
 pub k_keep : {syncs : List Operation} {asks : Part} {now : Stamp} (t : Turn) (o : Operation) → Changes syncs asks now t (keep o t)
 k_keep t o = Operates t (t.operations ++ o ∷ [])
 
-pub k_answer : {syncs : List Operation} {asks : Part} {now : Stamp} (t : Turn) (op : ℕ) (a : AppAnswer) → AnswersRight syncs t op a → Changes syncs asks now t (answered t op a)
+pub k_answer : {syncs : List Operation} {asks : Part} {now : Stamp} (t : Turn) (op : ℕ) (a : AppAnswer) → AnswersRight syncs t op a →
+    Changes syncs asks now t (answered t op a)
 k_answer t op a q = Says t (outputs.Answer op a) tt q

@@ -93,7 +93,8 @@ module _ (Q : ServerId → ℕ → Option ClientSession → Type 0) where
     pub k_session : (t : Turn) (s r : ClientSession) → t.here.session ≡ Some s → AsksNothing t.here.store.extents s r → K t (with_session r t)
     k_session t s r e a h = alike t.here.store.extents t.here.server t.here.life.0 s r a (subst (Q t.here.server t.here.life.0) e h)
 
-    keeps : (server : ServerId) (life : ℕ) (st : Store) (s u : ClientSession) (c : SessionChange st s u) → FollowsBy OnlyKeeps st s u c → Q server life (Some s) → Q server life (Some u)
+    keeps : (server : ServerId) (life : ℕ) (st : Store) (s u : ClientSession) (c : SessionChange st s u) → FollowsBy OnlyKeeps st s u c →
+        Q server life (Some s) → Q server life (Some u)
     keeps server life st s u (Keeps _ _ a) q h = alike st.extents server life s u a h
     keeps server life st s _ (DropsLock _ ino l) q h = absurd q
     keeps server life st s _ (IsReasserted _) q h = absurd q

@@ -373,7 +373,8 @@ step_lives c s now input f = go _ _ _ (phased c s now input f)
 abbrev pub StaysChanged : Config → Stamp → Association → Association → Type 0
 StaysChanged k now a b = (f : FileId) (p : PageNo) → IsChanged k now a f p → IsChanged k now b f p
 
-pub changes_last : (c : ClientId) (s : ClientState) (now : Stamp) (input : ClientInput) (t u : ClientTurn) → Phased c s now t u (cl.work u now input) → Pairwise (StaysChanged s.config now) u.state.associations (cl.work u now input).state.associations
+pub changes_last : (c : ClientId) (s : ClientState) (now : Stamp) (input : ClientInput) (t u : ClientTurn) → Phased c s now t u (cl.work u now input) →
+    Pairwise (StaysChanged s.config now) u.state.associations (cl.work u now input).state.associations
 unfolding cl.work no_rows
 changes_last c s now input t u r =
     (each Fit (StaysChanged s.config now) no_rows (λ os. []) (cp.passes now (cl.is_tick input)) u (λ x q p. one u.state.config (sym (r.lost.config ∙ r.heard.config)) x _ q (changes_dirty now x _ (c_passes now (cl.is_tick input) x))) r.fit_too).pairs

@@ -36,7 +36,8 @@ taken t now (inputs.Control m) = go (m.header.to == t.state.id.0) refl
     go false e = Nothing (inputs.Control m)
 taken t now (inputs.Done number result) = Finishes number result
 
-these : (P Q : Association → Type 0) (rule : Turn → Turn) → ((t : Turn) → P t.here → Q (rule t).here) → (al : List Association) (t : ClientTurn) → Each Q t.state.associations → Each P al → Each Q (at_these rule al t).state.associations
+these : (P Q : Association → Type 0) (rule : Turn → Turn) → ((t : Turn) → P t.here → Q (rule t).here) → (al : List Association) (t : ClientTurn) →
+    Each Q t.state.associations → Each P al → Each Q (at_these rule al t).state.associations
 unfolding at_these
 these P Q rule k [] t h g = h
 these P Q rule k (a ∷ al) t h g = these P Q rule k al (leave t (rule (enter t a))) (λ b i. one b (has_append t.state.associations ((rule (enter t a)).here ∷ []) b i)) (λ b i. g b (inr i))
@@ -46,12 +47,14 @@ these P Q rule k (a ∷ al) t h g = these P Q rule k al (leave t (rule (enter t 
     one b (inr (inl e)) = subst Q (sym e) (k (enter t a) (g a (inl refl)))
     one b (inr (inr i)) = absurd i
 
-pub each : (P Q : Association → Type 0) (rule : Turn → Turn) → ((t : Turn) → P t.here → Q (rule t).here) → (t : ClientTurn) → Each P t.state.associations → Each Q (at_each rule t).state.associations
+pub each : (P Q : Association → Type 0) (rule : Turn → Turn) → ((t : Turn) → P t.here → Q (rule t).here) → (t : ClientTurn) → Each P t.state.associations →
+    Each Q (at_each rule t).state.associations
 unfolding at_each
 each P Q rule k t h = these P Q rule k t.state.associations (with_associations [] t) (λ a i. absurd i) h
 
 -- a fact of each association behind an input, where a message that is heard tells what its rule needs
-pub each_taken : (P : Association → Type 0) (T : Message → Association → Type 0) (now : Stamp) → ((s : ServerId) (op : ℕ) (ask : Ask) (u : Turn) → P u.here → P (only_at s (cl.take_ask op ask) u).here) →
+pub each_taken : (P : Association → Type 0) (T : Message → Association → Type 0) (now : Stamp) →
+    ((s : ServerId) (op : ℕ) (ask : Ask) (u : Turn) → P u.here → P (only_at s (cl.take_ask op ask) u).here) →
     ((m : Message) (u : Turn) → P u.here → T m u.here → P (cr.receive_at now m.header m.body u).here) →
     ((number : ℕ) (r : Option (Option (Tag × List ℕ))) (u : Turn) → P u.here → P (cl.finish number r u).here) →
     (t u : ClientTurn) (input : ClientInput) → Taken t now input u → ((m : Message) → input ≡ inputs.Control m → (m.header.to == t.state.id.0) ≡ true → Each (T m) t.state.associations) →

@@ -102,7 +102,8 @@ pub data SessionChange (st : Store) : ClientSession → ClientSession → Type 0
   -- the server's epoch is a newer one
   NewEpoch : (s : ClientSession) (epoch : Epoch) → s.epoch.0 < epoch.0 → SessionChange st s (replies.in_epoch epoch s)
   -- a new request is asked
-  AsksNew : (s r : ClientSession) (now : Stamp) (body : Body) (cutting : Option ℕ) → AsksNothing st.extents s r → CutsForgotten st body cutting → IsAsked r cutting body →
+  AsksNew : (s r : ClientSession) (now : Stamp) (body : Body) (cutting : Option ℕ) → AsksNothing st.extents s r → CutsForgotten st body cutting →
+      IsAsked r cutting body →
       SessionChange st s (passes.asking_session r now body cutting)
   -- the outstanding request is asked again
   AsksAgain : (s : ClientSession) (now : Stamp) (q : Request) → s.requests.asked ≡ Some q → SessionChange st s (passes.again_session s now q)
