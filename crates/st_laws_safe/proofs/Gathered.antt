@@ -7,6 +7,7 @@ use Rattle.st_laws_extents.proofs.EveryRun.Law as whole
 use Rattle.st_laws_lines.proofs.Faults.{faults_law}
 use Rattle.st_laws_lines.proofs.Law.{counts_law}
 use Rattle.st_laws_reports.proofs.Losses.{losses_law}
+use Rattle.st_laws_cuts.proofs.Law as asked
 
 pub every_run : EveryRunIsSafe
 every_run k clients servers disks blocks form es head events =
@@ -32,6 +33,7 @@ every_run k clients servers disks blocks form es head events =
       held = whole.held k clients servers disks blocks form es head events;
       faults = faults_law k clients servers disks blocks form es head;
       counts = counts_law k clients servers disks blocks form es head;
+      cuts = asked.law k clients servers disks blocks form es head events;
     }
 
 pub all_promised : IsAllPromised

@@ -31,6 +31,7 @@ use Rattle.st_rules.specs.Safety.{
 use Rattle.st_rules.specs.History.{traced}
 use Rattle.st_rules.specs.World.{World, fresh_world}
 use Rattle.st_promises.specs.Counts.{TheCountsAreTrue, counts_open}
+use Rattle.st_promises.specs.CutAsks.{CutsAreAsked}
 use Rattle.st_promises.specs.Faults.{FaultsHaveACause}
 use Rattle.st_promises.specs.Held.{DisksHoldWhatIsHard, held_open}
 use Rattle.st_promises.specs.Losses.{LossesAreTold, losses_open}
@@ -57,6 +58,7 @@ pub record IsSafe (xs : List Step) : Type 0 where
   pub held : Throughout DisksHoldWhatIsHard [] xs
   pub faults : Throughout FaultsHaveACause [] xs
   pub counts : Throughout TheCountsAreTrue [] xs
+  pub cuts : Throughout CutsAreAsked [] xs
 
 -- a run from the world of a head
 abbrev pub IsSafeRun : World → List Event → Type 0

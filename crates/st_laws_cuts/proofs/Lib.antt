@@ -1,0 +1,10 @@
+pub mod Counts
+pub mod Losing
+pub mod Owning
+pub mod Client
+pub mod Step
+pub mod Words
+pub mod Alive
+pub mod Events
+pub mod World
+pub mod Law
