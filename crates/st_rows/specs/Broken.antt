@@ -52,6 +52,7 @@ use Rattle.st_rules.specs.Safety.{
   ExpiredLeasesEmptyClients,
   TheHistoryIsTheWorlds,
 }
+use Rattle.st_promises.specs.CutAsks.{CutsAreAsked}
 use Rattle.st_promises.specs.Faults.{FaultsHaveACause}
 use Rattle.st_promises.specs.Held.{DisksHoldWhatIsHard}
 use Rattle.st_promises.specs.Losses.{LossesAreTold}
@@ -94,6 +95,7 @@ pub record IsKeptBut (ns : List ℕ) (past : List Step) (x : Step) : Type 0 wher
   pub held : unless ns 18 (DisksHoldWhatIsHard past x)
   pub faults : unless ns 19 (FaultsHaveACause past x)
   pub numbers : unless ns 20 (LinesGiveTheNextNumbers past x)
+  pub cuts : unless ns 21 (CutsAreAsked past x)
 
 -- A run in which a client writes a page, its lease is dated from a request that was sent at 400 and answered at 450, and an
 -- ask follows.
@@ -306,7 +308,14 @@ abbrev pub written_by : ℕ → World → World
 written_by n w = record w { log = accept w.log (c n) (life 1) (on 1 2) (page 0) (filled 5) }
 
 abbrev pub cut_once : World → World
-cut_once w = record w { log = cut_log w.log (on 1 3) (page 0) }
+cut_once w = record w { log = cut_log w.log (on 1 2) (page 0) }
+
+-- no server has a row
+abbrev pub rowless : ServerNode → ServerNode
+rowless n = record n { state = record n.state { locks = record n.state.locks { rows = [] } } }
+
+abbrev pub without_rows : World → World
+without_rows w = record w { servers = map rowless w.servers }
 
 -- it is later than every lease end
 abbrev pub at_last : World → World
@@ -429,8 +438,22 @@ written_without_a_lock = writes_again 2 1 2 4294967297
 unfoldable pub written_under_a_lesser_grant : Step
 written_under_a_lesser_grant = writes_again 1 3 2 4294967296
 
+-- a file is cut while a client has it alone
+abbrev pub cuts_after : Event → Step
+cuts_after e = seeing (cut 2 1 2 0 ∷ []) (recalling (with_grant (on 1 2) (g 4294967297)) (leaving cut_once (still (here e))))
+
 unfoldable pub cut_without_a_lock : Step
-cut_without_a_lock = seeing (cut 2 1 3 0 ∷ []) (recalling (with_grant (on 1 3) (g 4294967298)) (leaving cut_once (still (here reading))))
+cut_without_a_lock = leaving without_rows (cuts_after cutting)
+
+unfoldable pub cut_and_not_asked : Step
+cut_and_not_asked = cuts_after reading
+
+unfoldable pub cut_as_asked : Step
+cut_as_asked = cuts_after cutting
+
+-- the ask was answered before
+unfoldable pub past_answered : List Step
+past_answered = past cutting ++ seeing (answered 1 2 answers.NotHolder ∷ []) (still (here cutting)) ∷ []
 
 -- a step at a lease's end
 abbrev pub late : Step → Step
@@ -482,5 +505,5 @@ unfoldable pub counted_and_not_told : Step
 counted_and_not_told = leaving one_theft (still (here reading))
 
 unfoldable pub broken_open : ⊤
-unfolding safe_words_open prepared past here met past_met here_met lost_run past_lost here_lost past_cut stale_read beside_a_lock beside_a_held_lock dropped_without_a_crash dropped_by_another_command dropped_without_a_report hard_no_more hard_too_early stolen_early stolen_as_another_life dated_from_the_arrival replied_behind_a_timer grace_too_short grace_never_begun conflict_sent hard_and_pending hard_twice written_and_not_logged cut_and_not_logged written_under_another_number written_and_not_answered answered_twice written_without_a_lock written_under_a_lesser_grant cut_without_a_lock kept_after_the_end submitted_after_the_end read_after_the_end timer_unknown timer_without_a_suspect date_unknown grant_unknown loss_not_told loss_told_in_part told_and_not_lost hard_and_not_held fault_without_a_report full_without_operations told_and_not_sent counted_and_not_told
+unfolding safe_words_open prepared past here met past_met here_met lost_run past_lost here_lost past_cut stale_read beside_a_lock beside_a_held_lock dropped_without_a_crash dropped_by_another_command dropped_without_a_report hard_no_more hard_too_early stolen_early stolen_as_another_life dated_from_the_arrival replied_behind_a_timer grace_too_short grace_never_begun conflict_sent hard_and_pending hard_twice written_and_not_logged cut_and_not_logged written_under_another_number written_and_not_answered answered_twice written_without_a_lock written_under_a_lesser_grant cut_without_a_lock cut_and_not_asked cut_as_asked past_answered kept_after_the_end submitted_after_the_end read_after_the_end timer_unknown timer_without_a_suspect date_unknown grant_unknown loss_not_told loss_told_in_part told_and_not_lost hard_and_not_held fault_without_a_report full_without_operations told_and_not_sent counted_and_not_told
 broken_open = tt

@@ -24,6 +24,7 @@ use Rattle.st_rules.specs.Safety.{
   TheHistoryIsTheWorlds,
 }
 use Rattle.st_rules.specs.World.{World}
+use Rattle.st_promises.specs.CutAsks.{CutsAreAsked}
 use Rattle.st_promises.specs.Faults.{FaultsHaveACause}
 use Rattle.st_promises.specs.Held.{DisksHoldWhatIsHard}
 use Rattle.st_promises.specs.Losses.{LossesAreTold}
@@ -53,6 +54,7 @@ pub record AreKept (xs : List Step) : Type 0 where
   pub held : Throughout DisksHoldWhatIsHard [] xs
   pub faults : Throughout FaultsHaveACause [] xs
   pub numbers : Throughout LinesGiveTheNextNumbers [] xs
+  pub cuts : Throughout CutsAreAsked [] xs
 
 -- a run from a world
 abbrev pub IsKeptRun : World → List Event → Type 0

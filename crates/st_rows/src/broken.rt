@@ -1,9 +1,10 @@
 ghost use Rattle.std.specs.Prelude.{◌∷◌, []};
 ghost use Rattle.st_promises.specs.Counts.{TheCountsAreTrue};
+ghost use Rattle.st_promises.specs.CutAsks.{CutsAreAsked};
 ghost use Rattle.st_promises.specs.Faults.{FaultsHaveACause};
 ghost use Rattle.st_promises.specs.Held.{DisksHoldWhatIsHard};
 ghost use Rattle.st_promises.specs.Losses.{LossesAreTold};
-ghost use Rattle.st_rows.specs.Broken.{IsKeptBut, answered_twice, beside_a_held_lock, beside_a_lock, conflict_sent, counted_and_not_told, cut_and_not_logged, cut_without_a_lock, cutting, date_unknown, dated_from_the_arrival, dropped_by_another_command, dropped_without_a_crash, dropped_without_a_report, fault_without_a_report, full_without_operations, grace_never_begun, grace_too_short, grant_unknown, hard_and_not_held, hard_and_pending, hard_no_more, hard_too_early, hard_twice, kept_after_the_end, loss_not_told, loss_told_in_part, past, past_cut, past_lost, past_met, read_after_the_end, reading, replied_behind_a_timer, stale_read, stolen_as_another_life, stolen_early, submitted_after_the_end, syncing, timer_unknown, timer_without_a_suspect, told_and_not_lost, told_and_not_sent, writing, written_and_not_answered, written_and_not_logged, written_under_a_lesser_grant, written_under_another_number, written_without_a_lock};
+ghost use Rattle.st_rows.specs.Broken.{IsKeptBut, answered_twice, beside_a_held_lock, beside_a_lock, conflict_sent, counted_and_not_told, cut_and_not_asked, cut_and_not_logged, cut_as_asked, cut_without_a_lock, cutting, date_unknown, dated_from_the_arrival, dropped_by_another_command, dropped_without_a_crash, dropped_without_a_report, fault_without_a_report, full_without_operations, grace_never_begun, grace_too_short, grant_unknown, hard_and_not_held, hard_and_pending, hard_no_more, hard_too_early, hard_twice, kept_after_the_end, loss_not_told, loss_told_in_part, past, past_answered, past_cut, past_lost, past_met, read_after_the_end, reading, replied_behind_a_timer, stale_read, stolen_as_another_life, stolen_early, submitted_after_the_end, syncing, timer_unknown, timer_without_a_suspect, told_and_not_lost, told_and_not_sent, writing, written_and_not_answered, written_and_not_logged, written_under_a_lesser_grant, written_under_another_number, written_without_a_lock};
 ghost use Rattle.st_rules.specs.Safety.{AnswersAreLogged, AsksAreAnsweredOnce, ChangesAreLocked, ChangesGoInTheOrderOfLocks, DirtyPagesStandAlone, DropsHaveACause, ExpiredLeasesEmptyClients, GraceWaits, HardIsHard, HardStaysHard, LeasesAreDatedFromRequests, NoConflictIsSent, ReadsReturnLastWrites, TheHistoryIsTheWorlds, TheReportTellsTheLog, TheftsComeLate};
 
 /// A page that is dirty while another client has a row of its file.
@@ -174,11 +175,11 @@ pub fn a_write_without_a_lock_is_refused()
     ensures kept { IsKeptBut (13 ∷ []) (past reading) written_without_a_lock }
 {}
 
-/// A cut of a file on which the server has no exclusive row.
+/// A cut of a file on which the server has no row any more.
 #[tactic(auto, unfolding(crate::specs::Broken::broken_open))]
 pub fn a_cut_without_a_lock_is_refused()
-    ensures broken { ¬ ChangesAreLocked (past reading) cut_without_a_lock }
-    ensures kept { IsKeptBut (13 ∷ []) (past reading) cut_without_a_lock }
+    ensures broken { ¬ ChangesAreLocked (past cutting) cut_without_a_lock }
+    ensures kept { IsKeptBut (13 ∷ []) (past cutting) cut_without_a_lock }
 {}
 
 /// A write that is accepted under a lesser grant number than the one before it.
@@ -291,4 +292,19 @@ pub fn a_line_without_its_message_is_refused()
 pub fn a_theft_without_a_line_is_refused()
     ensures broken { ¬ TheCountsAreTrue (past reading) counted_and_not_told }
     ensures kept { IsKeptBut (20 ∷ []) (past reading) counted_and_not_told }
+{}
+
+/// A cut that nobody asked, of a file that a client has alone.
+#[tactic(auto, unfolding(crate::specs::Broken::broken_open))]
+pub fn a_cut_that_is_not_asked_is_refused()
+    ensures broken { ¬ CutsAreAsked (past reading) cut_and_not_asked }
+    ensures kept { IsKeptBut (21 ∷ []) (past reading) cut_and_not_asked }
+{}
+
+/// A cut whose ask was answered before, with a refusal. Before that answer it is no fault.
+#[tactic(auto, unfolding(crate::specs::Broken::broken_open))]
+pub fn a_cut_that_was_refused_is_refused()
+    ensures broken { ¬ CutsAreAsked past_answered cut_as_asked }
+    ensures kept { IsKeptBut (21 ∷ []) past_answered cut_as_asked }
+    ensures before { IsKeptBut [] (past cutting) cut_as_asked }
 {}

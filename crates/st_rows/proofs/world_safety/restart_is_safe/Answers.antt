@@ -30,4 +30,5 @@ returns c =
       held = (tt, (tt, (tt, (tt, (tt, ((through (filled 0) refl refl, tt), ((through (filled 0) refl refl, (through (filled 0) refl refl, tt)), ((through (filled 0) refl refl, (through (filled 0) refl refl, tt)), ((through (filled 0) refl refl, (through (filled 0) refl refl, tt)), ((through (filled 0) refl refl, (through (filled 0) refl refl, tt)), ((through (filled 0) refl refl, (through (filled 0) refl refl, tt)), ((through (filled 0) refl refl, (through (filled 0) refl refl, tt)), ((through (filled 0) refl refl, (through (filled 0) refl refl, tt)), ((through (filled 0) refl refl, (through (filled 0) refl refl, tt)), ((through (filled 0) refl refl, (through (filled 0) refl refl, tt)), ((through (filled 0) refl refl, (through (filled 0) refl refl, tt)), ((through (filled 0) refl refl, (through (filled 0) refl refl, tt)), ((through (filled 0) refl refl, (through (filled 0) refl refl, tt)), ((through (filled 0) refl refl, (through (filled 0) refl refl, tt)), ((through (filled 0) refl refl, (through (filled 0) refl refl, tt)), ((through (filled 0) refl refl, (through (filled 0) refl refl, tt)), ((through (filled 0) refl refl, (through (filled 0) refl refl, tt)), tt))))))))))))))))))))));
       faults = (refl, (refl, (refl, (refl, (refl, (refl, (refl, (refl, (refl, (refl, (refl, (refl, (refl, (refl, (refl, (refl, (refl, (refl, (refl, (refl, (refl, (refl, tt))))))))))))))))))))));
       numbers = (record { messages = refl; commands = refl; told = refl; counts = refl }, (record { messages = refl; commands = refl; told = refl; counts = refl }, (record { messages = refl; commands = refl; told = refl; counts = refl }, (record { messages = refl; commands = refl; told = refl; counts = refl }, (record { messages = refl; commands = refl; told = refl; counts = refl }, (record { messages = refl; commands = refl; told = refl; counts = refl }, (record { messages = refl; commands = refl; told = refl; counts = refl }, (record { messages = refl; commands = refl; told = refl; counts = refl }, (record { messages = refl; commands = refl; told = refl; counts = refl }, (record { messages = refl; commands = refl; told = refl; counts = refl }, (record { messages = refl; commands = refl; told = refl; counts = refl }, (record { messages = refl; commands = refl; told = refl; counts = refl }, (record { messages = refl; commands = refl; told = refl; counts = refl }, (record { messages = refl; commands = refl; told = refl; counts = refl }, (record { messages = refl; commands = refl; told = refl; counts = refl }, (record { messages = refl; commands = refl; told = refl; counts = refl }, (record { messages = refl; commands = refl; told = refl; counts = refl }, (record { messages = refl; commands = refl; told = refl; counts = refl }, (record { messages = refl; commands = refl; told = refl; counts = refl }, (record { messages = refl; commands = refl; told = refl; counts = refl }, (record { messages = refl; commands = refl; told = refl; counts = refl }, (record { messages = refl; commands = refl; told = refl; counts = refl }, tt))))))))))))))))))))));
+      cuts = (refl, (refl, (refl, (refl, (refl, (refl, (refl, (refl, (refl, (refl, (refl, (refl, (refl, (refl, (refl, (refl, (refl, (refl, (refl, (refl, (refl, (refl, tt))))))))))))))))))))));
     }
