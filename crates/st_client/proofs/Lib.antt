@@ -26,3 +26,4 @@ pub mod Servers
 pub mod Resting
 pub mod Running
 pub mod Sleeping
+pub mod Restoring

@@ -27,7 +27,7 @@ use Rattle.st_client.specs.Nodes.{IsKept, IsNode, RunsAs, crashed_at, crashed_cl
 use Rattle.st_client.specs.Room.{HasRoom}
 use Rattle.st_client.specs.Sound.{AreSound, IsSound}
 
-known_from : (xs : List Association) → AreSound xs → list_all is_server (map server_at xs) ≡ true
+pub known_from : (xs : List Association) → AreSound xs → list_all is_server (map server_at xs) ≡ true
 known_from [] h = refl
 known_from (a ∷ xs) h = and_from (is_server a.server) (list_all is_server (map server_at xs)) h.0.server (known_from xs h.1)
 

@@ -1,5 +1,5 @@
 -- A node between steps: what always stands of it, and what a crash leaves.
-use Rattle.std.specs.Prelude.{◌≡◌, ℕ, ◌≤◌, Bool, true, false, if◌then◌else◌, nat_lt, ◌^◌, List, [], ◌∷◌, ◌++◌, length, map, Option, Some, None, is_some, Ok, ⊤}
+use Rattle.std.specs.Prelude.{◌≡◌, ℕ, ◌≤◌, Bool, true, false, if◌then◌else◌, nat_lt, nat_le, ◌^◌, List, [], ◌∷◌, ◌++◌, length, map, Option, Some, None, is_some, Ok, ⊤}
 use Rattle.std.specs.List.{list_all}
 use Rattle.st_client_association.specs.Associations.{ClientAssociation}
 use Rattle.st_base.specs.Config.{check}
@@ -9,9 +9,10 @@ use Rattle.st_base.specs.declared.ids.Life.{Life}
 use Rattle.st_base.specs.declared.ids.ServerId.{ServerId}
 use Rattle.st_messages.specs.Kinds.{between}
 use Rattle.st_rules.specs.declared.world.LeaseLife.{LeaseLife}
-use Rattle.st_rules.specs.Client.{ClientNode, association_of, life_of_association}
+use Rattle.st_rules.specs.Client.{ClientNode, association_of, fresh_association, life_of_association}
 use Rattle.st_rules.specs.ClientInvariants.{is_below}
 use Rattle.st_rules.specs.ClientState.{Association, ClientState}
+use Rattle.st_rules.specs.Extents.{numbers}
 use Rattle.st_rules.specs.Keys.{same_server}
 use Rattle.st_client.specs.declared.parts.ClientParts.{ClientParts}
 use Rattle.st_client.specs.Sound.{IsSound}
@@ -58,6 +59,14 @@ crashed_at [] ls = []
 crashed_at (s ∷ ss) [] = []
 crashed_at (s ∷ ss) (l ∷ ls) = association_of l s ∷ crashed_at ss ls
 
+-- the servers from 1 to this number
+abbrev pub servers_to : ℕ → List ServerId
+servers_to n = map server_at (map fresh_association (numbers 1 n))
+
+-- a life that began
+abbrev pub is_begun : Life → Bool
+is_begun l = nat_le 1 l.0
+
 -- the life at a server
 abbrev pub life_in : List ServerId → List Life → ServerId → Life
 life_in [] ls server = record { 0 = 0 }
@@ -73,6 +82,10 @@ crashed_lives c (s ∷ ss) (l ∷ ls) = record { client = c; server = s; life = 
 -- what a crash leaves of a client
 abbrev pub crashed_client : ClientId → Config → List ServerId → List Life → ClientState
 crashed_client id config servers lives = record { id = id; config = config; associations = crashed_at servers lives; operations = []; next_command = 1 }
+
+-- a node that crashed in these lives, one at each of the servers from 1 on
+abbrev pub crashed_node : ClientId → Config → List Life → ClientNode
+crashed_node id config lives = record { state = crashed_client id config (servers_to (length lives)) lives; running = false }
 
 -- the state of a node that runs, and of one that does not
 abbrev pub state_of : ClientId → Config → List ServerId → List Life → Option ClientState → ClientState

@@ -52,6 +52,16 @@ pub(crate) fn push_crashed(
     }
 }
 
+/// A copy of these lives, with room for as many.
+pub(crate) fn copied(alloc: Global, lives: &[Life]) -> Result<Vec<Life>, AllocError>
+    ensures copy { IfOk result (λ v. v.items ≡ lives.now) }
+    ensures room { IfOk result (λ v. length lives.now ≤ vec_capacity v) }
+{
+    let mut copy = Vec::with_capacity(alloc, lives.len())?;
+    copy.extend_from_slice(lives)?;
+    Ok(copy)
+}
+
 /// A client in the next life at each of these servers.
 pub(crate) fn started(
     alloc: Global,

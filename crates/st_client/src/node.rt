@@ -1,17 +1,18 @@
 // A client of a world: it runs, or it is crashed.
-ghost use Rattle.std.specs.Prelude.{◌≡◌, ◌≤◌, ◌^◌, ◌++◌, true, false, IsOk, IfOk, OnOk, OnErr, IsTrue, ◌↔◌};
+ghost use Rattle.std.specs.Prelude.{◌≡◌, ◌≤◌, ◌^◌, ◌++◌, true, false, length, IsOk, IfOk, OnOk, OnErr, IsTrue, ◌↔◌};
 ghost use Rattle.std.specs.List.{list_all};
 ghost use Rattle.st_base.specs.Config as settings;
 ghost use Rattle.st_base.specs.declared.ids.ServerId.{ServerId};
 ghost use Rattle.st_client.specs.Discarding.{Discards, IsOver};
 ghost use Rattle.st_client.specs.Ends.{end_in};
 ghost use Rattle.st_client.specs.Inputs.{comes_fit, is_sent, Runs, Steps};
+ghost use Rattle.st_client.specs.Nodes.{crashed_node, is_begun};
 ghost use Rattle.st_client.specs.Room.{HasRoom};
 ghost use Rattle.st_rules.specs.Client as client;
 ghost use Rattle.st_rules.specs.World as world;
 
 use crate::ends::LeaseEnds;
-use crate::lives::{are_low, life_among, push_crashed, started};
+use crate::lives::{are_low, copied, life_among, push_crashed, started};
 use crate::state::State;
 use st_base::{ClientId, Config, Life, ServerId, Stamp};
 use st_messages::{Outputs, StepFault};
@@ -68,6 +69,34 @@ impl ClientNode {
             servers,
             lives,
             state: Some(state),
+        })
+    }
+
+    /// A client that crashed in these lives, one at each server, the first at server 1. Each is at least 1. It does not run, and `start`
+    /// begins its next lives. `id` is from 1 to 16, and there are at most four servers.
+    pub fn restore(
+        alloc: Global,
+        id: ClientId,
+        config: &Config,
+        lives: &[Life],
+    ) -> Result<ClientNode, AllocError>
+        requires checked { IsOk (settings.check config.now) }
+        requires client { 1 ≤ id.0 }
+        requires clients { id.0 ≤ 16 }
+        requires servers { length lives.now ≤ 4 }
+        requires begun { list_all is_begun lives.now ≡ true }
+        ensures { IfOk result (λ n. n ≡ crashed_node id config.now lives.now) }
+    {
+        let state = State::fresh(alloc, id, config, lives.len() as u16)?;
+        let servers = state.servers()?;
+        let lives = copied(alloc, lives)?;
+        Ok(ClientNode {
+            alloc,
+            id,
+            config: *config,
+            servers,
+            lives,
+            state: None,
         })
     }
 

@@ -49,8 +49,8 @@ fn own_input(message: Message) -> ClientInput
     }
 }
 
-/// The input of a client that the message is.
-fn input_of(message: Message) -> Option<ClientInput>
+/// The input of a client that the message is, where it is one.
+pub fn input_of(message: Message) -> Option<ClientInput>
     requires { fits message ≡ true }
     ensures exact { result ≡ runs.client_input message }
     ensures fits { IfSome result (λ i. comes_fit i ≡ true) }
@@ -117,8 +117,8 @@ fn put_output(out: &mut Vec<u8>, id: ClientId, output: &Output) -> Result<(), Al
     }
 }
 
-/// Appends the frames of these outputs, in order.
-fn put_outputs(out: &mut Vec<u8>, id: ClientId, outputs: &[Output]) -> Result<(), AllocError>
+/// Appends the frames of a client's outputs, in order. An error leaves any bytes behind those that were there.
+pub fn put_outputs(out: &mut Vec<u8>, id: ClientId, outputs: &[Output]) -> Result<(), AllocError>
     requires { list_all is_sent outputs.now ≡ true }
     ensures { OnOk result (out.new.items ≡ out.old.items ++ flat_map (runs.client_frame id) outputs.now) }
 {

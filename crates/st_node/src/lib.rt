@@ -9,7 +9,9 @@ mod node;
 mod server;
 mod serving;
 
+pub use client::{input_of as client_input_of, put_outputs as put_client_outputs};
 pub use fault::NodeFault;
 pub use law::whole_frames_run_through;
 pub use node::Node;
+pub use server::{input_of as server_input_of, put_outputs as put_server_outputs};
 pub use serving::serve;

@@ -17,8 +17,8 @@ use st_rules::ServerInput;
 use st_server::ServerNode;
 use std::alloc::AllocError;
 
-/// The input of a server that the message is.
-fn input_of(message: Message) -> Option<ServerInput>
+/// The input of a server that the message is, where it is one.
+pub fn input_of(message: Message) -> Option<ServerInput>
     requires { fits message ≡ true }
     ensures exact { result ≡ runs.server_input message }
     ensures fits { IfSome result (λ i. comes_fit i ≡ true) }
@@ -41,8 +41,8 @@ fn put_output(out: &mut Vec<u8>, output: &Output) -> Result<(), AllocError>
     }
 }
 
-/// Appends the frames of these outputs, in order.
-fn put_outputs(out: &mut Vec<u8>, outputs: &[Output]) -> Result<(), AllocError>
+/// Appends the frames of a server's outputs, in order. An error leaves any bytes behind those that were there.
+pub fn put_outputs(out: &mut Vec<u8>, outputs: &[Output]) -> Result<(), AllocError>
     requires { list_all is_sent outputs.now ≡ true }
     ensures { OnOk result (out.new.items ≡ out.old.items ++ flat_map runs.server_frame outputs.now) }
 {
