@@ -1,5 +1,6 @@
 mod Bounds
 mod Bytes
+mod InChunks
 mod Lifts
 mod Locked
 mod Loops

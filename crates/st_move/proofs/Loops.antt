@@ -21,15 +21,6 @@ past [] (suc p) h = refl
 past (x ∷ xs) zero h = absurd (omega arith)
 past (x ∷ xs) (suc p) h = past xs p (omega arith)
 
--- which records leave
-pub leaving_next : (l : Locks) (p : ℕ) (rs : List (Option ContainerRecord)) (d : Option ContainerRecord) → p < length rs → leaving_from l p (drop p rs) ≡ leaves l (p + 1) (get_or rs p d) ∷ leaving_from l (p + 1) (drop (p + 1) rs)
-unfolding leaving_from
-leaving_next l p rs d h = ap (leaving_from l p) (drop-cons rs p d h) ∙ ap (λ n. leaves l (p + 1) (get_or rs p d) ∷ leaving_from l (p + 1) (drop n rs)) (one_more p)
-
-pub leaving_end : (l : Locks) (p : ℕ) (rs : List (Option ContainerRecord)) → length rs ≤ p → leaving_from l p (drop p rs) ≡ []
-unfolding leaving_from
-leaving_end l p rs h = ap (leaving_from l p) (past rs p h)
-
 pub leaving_length : (l : Locks) (p : ℕ) (rs : List (Option ContainerRecord)) → length (leaving_from l p rs) ≡ length rs
 unfolding leaving_from
 leaving_length l p [] = refl
@@ -77,11 +68,6 @@ next_at p rs d h e =
     let f : list_all has_next (get_or rs p d ∷ drop (suc p) rs) ≡ true = sym (ap (list_all has_next) (drop-cons rs p d h)) ∙ e in
     let g : (has_next (get_or rs p d) ≡ true) × (list_all has_next (drop (suc p) rs) ≡ true) = and_true (has_next (get_or rs p d)) (list_all has_next (drop (suc p) rs)) f in
     (g.0, subst (λ n. list_all has_next (drop n rs) ≡ true) (one_more p) g.1)
-
-pub next_one : (p : ℕ) (rs : List (Option ContainerRecord)) (d : Option ContainerRecord) → p < length rs → list_all has_next rs ≡ true → has_next (get_or rs p d) ≡ true
-next_one p [] d h e = absurd (omega arith)
-next_one zero (r ∷ rs) d h e = (and_true (has_next r) (list_all has_next rs) e).0
-next_one (suc p) (r ∷ rs) d h e = next_one p rs d (omega arith) (and_true (has_next r) (list_all has_next rs) e).1
 
 -- how containers begin
 pub beginnings_next : (s : ServerId) (servers p n : ℕ) → p < n → beginnings s servers p (n - p) ≡ beginning s servers p ∷ beginnings s servers (p + 1) (n - (p + 1))

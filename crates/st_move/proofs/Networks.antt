@@ -23,7 +23,7 @@ use Rattle.st_move.specs.declared.refusal.MoveRefusal.{MoveRefusal}
 use Rattle.st_move.specs.declared.refusal.MoveRefusal.TheVariants as refusals
 use Rattle.st_move.specs.declared.site.MoveSite.{MoveSite}
 use Rattle.st_move.specs.declared.world.MoveAnswer.{MoveAnswer}
-use Rattle.st_move.specs.declared.world.MoveAnswer.TheVariants.{Done, Counted, Listed, Refused, NoServer, NoLock, NoMessage, LostMessage, Sends}
+use Rattle.st_move.specs.declared.world.MoveAnswer.TheVariants.{Done, Listed, Refused, NoServer, NoLock, NoMessage, LostMessage, Sends}
 use Rattle.st_move.specs.declared.world.MoveEvent.{MoveEvent}
 use Rattle.st_move.specs.declared.world.SentMove.{SentMove}
 use Rattle.st_move.specs.Calls.{Answers, Counts, count_at}
@@ -78,11 +78,6 @@ refused_does : (old : MoveSite) (new : Containers) (e : MoveRefusal) (a : MoveAn
     → told w (Refused e) ≡ told (with_site s (with_containers old new) w) a
 refused_does old new e a w s n r i =
     told_same w s old (Refused e) i ∙ ap (λ m. told (with_site s (with_containers old m) w) (Refused e)) (sym n) ∙ ap (told (with_site s (with_containers old new) w)) (sym r.0)
-
-pub put_ok : (old : MoveSite) (new : Containers) (c : ℕ) (u : List ℕ) (n : ℕ) → Counts (count_at c) old.containers new (Ok n) (after_put old.containers c u)
-    → DoesAt old (with_containers old new) (Counted n) (λ w s. put_at w s c u (Some old))
-unfolding put_at put_told
-put_ok old new c u n h w s i = ap (put_told w s old c) h.0 ∙ ap (λ k. told (with_site s (with_containers old new) w) (Counted k)) (sym h.1)
 
 pub put_err : (old : MoveSite) (new : Containers) (c : ℕ) (u : List ℕ) (e : MoveRefusal) (a : MoveAnswer) → Counts (count_at c) old.containers new (Err e) (after_put old.containers c u) → Refuses e a
     → DoesAt old (with_containers old new) a (λ w s. put_at w s c u (Some old))
@@ -164,13 +159,6 @@ release_some l new c g m b can e f =
     let u : is_under first g k.0 ≡ true = and_both (k.0.life.0 == 1) (k.0.g.0 == g.0) (ap (λ z. z.0 == 1) (can.releases c k.0 k.1.0)) (ap (λ z. k.0.g.0 == z.0) k.1.1 ∙ same_number k.0.g.0) in
     let p : released l one first c g modes.None ≡ release l one c modes.None = ap (released_at l one first c g modes.None) k.1.0 ∙ if_true (is_under first g k.0) _ _ u in
     (ap is_some k.1.0, ap (λ (z : Released). z.locks) (sym f ∙ p))
-
-pub release_none : (l : Locks) (c : ℕ) → None ≡ locks.told (row_of l one c) → has_lock l c ≡ false
-release_none l c e = go (row_of l one c) e
-  where
-    go : (o : Option LockRow) → None ≡ locks.told o → is_some o ≡ false
-    go None i = refl
-    go (Some r) i = cc
 
 -- From one server to all.
 pub each_ok : {A E : Type 0} (P Q : A → Type 0) (r : Result A E) → ((a : A) → P a → Q a) → IfOk r P → IfOk r Q
@@ -264,14 +252,6 @@ take_there w m p old new messages sent answers e f n i k a =
 pub deliver_none : (w : MoveWorld) (k : ℕ) → numbered w.sent k ≡ None → deliver_at w k (numbered w.sent k) ≡ told w (NoMessage k)
 unfolding deliver_at
 deliver_none w k e = ap (deliver_at w k) e
-
-pub deliver_lost : (w : MoveWorld) (k p : ℕ) (m : SentMove) → k ≡ p + 1 → slice_get w.sent p ≡ Some m → m.lost ≡ true → deliver_at w k (numbered w.sent k) ≡ told w (LostMessage k)
-unfolding deliver_at
-deliver_lost w k p m e f l = ap (deliver_at w k) (numbered_at w.sent k p m e f) ∙ if_true m.lost _ _ l
-
-pub deliver_taken : (w : MoveWorld) (k p : ℕ) (m : SentMove) → k ≡ p + 1 → slice_get w.sent p ≡ Some m → m.lost ≡ false → deliver_at w k (numbered w.sent k) ≡ taken_by w m (numbered w.sites m.to.0)
-unfolding deliver_at
-deliver_taken w k p m e f l = ap (deliver_at w k) (numbered_at w.sent k p m e f) ∙ if_false m.lost _ _ l
 
 pub lose_none : (w : MoveWorld) (k : ℕ) → numbered w.sent k ≡ None → lose_at w k (numbered w.sent k) ≡ told w (NoMessage k)
 unfolding lose_at

@@ -91,11 +91,6 @@ order_says m c to = go (held_says m c)
         by (inl e) = inr (refusals.Same, ap (λ o. changed m c (ordered m.server to o)) h.2 ∙ ap (changed m c) (cond_true (same_server to m.server) _ _ e.0))
         by (inr e) = inl (h.0, h.1, e.1, ap (λ o. changed m c (ordered m.server to o)) h.2 ∙ ap (changed m c) (cond_false (same_server to m.server) _ _ e.0))
 
--- Ticks: the record of each container is sent on, or stays.
-leaves_is : (l : Locks) (c : ℕ) (o : Option ContainerRecord) → leaves l c o ≡ leaves_if (is_locked l c) o
-leaves_is l c None = refl
-leaves_is l c (Some r) = refl
-
 -- what becomes of the record at a place
 abbrev sent_at : Locks → ℕ → Option ContainerRecord → Option ContainerRecord
 sent_at l c o = sent_if (leaves l c o) o

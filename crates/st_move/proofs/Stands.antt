@@ -102,14 +102,6 @@ module _ (w : MoveWorld) (s : ℕ) (x y : MoveSite) (ms : List SentMove) (e : nu
           let old : IsSite containers s x = all s x e in
           subst (IsSite containers z) k (record { whole = l ∙ old.whole; own = ap (λ v. v.0) q ∙ old.own ∙ sym i })
 
--- messages that are not of the container are heard
-heard_other : (c d v : ℕ) (rec : Records) (top : ℕ) (accepted : List (List ℕ)) (m : SentMove) → d ≢ c → container_of m.message ≡ d → (kept : _) → IsHeard c rec top accepted kept m.to m.message
-heard_other c d v rec top accepted m n e kept = go m.message e
-  where
-    go : (message : MoveMessage) → container_of message ≡ d → IsHeard c rec top accepted kept m.to message
-    go (Image b u us) f = λ g. absurd (n (sym f ∙ g))
-    go (Taken b u) f = λ g. absurd (n (sym f ∙ g))
-
 -- the accepted updates of this container, and of another
 pub accepts_own : (accepted : ℕ → List (List ℕ)) (c : ℕ) (u : List ℕ) → accepts accepted c u c ≡ accepted c ++ u ∷ []
 accepts_own accepted c u = go (eqb_tells c c)

@@ -1,8 +1,8 @@
 pub mod Calls
+pub mod Chunks
 pub mod Conditions
 pub mod Containers
 pub mod Law
 pub mod Network
-pub mod Script
 pub mod Updates
 pub mod World

@@ -2,6 +2,7 @@
 //! `docs/PROTOCOL.md`, "A container moves by order", has the rules.
 #![tactic(auto)]
 
+mod chunks;
 mod mover;
 mod network;
 mod parts;
@@ -9,6 +10,7 @@ mod record;
 mod refusal;
 mod site;
 mod ticks;
+mod update;
 mod updates;
 mod world;
 
@@ -20,7 +22,8 @@ pub use network::MoveNetwork;
 pub use record::{ContainerRecord, MoveMessage, Standing};
 pub use refusal::MoveRefusal;
 pub use site::MoveSite;
-pub use updates::{Update, Updates};
+pub use update::Update;
+pub use updates::Updates;
 pub use world::{MoveAnswer, MoveEvent, SentMove};
 
 /// Whatever is put, ordered, locked, delivered, lost or repeated: at most one server holds a container; what a list is answered

@@ -7,7 +7,7 @@ ghost use Rattle.st_rules.specs.World.{numbered};
 
 use crate::record::MoveMessage;
 use crate::site::MoveSite;
-use crate::updates::Update;
+use crate::update::Update;
 use crate::world::{MoveAnswer, MoveEvent, SentMove};
 use st_base::ServerId;
 use std::alloc::{AllocError, Global};

@@ -10,7 +10,7 @@ ghost use Rattle.st_move.specs.World as worlds;
 use crate::mover::Mover;
 use crate::record::MoveMessage;
 use crate::refusal::MoveRefusal;
-use crate::updates::Update;
+use crate::update::Update;
 use crate::world::MoveAnswer;
 use st_base::{ClientId, Epoch, Life, Mode, ServerId};
 use st_locks::{LockRefusal, LockTable};

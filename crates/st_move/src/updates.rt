@@ -1,66 +1,20 @@
 // The updates of a container.
-ghost use Rattle.std.specs.Prelude.{◌≡◌, ◌≤◌, ◌<◌, ◌++◌, ◌∷◌, [], IfOk, Some, length, slice_get, true};
+ghost use Rattle.std.specs.Prelude.{◌≡◌, ◌≤◌, ◌<◌, [], IfOk, Some, length, slice_get, true};
 ghost use Rattle.std.specs.List.{list_all};
 ghost use Rattle.st_move.specs.Updates as updates;
 ghost use Rattle.st_move.specs.Calls.{Adds};
 
+use crate::chunks::UpdateList;
 use crate::refusal::MoveRefusal;
+use crate::update::Update;
 use std::alloc::{AllocError, Global};
 use std::marker::Model;
-use std::rc::Rc;
 
-/// An update of a container: 1 to 139 bytes, which its copies share. Contracts see it as the list of these bytes.
-#[derive(Drop)]
-pub struct Update {
-    bytes: Rc<Vec<u8>>,
-}
-
-impl Model for Update {
-    ghost use Rattle.std.specs.Prelude.{◌≡◌, List, ℕ, true};
-    ghost use Rattle.st_move.specs.Updates.{is_update};
-
-    ghost Value = { List ℕ };
-
-    ghost view = { λ u. u.bytes.value.items };
-
-    ghost invariant = { λ u. is_update u.bytes.value.items ≡ true };
-}
-
-impl Update {
-    /// Makes an update of a copy of these bytes, which are 1 to 139.
-    pub fn from_slice(alloc: Global, bytes: &[u8]) -> Result<Update, AllocError>
-        requires { updates.is_update bytes.now ≡ true }
-        ensures { IfOk result (λ u. u ≡ bytes.now) }
-    {
-        let bytes = Vec::from_slice(alloc, bytes)?;
-        Ok(Update {
-            bytes: Rc::new(alloc, bytes)?,
-        })
-    }
-
-    /// Returns the bytes.
-    pub fn as_slice(&self) -> &[u8]
-        ensures bytes { result.now ≡ self.now }
-        ensures length { updates.is_update self.now ≡ true }
-    {
-        self.bytes.as_slice()
-    }
-
-    /// Returns a copy of the update. It copies no bytes and allocates nothing.
-    pub fn copy(&self) -> Result<Update, AllocError>
-        ensures { IfOk result (λ u. u ≡ self.now) }
-    {
-        Ok(Update {
-            bytes: self.bytes.clone()?,
-        })
-    }
-}
-
-/// The updates of a container, in the order in which they were accepted: at most 60,000 bytes together. Contracts see them
-/// as a list of lists of bytes.
+/// The updates of a container, in the order in which they were accepted: at most 60,000 bytes together. Copies share almost all
+/// of them. Contracts see them as a list of lists of bytes.
 #[derive(Drop)]
 pub struct Updates {
-    items: Vec<Update>,
+    items: UpdateList,
     bytes: u32,
 }
 
@@ -70,9 +24,9 @@ impl Model for Updates {
 
     ghost Value = { List (List ℕ) };
 
-    ghost view = { λ u. u.items.items };
+    ghost view = { λ u. u.items };
 
-    ghost invariant = { λ u. AreUpdates u.items.items × (u.bytes ≡ bytes_of u.items.items) };
+    ghost invariant = { λ u. AreUpdates u.items × (u.bytes ≡ bytes_of u.items) };
 }
 
 impl Updates {
@@ -81,18 +35,22 @@ impl Updates {
         ensures { result ≡ [] }
     {
         Updates {
-            items: Vec::new(alloc),
+            items: UpdateList::new(alloc),
             bytes: 0,
         }
     }
 
-    /// Makes updates of these, which have at most 60,000 bytes together. It takes no memory, and time for a look at each.
+    /// Makes updates of these, which have at most 60,000 bytes together. It takes no memory, and time for a look at each. What it
+    /// makes is not shared: a copy of it copies a pointer for each update. Copies of that copy share it.
     pub fn from_vec(items: Vec<Update>) -> Updates
         requires { updates.bytes_of items.items ≤ updates.most_bytes }
         ensures { result ≡ items.items }
     {
         let bytes = total(items.as_slice());
-        Updates { items, bytes }
+        Updates {
+            items: UpdateList::from_vec(items),
+            bytes,
+        }
     }
 
     /// Returns the number of updates, at most 60,000.
@@ -110,7 +68,7 @@ impl Updates {
         requires { i < length self.now }
         ensures { slice_get self.now i ≡ Some result.now }
     {
-        &self.items[i]
+        self.items.get(i)
     }
 
     /// Returns the number of bytes of all updates, at most 60,000.
@@ -134,32 +92,21 @@ impl Updates {
         if bytes > 60_000 {
             return Err(MoveRefusal::Full(bytes as u64));
         }
-        let update = Update::from_slice(*self.items.allocator(), update)?;
+        let update = Update::from_slice(self.items.alloc(), update)?;
         self.items.push(update)?;
         self.bytes = bytes;
         Ok(self.len() as u32)
     }
 
-    /// Returns a copy of the updates.
+    /// Returns a copy of the updates. It takes constant time: a copy of at most 32 pointers, and more only of what `from_vec` made.
     pub fn copy(&self) -> Result<Updates, AllocError>
         ensures { IfOk result (λ us. us ≡ self.now) }
     {
-        let items = copies(*self.items.allocator(), self.items.as_slice())?;
         Ok(Updates {
-            items,
+            items: self.items.copy()?,
             bytes: self.bytes,
         })
     }
-}
-
-fn copies(alloc: Global, items: &[Update]) -> Result<Vec<Update>, AllocError>
-    ensures { IfOk result (λ v. v.items ≡ items.now) }
-{
-    let mut copies = Vec::new(alloc);
-    for item in items {
-        copies.push(item.copy()?)?;
-    }
-    Ok(copies)
 }
 
 /// The number of bytes of these updates.

@@ -2,7 +2,8 @@ ghost use Rattle.std.specs.Prelude.{◌≡◌, IfOk};
 
 use crate::record::MoveMessage;
 use crate::refusal::MoveRefusal;
-use crate::updates::{Update, Updates};
+use crate::update::Update;
+use crate::updates::Updates;
 use st_base::ServerId;
 use std::alloc::AllocError;
 

@@ -1,5 +1,5 @@
 use Rattle.std.proofs.Common.{◌≡◌, take}
-use Rattle.st_move.proofs.updates.copies.Given as goal
+use Rattle.st_move.proofs.chunks.copies.Given as goal
 
 abbrev pub invariant-loop-item : goal.invariant-loop-item
 invariant-loop-item l = l.copies.items ≡ take l.item-index l.items
