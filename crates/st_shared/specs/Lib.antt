@@ -3,4 +3,3 @@ pub mod Shared
 pub mod Calls
 pub mod History
 pub mod Reporting
-pub mod Script

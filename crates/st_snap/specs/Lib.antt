@@ -1,6 +1,5 @@
 pub mod Changes
 pub mod Images
 pub mod Slots
-pub mod Script
 pub mod Versions
 pub mod Volumes
