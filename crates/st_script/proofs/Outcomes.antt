@@ -1,7 +1,7 @@
 -- What was written, next to the outcome of a script.
-use Rattle.std.proofs.Common.{◌≡◌, ℕ, ◌+◌, List, [], ◌∷◌, ◌++◌, length, take, drop, sym, ◌∙◌, ap, subst, arith, append-nil, take-append-drop}
-use Rattle.std.specs.Prelude.{Option, Some, None, Result, Ok, Err, IfSome, ⊤}
-use Rattle.std.specs.Io.KnownBytes.{Appends, Consumes, IsAtEnd}
+use Rattle.std.proofs.Common.{◌≡◌, ℕ, ◌+◌, List, [], ◌∷◌, ◌++◌, length, take, drop, sym, ◌∙◌, ap, subst, arith, take-append-drop}
+use Rattle.std.specs.Prelude.{Option, Some, None, Result, Ok, Err, ⊤}
+use Rattle.std.specs.Io.KnownBytes.{Appends}
 use Rattle.std.proofs.KnownBytes.{Appends-nil, Appends-trans}
 use Rattle.std.proofs.Math.Seq.{take-append_seam}
 use Rattle.std.proofs.lemmas.List.{append_assoc}
@@ -12,7 +12,7 @@ use Rattle.st_script.specs.declared.fault.ScriptFault.{ScriptFault}
 use Rattle.st_script.specs.declared.fault.ScriptFault.TheVariants as faults
 use Rattle.st_script.specs.Scripts.{Ending, Outcome, Rules, Stopped, Whole, answer_lines, behind, begun, ended, first_line, headed_lines, play_from, read_line, stopped, stopped_text, whole, with_read}
 use Rattle.st_script.specs.Ends.{IsNoLine, IsWhole, Refuses, Reports, Writes}
-use Rattle.st_script.specs.Playing.{Goes, IsOfReading}
+use Rattle.st_script.specs.Playing.{Goes}
 
 -- Fronts.
 
@@ -55,18 +55,6 @@ last_written : {State Event : Type 0} (holds : State → Type 0) (rules : Rules 
     Writes r before now (rules.last done s) → Reports holds r before now (whole rules done s)
 last_written holds rules done s (Ok u) before now there h = (there, h)
 last_written holds rules done s (Err e) before now there h = last_fault holds e before now (whole rules done s) h.0 h.1
-
--- nothing follows the line `end`
-pub last_reports : {State Event : Type 0} (holds : State → Type 0) (rules : Rules State Event) (done line : ℕ) (s : State) (bytes : List ℕ) (r : Result Unit ScriptFault)
-    (before now : Option (List ℕ)) → bytes ≡ [] → holds s → Writes r before now (rules.last done s) → Reports holds r before now (ended rules done line s (lines_of bytes))
-last_reports holds rules done line s bytes r before now none there h =
-    subst (λ x. Reports holds r before now (ended rules done line s (lines_of x))) (sym none) (last_written holds rules done s r before now there h)
-
--- a line follows it
-pub more_reports : {State Event : Type 0} (holds : State → Type 0) (rules : Rules State Event) (done line : ℕ) (s : State) (bytes l : List ℕ) (ls : List (List ℕ)) (e : ScriptFault)
-    (before now : Option (List ℕ)) → lines_of bytes ≡ l ∷ ls → Refuses e (line + 1) before now → Reports holds (Err e) before now (ended rules done line s (lines_of bytes))
-more_reports holds rules done line s bytes l ls e before now more h =
-    subst (λ x. Reports holds (Err e) before now (ended rules done line s x)) (sym more) (refused_reports holds e (line + 1) before now h)
 
 -- what is reported behind a text that was written
 behind_reports : {State : Type 0} (holds : State → Type 0) (r : Result Unit ScriptFault) (before mid now : Option (List ℕ)) (t : List ℕ) (o : Outcome State) →
@@ -172,28 +160,7 @@ one_more holds after rules done first before mid now line rest o event is g h th
           ∙ g.goes.goes;
     }
 
--- nothing was played
-pub unplayed : {State Event : Type 0} (holds : State → Type 0) (rules : Rules State Event) (first : ℕ) (before : Option (List ℕ)) (ls : List (List ℕ)) (s : State) → holds s →
-    Goes holds rules 0 first before before ls (play_from rules 0 first s ls)
-unplayed holds rules first before ls s there =
-    let number : first + 0 ≡ first = omega arith in
-    record { state = s; stands = there; written = []; wrote = Appends-nil before; goes = ap (λ n. behind [] (play_from rules 0 n s ls)) number }
-
 -- All that a source held.
-
-pub all_read : (left now : Option (List ℕ)) (bytes : List ℕ) (P : List ℕ → Type 0) → Consumes left now bytes → IsAtEnd now → P bytes → IfSome left P
-all_read None now bytes P took end p = tt
-all_read (Some x) None bytes P took end p = absurd took
-all_read (Some x) (Some y) bytes P took end p = subst P (sym (took ∙ ap (λ z. bytes ++ z) end ∙ append-nil bytes)) p
-
--- a read that failed
-pub unread_reports : {State : Type 0} (holds : State → Type 0) (e : ScriptFault) (left before : Option (List ℕ)) (o : List ℕ → Outcome State) → IsOfReading e →
-    IfSome left (λ bytes. Reports holds (Err e) before before (o bytes))
-unread_reports holds e None before o h = tt
-unread_reports holds faults.Read (Some x) before o h = unwritten before _
-unread_reports holds faults.Memory (Some x) before o h = unwritten before _
-unread_reports holds (faults.Line n) (Some x) before o h = absurd h
-unread_reports holds faults.Write (Some x) before o h = absurd h
 
 -- First lines.
 

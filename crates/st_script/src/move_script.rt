@@ -1,4 +1,4 @@
-ghost use Rattle.std.specs.Prelude.{◌≡◌, ◌++◌, ◌∷◌, [], List, ℕ, OnOk, ⊤, IfSome, codes, flat_map, map};
+ghost use Rattle.std.specs.Prelude.{◌≡◌, ◌++◌, ◌∷◌, [], OnOk, ⊤, IfSome, flat_map, map};
 ghost use Rattle.std.specs.Io.KnownBytes.{IsAtEnd};
 ghost use Rattle.st_move.specs.Law.{NoUpdateIsLost};
 ghost use Rattle.st_rules.specs.Report.{field};
@@ -20,26 +20,11 @@ use st_move::{
 use st_report::{put_field, put_number, put_text};
 use st_schedule::ReadError;
 use std::alloc::{AllocError, Global};
-use std::marker::Model;
 
-/// A script of servers between which containers move. It counts the events that were played. After an error it is broken, and plays
-/// no further event.
+/// A script of servers between which containers move, by its network.
 #[derive(Drop)]
 pub struct MoveScript {
     network: MoveNetwork,
-    played: u64,
-    broken: bool,
-}
-
-impl Model for MoveScript {
-    ghost use Rattle.std.specs.Prelude.{◌≡◌, false};
-    ghost use Rattle.st_move.specs.Network.{MoveRun};
-
-    ghost Value = { MoveRun };
-
-    ghost view = { λ x. x.network };
-
-    ghost invariant = { λ x. x.broken ≡ false → x.network.events ≡ x.played };
 }
 
 /// Appends a text and a number behind a space.
@@ -190,16 +175,12 @@ impl Script for MoveScript {
 
     ghost rules = { move_rules };
 
-    ghost stands = { λ n s x. (s ≡ x) × (s.events ≡ n) };
+    ghost stands = { λ n s x. (s ≡ x.network) × (s.events ≡ n) };
 
     fn begin(alloc: Global, line: &[u8]) -> Result<MoveScript, ReadError> {
         let (servers, containers) = counts_of(line)?;
         let network = MoveNetwork::new(alloc, servers, containers)?;
-        Ok(MoveScript {
-            network,
-            played: 0,
-            broken: false,
-        })
+        Ok(MoveScript { network })
     }
 
     fn event(alloc: Global, line: &[u8]) -> Result<MoveEvent, ReadError> {
@@ -214,13 +195,10 @@ impl Script for MoveScript {
         text: &mut Vec<u8>,
     ) -> Result<(), AllocError> {
         // A script that is played from its beginning has played as many events as came before.
-        if self.broken || self.played != done {
+        if self.network.event_count() != done {
             return Err(AllocError);
         }
-        self.broken = true;
         let answers = self.network.happens(&event)?;
-        self.broken = false;
-        self.played = done + 1;
         put_lines(text, done + 1, answers.as_slice())
     }
 
