@@ -5,3 +5,6 @@ pub mod SnapScripts
 pub mod SharedScripts
 pub mod SharedCalls
 pub mod MoveScripts
+pub mod Stops
+pub mod JournalScripts
+pub mod JournalRuns

@@ -4,6 +4,10 @@
 
 mod answers;
 mod fault;
+mod journal_event;
+mod journal_run;
+mod journal_script;
+mod journal_text;
 mod lines;
 mod move_event;
 mod move_script;
@@ -18,6 +22,8 @@ mod snap_script;
 
 pub use answers::{begin_answer, end_answer, put_answer};
 pub use fault::ScriptFault;
+pub use journal_event::{JournalEvent, RangedChange, SetStop};
+pub use journal_script::journal;
 pub use move_script::move_containers;
 pub use runner::{run, run_headed};
 pub use script::Script;
@@ -25,3 +31,4 @@ pub use shared_event::{ClientAct, SharedEvent, SharedHead};
 pub use shared_script::{every_script_is_right, shared};
 pub use snap_event::SnapEvent;
 pub use snap_script::snap;
+pub use st_journal::MemoryStore;
