@@ -1,0 +1,35 @@
+-- Lives that were kept are lives that began, and others may begin behind them.
+use Rattle.std.proofs.Common.{◌≡◌, ℕ, true, ◌&&◌, List, [], ◌∷◌, map, refl, arith}
+use Rattle.std.specs.List.{list_all}
+use Rattle.std.proofs.lemmas.Bool.{and_from, and_parts}
+use Rattle.st_base.specs.declared.config.Config.{Config}
+use Rattle.st_base.specs.declared.ids.ClientId.{ClientId}
+use Rattle.st_base.specs.declared.ids.Life.{Life}
+use Rattle.st_base.specs.declared.ids.ServerId.{ServerId}
+use Rattle.st_client.specs.Nodes.{crashed_at, crashed_node, is_begun, is_low, servers_to}
+use Rattle.st_client.specs.Room.{HasRoom}
+use Rattle.st_client_association.specs.Associations.{has_room_at}
+use Rattle.st_embed.specs.Clients.{is_kept, life}
+use Rattle.std.specs.Prelude.{length}
+
+pub kept_begun : (ns : List ℕ) → list_all is_kept ns ≡ true → list_all is_begun (map life ns) ≡ true
+kept_begun [] e = refl
+kept_begun (n ∷ ns) e =
+    let both = and_parts (is_kept n) (list_all is_kept ns) e in
+    and_from (is_begun (life n)) (list_all is_begun (map life ns)) (and_parts (is_begun (life n)) (is_low (life n)) both.0).0 (kept_begun ns both.1)
+
+kept_low : (ns : List ℕ) → list_all is_kept ns ≡ true → list_all is_low (map life ns) ≡ true
+kept_low [] e = refl
+kept_low (n ∷ ns) e =
+    let both = and_parts (is_kept n) (list_all is_kept ns) e in
+    and_from (is_low (life n)) (list_all is_low (map life ns)) (and_parts (is_begun (life n)) (is_low (life n)) both.0).1 (kept_low ns both.1)
+
+low_there : (ss : List ServerId) (ls : List Life) → list_all is_low ls ≡ true → list_all has_room_at (crashed_at ss ls) ≡ true
+low_there [] ls e = refl
+low_there (s ∷ ss) [] e = refl
+low_there (s ∷ ss) (l ∷ ls) e =
+    let both = and_parts (is_low l) (list_all is_low ls) e in
+    and_from (is_low l && true) (list_all has_room_at (crashed_at ss ls)) (and_from (is_low l) true both.0 refl) (low_there ss ls both.1)
+
+pub kept_room : (id : ClientId) (k : Config) (ns : List ℕ) → list_all is_kept ns ≡ true → HasRoom (crashed_node id k (map life ns)).state
+kept_room id k ns e = record { commands = omega arith; each = low_there (servers_to (length (map life ns))) (map life ns) (kept_low ns e) }

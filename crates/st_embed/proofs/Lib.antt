@@ -1,0 +1,2 @@
+-- What the proofs of `st_embed` share.
+mod Kept

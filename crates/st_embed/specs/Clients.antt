@@ -1,0 +1,93 @@
+-- A client inside another program: what it holds, and what its calls make of it.
+use Rattle.std.specs.Prelude.{◌≡◌, ◌≢◌, ◌<◌, ℕ, Bool, true, false, ◌==◌, ◌&&◌, not, nat_le, if◌then◌else◌, List, [], length, map, Ok, Err}
+use Rattle.std.specs.List.{list_all}
+use Rattle.st_base.specs.declared.config.Config.{Config}
+use Rattle.st_base.specs.Config.{check}
+use Rattle.st_base.specs.declared.ids.ClientId.{ClientId}
+use Rattle.st_base.specs.declared.ids.Life.{Life}
+use Rattle.st_base.specs.declared.ids.Stamp.{Stamp}
+use Rattle.st_client.specs.Nodes.{crashed_node, is_begun, is_low}
+use Rattle.st_client.specs.Room.{HasRoom}
+use Rattle.st_messages.specs.declared.message.Message.{Message}
+use Rattle.st_node.specs.Runs.{handle}
+use Rattle.st_node.specs.declared.node.Node.TheVariants.{Client}
+use Rattle.st_rules.specs.Client.{ClientNode, crash_node, fresh_node, start_node}
+use Rattle.st_rules.specs.ClientState.{ClientState}
+use Rattle.st_embed.specs.Checks.{is_in_time}
+use Rattle.st_embed.specs.Frame.{heard}
+use Rattle.st_embed.specs.Lives.{four_lives, same_lives}
+use Rattle.st_embed.specs.declared.fault.OpenFault.{OpenFault}
+use Rattle.st_embed.specs.declared.fault.OpenFault.TheVariants as opening
+use Rattle.st_embed.specs.declared.fault.StepRefusal.{StepRefusal}
+use Rattle.st_embed.specs.declared.fault.StepRefusal.TheVariants as refusals
+
+-- a client, the bytes of its frames that are still to be taken out, and the moment of its last step
+pub record EmbeddedClient : Type 0 where
+  pub node : ClientNode
+  pub left : List ℕ
+  pub last : Stamp
+
+-- Opening.
+
+-- a life of a client that was never started
+abbrev pub is_none : ℕ → Bool
+is_none life = life == 0
+
+abbrev pub life : ℕ → Life
+life n = record { 0 = n }
+
+-- A client that runs: in life 1 at each server where it was never started, and else in the lives behind these.
+abbrev pub begun : ClientId → Config → List ℕ → ClientNode
+begun id k lives = if list_all is_none lives then fresh_node id k (length lives) else start_node (crashed_node id k (map life lives))
+
+-- it holds no bytes
+abbrev pub opened : ClientId → Config → List ℕ → EmbeddedClient
+opened id k lives = record { node = begun id k lives; left = []; last = record { 0 = 0 } }
+
+-- a life that may be kept: one that began, and behind which another may begin
+abbrev pub is_kept : ℕ → Bool
+is_kept n = is_begun (life n) && is_low (life n)
+
+-- why it is not opened
+abbrev pub NotOpened : ClientId → Config → List ℕ → OpenFault → Type 0
+NotOpened id k lives (opening.Settings r) = check k ≡ Err r
+NotOpened id k lives opening.Number = (nat_le 1 id.0 && nat_le id.0 16) ≡ false
+NotOpened id k lives opening.Servers = 4 < length lives
+NotOpened id k lives opening.Lives = (list_all is_none lives ≡ false) × (list_all is_kept lives ≡ false)
+NotOpened id k lives opening.Memory = Unit {0}
+
+-- Steps.
+
+-- a step with this message may be taken
+pub record MayStep (old : EmbeddedClient) (now : Stamp) (frame : List ℕ) (message : Message) : Type 0 where
+  pub heard_so : heard frame ≡ Ok message
+  pub runs : old.node.running ≡ true
+  pub taken : old.left ≡ []
+  pub in_time : is_in_time old.last now ≡ true
+  pub room : HasRoom old.node.state
+
+-- A step: the node that runs handles the message of the frame as a node over a stream does, and the bytes that it writes then are
+-- to be taken out. None were left before.
+pub record Steps (old new : EmbeddedClient) (now : Stamp) (frame : List ℕ) : Type 0 where
+  pub message : Message
+  pub heard_so : heard frame ≡ Ok message
+  pub runs : old.node.running ≡ true
+  pub taken : old.left ≡ []
+  pub in_time : is_in_time old.last now ≡ true
+  pub node : Client new.node ≡ (handle (Client old.node) now message).node
+  pub left : new.left ≡ (handle (Client old.node) now message).out
+  pub last : new.last ≡ now
+
+-- why there is no step
+abbrev pub Refuses : EmbeddedClient → EmbeddedClient → Stamp → List ℕ → StepRefusal → Type 0
+Refuses old new now frame refusals.Crashed = (old.node.running ≡ false) × (new ≡ old)
+Refuses old new now frame refusals.Untaken = (old.left ≢ []) × (new ≡ old)
+Refuses old new now frame refusals.Time = (is_in_time old.last now ≡ false) × (new ≡ old)
+Refuses old new now frame (refusals.Frame f) = (heard frame ≡ Err f) × (new ≡ old)
+Refuses old new now frame refusals.Full = (HasRoom old.node.state → ⊥) × (new ≡ old)
+Refuses old new now frame refusals.Memory = new ≡ old
+Refuses old new now frame refusals.Starved = new ≡ record { node = crash_node old.node; left = []; last = now }
+
+-- A life at one of the servers is another one.
+abbrev pub has_new_life : ClientState → ClientState → Bool
+has_new_life old new = not (same_lives (four_lives old) (four_lives new))

@@ -1,0 +1,35 @@
+-- Bytes that are to be one frame.
+use Rattle.std.specs.Prelude.{ℕ, ◌+◌, nat_lt, if◌then◌else◌, List, length, drop, Result, Ok, Err}
+use Rattle.st_codec.specs.declared.frames.Front.{Front}
+use Rattle.st_codec.specs.declared.frames.Front.TheVariants.{Partial, TooLong, Whole}
+use Rattle.st_codec.specs.declared.refusal.CodecRefusal.{CodecRefusal}
+use Rattle.st_codec.specs.declared.refusal.CodecRefusal.TheVariants.{FrameTooLong}
+use Rattle.st_codec.specs.Frames.{front}
+use Rattle.st_codec.specs.Reading.{decoded}
+use Rattle.st_messages.specs.declared.message.Message.{Message}
+use Rattle.st_embed.specs.declared.fault.FrameFault.{FrameFault}
+use Rattle.st_embed.specs.declared.fault.FrameFault.TheVariants.{Cut, Extra, Refused}
+
+-- the number of bytes behind the length of a frame that is whole
+abbrev pub whole_by : Front → Result ℕ FrameFault
+whole_by Partial = Err Cut
+whole_by (TooLong n) = Err (Refused (FrameTooLong n))
+whole_by (Whole n) = Ok n
+
+-- what a frame's bytes spell
+abbrev pub spelled : Result Message CodecRefusal → Result Message FrameFault
+spelled (Ok m) = Ok m
+spelled (Err r) = Err (Refused r)
+
+-- a frame that is whole, where nothing follows it
+abbrev pub heard_whole : List ℕ → ℕ → Result Message FrameFault
+heard_whole bytes n = if nat_lt (4 + n) (length bytes) then Err Extra else spelled (decoded (drop 4 bytes))
+
+-- by what the bytes begin with
+abbrev pub heard_by : List ℕ → Result ℕ FrameFault → Result Message FrameFault
+heard_by bytes (Ok n) = heard_whole bytes n
+heard_by bytes (Err f) = Err f
+
+-- The message of bytes that are to be one frame, or why they are none.
+unfoldable pub heard : List ℕ → Result Message FrameFault
+heard bytes = heard_by bytes (whole_by (front bytes))

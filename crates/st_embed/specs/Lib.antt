@@ -1,0 +1,6 @@
+-- What the contracts of `st_embed` cite.
+pub mod Frame
+pub mod Checks
+pub mod Lives
+pub mod Taking
+pub mod Clients

@@ -1,0 +1,269 @@
+// A client inside another program.
+ghost use Rattle.std.specs.Prelude.{◌≡◌, ◌≤◌, ◌^◌, ◌&&◌, true, nat_le, map, Ok, IsOk, IfOk, IfErr, OnOk, OnErr, length};
+ghost use Rattle.std.specs.List.{list_all, flat_map};
+ghost use Rattle.st_base.specs.Config as settings;
+ghost use Rattle.st_client.specs.Inputs.{is_sent};
+ghost use Rattle.st_client.specs.Room.{HasRoom};
+ghost use Rattle.st_client.specs.Nodes.{crashed_node};
+ghost use Rattle.st_embed.specs.Clients.{MayStep, NotOpened, Refuses, Steps, begun, has_new_life, is_kept, life, opened};
+ghost use Rattle.st_embed.specs.Taking.{Takes};
+ghost use Rattle.st_messages.specs.Fits.{fits};
+ghost use Rattle.st_node.specs.Runs.{client_frame, handle};
+ghost use Rattle.st_node.specs.declared.node.Node.TheVariants as nodes;
+ghost use Rattle.st_rules.specs.Client as client;
+ghost use Rattle.st_rules.specs.World as world;
+
+use crate::checks::{check_taken, is_in_time, read_step};
+use crate::fault::{OpenFault, StepRefusal};
+use crate::lives::{are_kept, are_none, are_same, lives_now, lives_of};
+use crate::outbox::Sender;
+use crate::pending::Pending;
+use st_base::{ClientId, Config, Life, ServerId, Stamp};
+use st_client::{ClientInput, ClientNode, Outputs, Phase, StepFault};
+use st_messages::Message;
+use st_node::client_input_of;
+use std::alloc::{AllocError, Global};
+use std::marker::Model;
+
+/// A client inside another program. Contracts see its node, the bytes of its frames that are still to be taken out, and the moment of
+/// its last step.
+#[derive(Drop)]
+pub struct EmbeddedClient {
+    alloc: Global,
+    node: ClientNode,
+    last: Stamp,
+    pending: Pending,
+}
+
+impl Model for EmbeddedClient {
+    ghost use Rattle.st_embed.specs.Clients as shown;
+
+    ghost Value = { shown.EmbeddedClient };
+
+    ghost view = { λ c. record { node = c.node; left = c.pending; last = c.last } };
+}
+
+/// Whether this is the number of a client.
+fn is_client(id: ClientId) -> bool
+    ensures { result ≡ (nat_le 1 id.0 && nat_le id.0 16) }
+{
+    1 <= id.0 && id.0 <= 16
+}
+
+/// A client in the lives behind these.
+fn started(
+    alloc: Global,
+    id: ClientId,
+    config: &Config,
+    lives: &[u64],
+) -> Result<ClientNode, AllocError>
+    requires checked { IsOk (settings.check config.now) }
+    requires least { 1 ≤ id.0 }
+    requires most { id.0 ≤ 16 }
+    requires servers { length lives.now ≤ 4 }
+    requires kept { list_all is_kept lives.now ≡ true }
+    ensures { IfOk result (λ n. n ≡ client.start_node (crashed_node id config.now (map life lives.now))) }
+{
+    let lives = lives_of(alloc, lives)?;
+    let mut node = ClientNode::restore(alloc, id, config, &lives)?;
+    node.start()?;
+    Ok(node)
+}
+
+/// A client that runs: in life 1 where it was never started, and else in the lives behind these.
+fn begin(
+    alloc: Global,
+    id: ClientId,
+    config: &Config,
+    lives: &[u64],
+) -> Result<ClientNode, OpenFault>
+    requires checked { IsOk (settings.check config.now) }
+    requires least { 1 ≤ id.0 }
+    requires most { id.0 ≤ 16 }
+    requires servers { length lives.now ≤ 4 }
+    ensures ok { IfOk result (λ n. n ≡ begun id config.now lives.now) }
+    ensures err { IfErr result (NotOpened id config.now lives.now) }
+{
+    if are_none(lives) {
+        return match ClientNode::fresh(alloc, id, config, lives.len() as u16) {
+            Ok(node) => Ok(node),
+            Err(_) => Err(OpenFault::Memory),
+        };
+    }
+    if are_kept(lives) {
+        return match started(alloc, id, config, lives) {
+            Ok(node) => Ok(node),
+            Err(_) => Err(OpenFault::Memory),
+        };
+    }
+    Err(OpenFault::Lives)
+}
+
+/// The outputs of a node's step for a message; none where the message is no input of the node. An error is for memory: then the node is crashed.
+#[tactic(auto, unfolding(st_node::specs::Runs::handle))]
+fn outputs_for(
+    alloc: Global,
+    node: &mut ClientNode,
+    now: Stamp,
+    message: Message,
+) -> Result<Outputs, AllocError>
+    requires time { now.0 ≤ 2 ^ 62 }
+    requires fits { fits message ≡ true }
+    requires room { HasRoom node.old.state }
+    ensures node { OnOk result (nodes.Client node.new ≡ (handle (nodes.Client node.old) now message).node) }
+    ensures out { IfOk result (λ out. flat_map (client_frame node.old.state.id) out ≡ (handle (nodes.Client node.old) now message).out) }
+    ensures sent { IfOk result (λ out. list_all is_sent out ≡ true) }
+    ensures starved { OnErr result (node.new ≡ client.crash_node node.old) }
+{
+    if message.header.to != node.id().0 {
+        return Ok(Outputs::new(alloc));
+    }
+    match client_input_of(message) {
+        Some(input) => match node.step(now, input) {
+            Ok(outputs) => Ok(outputs),
+            Err(StepFault::Memory) => Err(AllocError),
+            Err(StepFault::Crashed) => Ok(Outputs::new(alloc)),
+        },
+        None => Ok(Outputs::new(alloc)),
+    }
+}
+
+impl EmbeddedClient {
+    /// Opens a client that runs. `lives` has one for each of its servers, of which there are at most four: all 0 where the client was never
+    /// started, which is then in life 1 at each; and else those that were kept last, behind which its next lives begin. `id` is from
+    /// 1 to 16.
+    pub fn open(
+        alloc: Global,
+        id: ClientId,
+        config: &Config,
+        lives: &[u64],
+    ) -> Result<EmbeddedClient, OpenFault>
+        ensures ok { IfOk result (λ c. c ≡ opened id config.now lives.now) }
+        ensures err { IfErr result (NotOpened id config.now lives.now) }
+    {
+        if let Err(refusal) = config.check() {
+            return Err(OpenFault::Settings(refusal));
+        }
+        if !is_client(id) {
+            return Err(OpenFault::Number);
+        }
+        if lives.len() > 4 {
+            return Err(OpenFault::Servers);
+        }
+        let node = begin(alloc, id, config, lives)?;
+        Ok(EmbeddedClient {
+            alloc,
+            node,
+            last: Stamp(0),
+            pending: Pending::new(alloc),
+        })
+    }
+
+    /// The client's number.
+    pub fn id(&self) -> ClientId
+        ensures { result ≡ self.now.node.state.id }
+    {
+        self.node.id()
+    }
+
+    /// Whether the client runs.
+    pub fn running(&self) -> bool
+        ensures { result ≡ self.now.node.running }
+    {
+        self.node.running()
+    }
+
+    /// The life at a server, or life 0 where there is no such server.
+    pub fn life(&self, server: ServerId) -> Life
+        ensures { result ≡ world.life_with self.now.node.state server }
+    {
+        self.node.life(server)
+    }
+
+    /// The phase of the lease at a server, where one is held.
+    pub fn phase(&self, server: ServerId, now: Stamp) -> Option<Phase>
+        ensures { result ≡ client.phase_with self.now.node.state server now }
+    {
+        self.node.phase(server, now)
+    }
+
+    /// The end of the lease at a server, where one is held.
+    pub fn lease_end(&self, server: ServerId) -> Option<Stamp>
+        ensures { result ≡ client.lease_end_with self.now.node.state server }
+    {
+        self.node.lease_end(server)
+    }
+
+    /// Whether a page of the server is dirty.
+    pub fn has_dirty(&self, server: ServerId) -> bool
+        ensures { result ≡ client.has_dirty_with self.now.node.state server }
+    {
+        self.node.has_dirty(server)
+    }
+
+    /// How many bytes are still to be taken out. An error is for memory; it changes nothing, and the call may be tried again.
+    pub fn left(&mut self) -> Result<usize, AllocError>
+        ensures same { self.new ≡ self.old }
+        ensures count { IfOk result (λ n. n ≡ length self.old.left) }
+    {
+        self.pending.len()
+    }
+
+    /// Takes the first bytes out that are still to be taken, as many as there is room for, and returns how many. An error is for memory; it
+    /// changes nothing, and the call may be tried again.
+    pub fn take(&mut self, out: &mut [u8]) -> Result<usize, AllocError>
+        ensures ok { IfOk result (Takes self.old.left self.new.left out.old out.new) }
+        ensures node { self.new.node ≡ self.old.node }
+        ensures last { self.new.last ≡ self.old.last }
+        ensures same { OnErr result (self.new ≡ self.old) }
+        ensures kept { OnErr result (out.new ≡ out.old) }
+    {
+        self.pending.take(out)
+    }
+
+    /// Whether a step may be taken at this moment, and the message of its frame.
+    fn check(&mut self, now: Stamp, frame: &[u8]) -> Result<Message, StepRefusal>
+        ensures same { self.new ≡ self.old }
+        ensures ok { IfOk result (MayStep self.old now frame.now) }
+        ensures fits { IfOk result (λ m. fits m ≡ true) }
+        ensures err { IfErr result (Refuses self.old self.old now frame.now) }
+    {
+        if !self.node.running() {
+            return Err(StepRefusal::Crashed);
+        }
+        check_taken(&mut self.pending)?;
+        if !is_in_time(self.last, now) {
+            return Err(StepRefusal::Time);
+        }
+        let message = read_step(self.alloc, frame)?;
+        if !self.node.has_room() {
+            return Err(StepRefusal::Full);
+        }
+        Ok(message)
+    }
+
+    /// Takes a step for the message of one frame, with its length, at this moment. Moments never fall, and are at most 2^62. A message that is
+    /// no input of the client is passed over. Returns whether a life at one of the servers is another one than before: then the lives
+    /// are to be kept before any byte of this step is sent.
+    ///
+    /// # Errors
+    /// All but `Starved` change nothing. `Starved` leaves a client that is crashed, in the lives from before the step, and nothing to be taken
+    /// out.
+    pub fn step(&mut self, now: Stamp, frame: &[u8]) -> Result<bool, StepRefusal>
+        ensures ok { OnOk result (Steps self.old self.new now frame.now) }
+        ensures lives { IfOk result (λ another. another ≡ has_new_life self.old.node.state self.new.node.state) }
+        ensures err { IfErr result (Refuses self.old self.new now frame.now) }
+    {
+        let message = self.check(now, frame)?;
+        let sender = Sender::Client(self.node.id());
+        let before = lives_now(&self.node);
+        self.last = now;
+        match outputs_for(self.alloc, &mut self.node, now, message) {
+            Ok(outputs) => {
+                self.pending.put(sender, outputs);
+                Ok(!are_same(before, lives_now(&self.node)))
+            }
+            Err(_) => Err(StepRefusal::Starved),
+        }
+    }
+}

@@ -1,0 +1,59 @@
+use st_base::ConfigRefusal;
+use st_codec::CodecRefusal;
+use thiserror::Error;
+
+/// Why bytes are not one frame.
+#[derive(Clone, Copy, Debug, PartialEq, Eq, Error)]
+pub enum FrameFault {
+    /// The bytes end before the frame does.
+    #[error("the frame is cut")]
+    Cut,
+    /// Bytes follow the frame.
+    #[error("bytes follow the frame")]
+    Extra,
+    /// The frame is too long, or its bytes spell no message. The refusal is never `Memory`.
+    #[error("{0}")]
+    Refused(CodecRefusal),
+}
+
+/// Why a step is refused, in the order of the checks. All but `Starved` change nothing.
+#[derive(Clone, Copy, Debug, PartialEq, Eq, Error)]
+pub enum StepRefusal {
+    /// The node crashed, as it does where memory runs out in a step.
+    #[error("the node does not run")]
+    Crashed,
+    /// Frames of the step before are still to be taken.
+    #[error("frames of an earlier step were not taken")]
+    Untaken,
+    /// The moment is before that of an earlier step, or above 2^62.
+    #[error("the moment is before an earlier one, or above 2^62")]
+    Time,
+    /// The bytes are not one frame.
+    #[error("{0}")]
+    Frame(FrameFault),
+    /// A counter of the node is at its end.
+    #[error("a counter of the node is at its end")]
+    Full,
+    /// Memory ran out before the step was begun.
+    #[error("out of memory")]
+    Memory,
+    /// Memory ran out in the step: the node is crashed.
+    #[error("memory ran out in the step, and the node is crashed")]
+    Starved,
+}
+
+/// Why a node is not opened, in the order of the checks.
+#[derive(Clone, Copy, Debug, PartialEq, Eq, Error)]
+pub enum OpenFault {
+    #[error("{0}")]
+    Settings(ConfigRefusal),
+    #[error("the number of the node is out of its range")]
+    Number,
+    #[error("there are more than four servers")]
+    Servers,
+    /// Some lives are 0 and some are not, or one is above 2^62 - 1.
+    #[error("the lives are not those of a client")]
+    Lives,
+    #[error("out of memory")]
+    Memory,
+}

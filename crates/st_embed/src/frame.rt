@@ -1,0 +1,75 @@
+// One frame, as bytes.
+ghost use Rattle.std.specs.Prelude.{◌≡◌, ◌≤◌, ◌+◌, true, IfOk, length};
+ghost use Rattle.st_codec.specs.Frames.{front};
+ghost use Rattle.st_codec.specs.Reading.{decoded};
+ghost use Rattle.st_embed.specs.Frame.{heard, heard_whole, spelled, whole_by};
+ghost use Rattle.st_messages.specs.Fits.{fits};
+
+use crate::fault::FrameFault;
+use st_codec::{CodecRefusal, decode};
+use st_messages::Message;
+use std::alloc::{AllocError, Global};
+
+/// The number of bytes behind the length of the frame that the bytes begin with.
+#[tactic(auto, unfolding(st_codec::specs::Frames::front))]
+fn whole_len(bytes: &[u8]) -> Result<usize, FrameFault>
+    ensures exact { result ≡ whole_by (front bytes.now) }
+    ensures within { IfOk result (λ n. 4 + n ≤ length bytes.now) }
+{
+    if bytes.len() < 4 {
+        return Err(FrameFault::Cut);
+    }
+    let (head, body) = bytes.split_at(4);
+    let number = u32::from_be_bytes([head[0], head[1], head[2], head[3]]);
+    if 65_536 < number {
+        return Err(FrameFault::Refused(CodecRefusal::FrameTooLong(number)));
+    }
+    if body.len() < number as usize {
+        return Err(FrameFault::Cut);
+    }
+    Ok(number as usize)
+}
+
+/// Reads the message of a frame.
+fn read_message(alloc: Global, bytes: &[u8]) -> Result<Result<Message, FrameFault>, AllocError>
+    ensures exact { IfOk result (λ r. r ≡ spelled (decoded bytes.now)) }
+    ensures fits { IfOk result (λ r. IfOk r (λ m. fits m ≡ true)) }
+{
+    match decode(alloc, bytes) {
+        Ok(message) => Ok(Ok(message)),
+        Err(CodecRefusal::Memory) => Err(AllocError),
+        Err(refusal) => Ok(Err(FrameFault::Refused(refusal))),
+    }
+}
+
+/// Reads the frame of so many bytes behind its length, with which the bytes begin.
+fn read_whole(
+    alloc: Global,
+    bytes: &[u8],
+    len: usize,
+) -> Result<Result<Message, FrameFault>, AllocError>
+    requires within { 4 + len ≤ length bytes.now }
+    ensures exact { IfOk result (λ r. r ≡ heard_whole bytes.now len) }
+    ensures fits { IfOk result (λ r. IfOk r (λ m. fits m ≡ true)) }
+{
+    if 4 + len < bytes.len() {
+        return Ok(Err(FrameFault::Extra));
+    }
+    let (_, body) = bytes.split_at(4);
+    read_message(alloc, body)
+}
+
+/// Reads bytes that are to be one frame: its message, which fits, or why they are none.
+#[tactic(auto, unfolding(crate::specs::Frame::heard))]
+pub(crate) fn read_frame(
+    alloc: Global,
+    bytes: &[u8],
+) -> Result<Result<Message, FrameFault>, AllocError>
+    ensures exact { IfOk result (λ r. r ≡ heard bytes.now) }
+    ensures fits { IfOk result (λ r. IfOk r (λ m. fits m ≡ true)) }
+{
+    match whole_len(bytes) {
+        Ok(len) => read_whole(alloc, bytes, len),
+        Err(fault) => Ok(Err(fault)),
+    }
+}

@@ -1,0 +1,109 @@
+-- The numbers of results.
+use Rattle.std.specs.Prelude.{ℕ, Bool, true, false, Option, Some, None}
+use Rattle.st_base.specs.declared.config.ConfigRefusal.{ConfigRefusal}
+use Rattle.st_base.specs.declared.config.ConfigRefusal.TheVariants as settings
+use Rattle.st_base.specs.declared.ids.Stamp.{Stamp}
+use Rattle.st_codec.specs.declared.refusal.CodecRefusal.{CodecRefusal}
+use Rattle.st_codec.specs.declared.refusal.CodecRefusal.TheVariants as refusals
+use Rattle.st_embed.specs.declared.fault.FrameFault.{FrameFault}
+use Rattle.st_embed.specs.declared.fault.FrameFault.TheVariants as frames
+use Rattle.st_embed.specs.declared.fault.OpenFault.{OpenFault}
+use Rattle.st_embed.specs.declared.fault.OpenFault.TheVariants as opening
+use Rattle.st_embed.specs.declared.fault.StepRefusal.{StepRefusal}
+use Rattle.st_embed.specs.declared.fault.StepRefusal.TheVariants as steps
+use Rattle.st_rules.specs.declared.lease.Phase.{Phase}
+use Rattle.st_rules.specs.declared.lease.Phase.TheVariants.{Valid, Renewal, Quiesce, Flush, Expired}
+
+abbrev pub DONE : ℕ
+DONE = 0
+
+-- the handle is open
+abbrev pub BUSY : ℕ
+BUSY = 1
+
+-- the handle is not open
+abbrev pub ABSENT : ℕ
+ABSENT = 2
+
+-- memory ran out, and nothing has happened
+abbrev pub NO_MEMORY : ℕ
+NO_MEMORY = 3
+
+-- of bytes that spell no message
+abbrev pub of_codec : CodecRefusal → ℕ
+of_codec refusals.Short = 18
+of_codec refusals.Long = 19
+of_codec refusals.Kind = 20
+of_codec (refusals.Value at) = 21
+of_codec refusals.Version = 22
+of_codec (refusals.FrameTooLong n) = 23
+of_codec refusals.Memory = NO_MEMORY
+
+-- the byte of the message or the length of the frame that is told, or 0
+abbrev pub place_of_codec : CodecRefusal → ℕ
+place_of_codec (refusals.Value at) = at
+place_of_codec (refusals.FrameTooLong n) = n
+place_of_codec r = 0
+
+-- of bytes that are not one frame
+abbrev pub of_frame : FrameFault → ℕ
+of_frame frames.Cut = 16
+of_frame frames.Extra = 17
+of_frame (frames.Refused r) = of_codec r
+
+abbrev pub place_of_frame : FrameFault → ℕ
+place_of_frame frames.Cut = 0
+place_of_frame frames.Extra = 0
+place_of_frame (frames.Refused r) = place_of_codec r
+
+-- of a step
+abbrev pub of_step : StepRefusal → ℕ
+of_step steps.Memory = NO_MEMORY
+of_step steps.Crashed = 4
+of_step steps.Starved = 5
+of_step steps.Untaken = 6
+of_step steps.Time = 7
+of_step steps.Full = 8
+of_step (steps.Frame f) = of_frame f
+
+abbrev pub place_of_step : StepRefusal → ℕ
+place_of_step (steps.Frame f) = place_of_frame f
+place_of_step r = 0
+
+-- of settings
+abbrev pub of_settings : ConfigRefusal → ℕ
+of_settings settings.Order = 32
+of_settings settings.Rate = 33
+of_settings settings.TooLong = 34
+of_settings settings.Demand = 35
+of_settings settings.Grain = 36
+
+-- of opening
+abbrev pub of_open : OpenFault → ℕ
+of_open opening.Memory = NO_MEMORY
+of_open (opening.Settings r) = of_settings r
+of_open opening.Number = 37
+of_open opening.Servers = 38
+of_open opening.Lives = 39
+
+-- the number of a phase; 0 is that of no lease
+abbrev pub of_phase : Phase → ℕ
+of_phase Valid = 1
+of_phase Renewal = 2
+of_phase Quiesce = 3
+of_phase Flush = 4
+of_phase Expired = 5
+
+abbrev pub of_phase_held : Option Phase → ℕ
+of_phase_held None = 0
+of_phase_held (Some p) = of_phase p
+
+-- the end of a lease, or 0 where none is held
+abbrev pub end_held : Option Stamp → ℕ
+end_held None = 0
+end_held (Some end) = end.0
+
+-- 1 where it is true
+abbrev pub flag : Bool → ℕ
+flag true = 1
+flag false = 0

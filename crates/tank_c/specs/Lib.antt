@@ -1,0 +1,4 @@
+-- What the contracts of `tank_c` cite.
+pub mod Slots
+pub mod Codes
+pub mod Calls

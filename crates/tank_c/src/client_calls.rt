@@ -1,0 +1,141 @@
+// What the calls at a client do to the client that the handle holds.
+ghost use Rattle.std.specs.Prelude.{◌≡◌, ◌≢◌, Some};
+ghost use Rattle.tank_c.specs.Calls.{ClientSteps, NoClientStep, ClientTakes, association_of, settings_of};
+ghost use Rattle.tank_c.specs.Codes.{DONE, NO_MEMORY};
+ghost use Rattle.tank_c.specs.Codes as codes;
+
+use crate::codes::{NO_MEMORY, step_code, step_place};
+use st_embed::{Config, EmbeddedClient, Phase, ServerId, Stamp};
+
+/// The settings of a world, in ticks but for `num` and `den`.
+#[repr(C)]
+#[derive(Clone, Copy)]
+pub struct TankSettings {
+    pub lease: u64,
+    pub renew: u64,
+    pub quiesce: u64,
+    pub flush: u64,
+    pub demand: u64,
+    pub retry: u64,
+    pub num: u64,
+    pub den: u64,
+    pub grain: u64,
+}
+
+/// What a step tells: the place in its frame of what is refused, and 1 where a life at a server is another one than before.
+#[repr(C)]
+#[derive(Clone, Copy)]
+pub struct TankClientStep {
+    pub at: u64,
+    pub new_lives: u32,
+}
+
+/// What a client has at a server: its life, 0 where there is no such server; the phase of its lease, 0 where it has none; the end of its
+/// lease, 0 where it has none; and 1 where it has dirty pages.
+#[repr(C)]
+#[derive(Clone, Copy)]
+pub struct TankAssociation {
+    pub life: u64,
+    pub lease_end: u64,
+    pub phase: u32,
+    pub dirty: u32,
+}
+
+/// The settings of a world.
+pub(crate) fn config_of(settings: &TankSettings) -> Config
+    ensures { result ≡ settings_of settings.now }
+{
+    Config {
+        lease: settings.lease,
+        renew: settings.renew,
+        quiesce: settings.quiesce,
+        flush: settings.flush,
+        demand: settings.demand,
+        retry: settings.retry,
+        num: settings.num,
+        den: settings.den,
+        grain: settings.grain,
+    }
+}
+
+/// 1 where it is true.
+fn flag(yes: bool) -> u32
+    ensures { result ≡ codes.flag yes }
+{
+    if yes { 1 } else { 0 }
+}
+
+/// The number of a phase.
+fn phase_code(phase: Option<Phase>) -> u32
+    ensures { result ≡ codes.of_phase_held phase }
+{
+    match phase {
+        None => 0,
+        Some(Phase::Valid) => 1,
+        Some(Phase::Renewal) => 2,
+        Some(Phase::Quiesce) => 3,
+        Some(Phase::Flush) => 4,
+        Some(Phase::Expired) => 5,
+    }
+}
+
+/// The end of a lease.
+fn end_of(end: Option<Stamp>) -> u64
+    ensures { result ≡ codes.end_held end }
+{
+    match end {
+        None => 0,
+        Some(end) => end.0,
+    }
+}
+
+/// A step.
+pub(crate) fn step_client(
+    client: &mut EmbeddedClient,
+    now: u64,
+    frame: &[u8],
+    step: &mut TankClientStep,
+) -> u32
+    ensures done { result ≡ DONE → ClientSteps (Some client.old) (Some client.new) now frame.now step.new }
+    ensures refused { result ≢ DONE → NoClientStep (Some client.old) (Some client.new) now frame.now result step.new }
+{
+    match client.step(Stamp(now), frame) {
+        Ok(another) => {
+            step.at = 0;
+            step.new_lives = flag(another);
+            0
+        }
+        Err(refusal) => {
+            step.at = step_place(refusal);
+            step.new_lives = 0;
+            step_code(refusal)
+        }
+    }
+}
+
+/// Bytes are taken out.
+pub(crate) fn take_client(client: &mut EmbeddedClient, out: &mut [u8], count: &mut usize) -> u32
+    ensures done { result ≡ DONE → ClientTakes (Some client.old) (Some client.new) out.old out.new count.new }
+    ensures refused { result ≢ DONE → (result ≡ NO_MEMORY) × (client.new ≡ client.old) × (out.new ≡ out.old) }
+{
+    match client.take(out) {
+        Ok(n) => {
+            *count = n;
+            0
+        }
+        Err(_) => NO_MEMORY,
+    }
+}
+
+/// What a client has at a server.
+pub(crate) fn association_at(client: &EmbeddedClient, server: u16, now: u64) -> TankAssociation
+    ensures { result ≡ association_of client.now server now }
+{
+    let server = ServerId(server);
+    TankAssociation {
+        life: client.life(server).0,
+        lease_end: end_of(client.lease_end(server)),
+        phase: phase_code(client.phase(server, Stamp(now))),
+        dirty: flag(client.has_dirty(server)),
+    }
+}

@@ -1,0 +1,113 @@
+// The numbers of results. `include/tank.h` has their names and texts.
+ghost use Rattle.std.specs.Prelude.{◌≡◌, ◌≢◌};
+ghost use Rattle.tank_c.specs.Codes as codes;
+
+use st_embed::{CodecRefusal, ConfigRefusal, FrameFault, OpenFault, StepRefusal};
+
+pub(crate) const DONE: u32 = 0;
+
+pub(crate) const BUSY: u32 = 1;
+
+pub(crate) const ABSENT: u32 = 2;
+
+pub(crate) const NO_MEMORY: u32 = 3;
+
+/// The number of a message's refusal.
+fn codec_code(refusal: CodecRefusal) -> u32
+    ensures { result ≡ codes.of_codec refusal }
+{
+    match refusal {
+        CodecRefusal::Short => 18,
+        CodecRefusal::Long => 19,
+        CodecRefusal::Kind => 20,
+        CodecRefusal::Value(_) => 21,
+        CodecRefusal::Version => 22,
+        CodecRefusal::FrameTooLong(_) => 23,
+        CodecRefusal::Memory => 3,
+    }
+}
+
+/// The byte of the message, or the length, that it tells; 0 where it tells none.
+fn codec_place(refusal: CodecRefusal) -> u64
+    ensures { result ≡ codes.place_of_codec refusal }
+{
+    match refusal {
+        CodecRefusal::Value(at) => at,
+        CodecRefusal::FrameTooLong(length) => u64::from(length),
+        _ => 0,
+    }
+}
+
+/// The number of a frame's fault.
+fn frame_code(fault: FrameFault) -> u32
+    ensures { result ≡ codes.of_frame fault }
+{
+    match fault {
+        FrameFault::Cut => 16,
+        FrameFault::Extra => 17,
+        FrameFault::Refused(refusal) => codec_code(refusal),
+    }
+}
+
+/// The place that a frame's fault tells.
+fn frame_place(fault: FrameFault) -> u64
+    ensures { result ≡ codes.place_of_frame fault }
+{
+    match fault {
+        FrameFault::Cut | FrameFault::Extra => 0,
+        FrameFault::Refused(refusal) => codec_place(refusal),
+    }
+}
+
+/// The number of a step's refusal.
+pub(crate) fn step_code(refusal: StepRefusal) -> u32
+    ensures exact { result ≡ codes.of_step refusal }
+    ensures some { result ≢ 0 }
+{
+    match refusal {
+        StepRefusal::Memory => NO_MEMORY,
+        StepRefusal::Crashed => 4,
+        StepRefusal::Starved => 5,
+        StepRefusal::Untaken => 6,
+        StepRefusal::Time => 7,
+        StepRefusal::Full => 8,
+        StepRefusal::Frame(fault) => frame_code(fault),
+    }
+}
+
+/// The place that a step's refusal tells.
+pub(crate) fn step_place(refusal: StepRefusal) -> u64
+    ensures { result ≡ codes.place_of_step refusal }
+{
+    match refusal {
+        StepRefusal::Frame(fault) => frame_place(fault),
+        _ => 0,
+    }
+}
+
+/// The number of a fault of settings.
+fn settings_code(refusal: ConfigRefusal) -> u32
+    ensures { result ≡ codes.of_settings refusal }
+{
+    match refusal {
+        ConfigRefusal::Order => 32,
+        ConfigRefusal::Rate => 33,
+        ConfigRefusal::TooLong => 34,
+        ConfigRefusal::Demand => 35,
+        ConfigRefusal::Grain => 36,
+    }
+}
+
+/// The number of why a client is not opened.
+pub(crate) fn open_code(fault: OpenFault) -> u32
+    ensures exact { result ≡ codes.of_open fault }
+    ensures some { result ≢ 0 }
+{
+    match fault {
+        OpenFault::Memory => NO_MEMORY,
+        OpenFault::Settings(refusal) => settings_code(refusal),
+        OpenFault::Number => 37,
+        OpenFault::Servers => 38,
+        OpenFault::Lives => 39,
+    }
+}

@@ -1,0 +1,150 @@
+/* tank.h: a client of the protocol inside another program.
+ *
+ * A client is a state machine in the caller's memory. It has no thread, no clock and no socket: the caller gives it one frame
+ * and a reading of a clock, and takes out the frames that come of it. What a step does is what `tank node` does with the same frame at the
+ * same reading, to the byte; docs/PROTOCOL.md has the rules, and its chapter "Building on it" what the program around a client owes.
+ *
+ *     struct tank_client client = TANK_CLIENT_CLOSED;
+ *     uint64_t lives[1] = {0};
+ *     if (tank_client_open(&client, &settings, 1, lives, 1) != TANK_DONE) ...
+ *     for (each frame that comes, and each tick) {
+ *         struct tank_client_step step;
+ *         tank_client_step(&client, now, frame, length, &step);
+ *         if (step.new_lives) ...keep the lives on disk...
+ *         while (tank_client_take(&client, out, sizeof out, &count) == TANK_DONE && count > 0) ...send out[0 .. count)...
+ *     }
+ *     tank_client_close(&client);
+ *
+ * Frames. A frame is a length in four bytes, the highest first, and the bytes of one message ("Wire"). A call takes one whole frame. What
+ * is taken out is whole frames one behind the other, in pieces as large as the caller's buffer; each message says in bytes 4 and 5 behind
+ * its length to which node it goes: a client is 1 to 16, a server 32768 and its number, and 0 is the surroundings of the client itself,
+ * to which its answers (`appdone`) and its disk commands (`submit`) go. A tick, an application's ask (`app`) and the end of a disk command
+ * (`done`) come to a client as frames from 0. A frame that is not for the node, or no input of it, is passed over: TANK_DONE, no step,
+ * and nothing comes of it.
+ *
+ * Moments. A moment is a reading of the node's own clock in ticks, at most 2^62. It never falls, from call to call and from one opening to the
+ * next. Timers move only in steps: give each node a tick often ("Building on it" says how often).
+ *
+ * Results. Each call returns a number of TANK_RESULTS. All but TANK_DONE and TANK_STARVED leave the node as it was, so that the call may
+ * be made again. tank_name and tank_text tell a number's name and text.
+ *
+ * Memory. Nodes use malloc, realloc and free. Where memory runs out, a call returns TANK_NO_MEMORY and has done nothing; no byte that is to
+ * be taken out is lost. Where it runs out within a step, the node is crashed, as by a crash of its machine, and the step is
+ * TANK_STARVED: nothing of the step goes out. Close the node then, and open it again from what was kept.
+ *
+ * Handles. A handle is all zero before it is opened and after it is closed. It is not copied or moved while it is open, and is used by
+ * one thread at a time. A handle that is open must be closed: nothing else frees what it holds. Pointers are never null, also for no bytes,
+ * and buffers do not overlap.
+ */
+#ifndef TANK_H
+#define TANK_H
+#include <stdbool.h>
+#include <stddef.h>
+#include <stdint.h>
+
+#ifdef __cplusplus
+extern "C" {
+#endif
+
+/* Number, name and text of each result. */
+#define TANK_RESULTS(X)                                                                                       \
+    X(0, TANK_DONE, "done")                                                                                   \
+    X(1, TANK_BUSY, "the handle is open")                                                                     \
+    X(2, TANK_ABSENT, "the handle is not open")                                                               \
+    X(3, TANK_NO_MEMORY, "out of memory; nothing has happened")                                               \
+    X(4, TANK_CRASHED, "the node does not run")                                                               \
+    X(5, TANK_STARVED, "memory ran out in the step, and the node is crashed")                                 \
+    X(6, TANK_UNTAKEN, "frames of an earlier step were not taken")                                            \
+    X(7, TANK_TIME, "the moment is before an earlier one, or above 2^62")                                     \
+    X(8, TANK_FULL, "a counter of the node is at its end")                                                    \
+    X(16, TANK_CUT, "the frame is cut")                                                                       \
+    X(17, TANK_EXTRA, "bytes follow the frame")                                                               \
+    X(18, TANK_SHORT, "the message ends inside a field")                                                      \
+    X(19, TANK_LONG, "bytes follow the message")                                                              \
+    X(20, TANK_KIND, "no such kind of message")                                                               \
+    X(21, TANK_VALUE, "the field at this byte of the message is out of its range")                            \
+    X(22, TANK_VERSION, "no such version")                                                                    \
+    X(23, TANK_TOO_LONG, "a frame of this length is too long")                                                \
+    X(32, TANK_SETTINGS_ORDER, "0 < renew < quiesce < flush < lease does not hold")                           \
+    X(33, TANK_SETTINGS_RATE, "den is 0, num is below den, or num is above 1048576")                          \
+    X(34, TANK_SETTINGS_LEASE, "the lease is above 2^40 ticks")                                               \
+    X(35, TANK_SETTINGS_DEMAND, "0 < retry <= demand <= lease does not hold")                                 \
+    X(36, TANK_SETTINGS_GRAIN, "the grain is above the lease")                                                \
+    X(37, TANK_NUMBER, "a client's number is from 1 to 16")                                                   \
+    X(38, TANK_SERVERS, "there are more than four servers")                                                   \
+    X(39, TANK_LIVES, "the lives are neither all 0 nor all from 1 to 2^62 - 1")
+
+#define TANK_NUMBERED(number, name, text) name = number,
+enum tank_result { TANK_RESULTS(TANK_NUMBERED) TANK_RESULTS_END };
+#undef TANK_NUMBERED
+
+/* The name of a result, as "TANK_DONE"; "" of a number that is none. */
+static inline const char *tank_name(uint32_t result) {
+#define TANK_NAMED(number, name, text) case number: return #name;
+    switch (result) { TANK_RESULTS(TANK_NAMED) }
+#undef TANK_NAMED
+    return "";
+}
+
+/* What it says. */
+static inline const char *tank_text(uint32_t result) {
+#define TANK_SAID(number, name, text) case number: return text;
+    switch (result) { TANK_RESULTS(TANK_SAID) }
+#undef TANK_SAID
+    return "";
+}
+
+/* The settings of the world, the same at each node ("Settings"): in ticks, but for the rate bound num / den. */
+struct tank_settings {
+    uint64_t lease, renew, quiesce, flush, demand, retry, num, den, grain;
+};
+
+/* A client. */
+
+struct tank_client {
+    void *at; /* the library's alone, as all of a handle */
+    bool full;
+};
+#define TANK_CLIENT_CLOSED {0, 0}
+
+/* Opens a client that runs. lives has one for each of its servers, `servers` in number, at most 4; server 1 is the first. All are 0 where the
+ * client was never started; else they are the lives that were kept last, and the client begins the lives behind them.
+ *
+ * The lives outlive the client. Keep those that tank_client_at tells after this call, before any frame of the client is sent; and again
+ * after each step that tells new_lives, before any frame of that step is sent.
+ *
+ * TANK_BUSY, TANK_SETTINGS_*, TANK_NUMBER, TANK_SERVERS, TANK_LIVES, TANK_NO_MEMORY: the handle stays as it was. */
+uint32_t tank_client_open(struct tank_client *client, const struct tank_settings *settings, uint16_t id, const uint64_t *lives, size_t servers);
+
+struct tank_client_step {
+    uint64_t at;        /* at TANK_VALUE the byte of the message, at TANK_TOO_LONG the length; else 0 */
+    uint32_t new_lives; /* 1 where a life at a server is another one than before this step */
+};
+
+/* Takes a step at this moment for one frame of `length` bytes. All that came of the step before must have been taken out.
+ *
+ * TANK_ABSENT, TANK_CRASHED, TANK_UNTAKEN, TANK_TIME, TANK_CUT to TANK_TOO_LONG, TANK_NO_MEMORY, TANK_FULL, in this order but for memory: no
+ * step was taken. TANK_STARVED: the client is crashed, in the lives from before the step. */
+uint32_t tank_client_step(struct tank_client *client, uint64_t now, const uint8_t *frame, size_t length, struct tank_client_step *step);
+
+/* Takes the next bytes of the frames that came of the last step, at most `room`; *count says how many, and 0 says that all were taken.
+ * TANK_ABSENT, TANK_NO_MEMORY. */
+uint32_t tank_client_take(struct tank_client *client, uint8_t *out, size_t room, size_t *count);
+
+struct tank_association {
+    uint64_t life;      /* 0 where the client has no such server */
+    uint64_t lease_end; /* the moment from which the lease is over; 0 where none is held */
+    uint32_t phase;     /* of the lease: 1 valid, 2 renewal, 3 quiesce, 4 flush, 5 expired; 0 where none is held */
+    uint32_t dirty;     /* 1 where the client has a dirty page of this server */
+};
+
+/* What the client has at a server, at this moment. It is no step. TANK_ABSENT. */
+uint32_t tank_client_at(struct tank_client *client, uint16_t server, uint64_t now, struct tank_association *association);
+
+/* Closes a client and frees what it holds. Its dirty pages and locks are gone, as after a crash. A handle that is not open stays so. */
+void tank_client_close(struct tank_client *client);
+
+#ifdef __cplusplus
+}
+#endif
+#endif
