@@ -6,10 +6,10 @@ from .clocks import ListedClock
 from .generator import generate, work_text
 from .node import Node, serve
 from .report import replay
-from .scripts import WORDS, run_script
+from .scripts import COMMANDS, run_script
 from .sources import Failed, Sink, pieces_of
 
-USAGE = "usage: tank replay | generate N SEED | work N SEED | node server|client ID NAME | move | snap | shared"
+USAGE = "usage: tank replay | generate N SEED | work N SEED | node server|client ID NAME | journal | move | snap | shared"
 
 
 def decimal(word, low, high):
@@ -35,7 +35,7 @@ def main(words, source, output, errors):
             status = 0 if replay(pieces_of(source), sink.write) else 1
             sink.flush()
             return status
-        if len(words) == 1 and words[0] in WORDS:
+        if len(words) == 1 and words[0] in COMMANDS:
             status = 0 if run_script(words[0], pieces_of(source), sink.write) else 1
             sink.flush()
             return status

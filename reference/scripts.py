@@ -1,4 +1,4 @@
-"""The scripts of a journal and of the commands `move`, `snap` and `shared`. Chapter "Scripts"."""
+"""The scripts of the commands `journal`, `move`, `snap` and `shared`. Chapter "Scripts"."""
 
 from .images import SnapScript
 from .journal import JournalScript
@@ -9,9 +9,6 @@ from .shared import SharedScript
 
 EVENTS = 10000
 COMMANDS = {"journal": JournalScript, "move": MoveScript, "snap": SnapScript, "shared": SharedScript}
-# the words of the program; a journal's script has none yet
-WORDS = ("move", "snap", "shared")
-
 
 class ScriptWords(Words):
     """The words of a script's line: all of them belong to one form."""

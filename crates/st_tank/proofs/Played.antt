@@ -1,14 +1,20 @@
 -- A script that ended was played.
-use Rattle.std.proofs.Common.{◌≡◌, ◌≤◌, ℕ, List, arith, refl, sym, ap}
-use Rattle.std.specs.Prelude.{Option, Some, None, Result, Ok, Err, OnOk, IfSome}
+use Rattle.std.proofs.Common.{◌≡◌, ◌≤◌, ℕ, List, [], false, arith, refl, sym, ap, subst}
+use Rattle.std.specs.Prelude.{Option, Some, None, Result, Ok, Err, OnOk, IfSome, Vec}
+use Rattle.std.specs.declared.alloc.Global.{Global}
 use Rattle.std.specs.Io.KnownBytes.{Appends, IsAtEnd}
 use Rattle.st_link.specs.Causes.{Rose}
 use Rattle.st_link.specs.Prefixes.{AppendsPrefix}
+use Rattle.st_journal.specs.InMemory.{InMemory, fresh_contents}
+use Rattle.st_journal.specs.Plans as plans
+use Rattle.st_script.specs.JournalRuns.{HasChanges, IsFreshStore, Leaves, STORE_SIZE}
+use Rattle.st_script.specs.JournalScripts.{JournalState}
 use Rattle.st_script.specs.declared.fault.ScriptFault.{ScriptFault}
 use Rattle.st_script.specs.declared.fault.ScriptFault.TheVariants as faults
 use Rattle.st_script.specs.Ends.{HasCauses, IsWhole, Reports}
 use Rattle.st_script.specs.Scripts.{Ending, Whole, Stopped, Outcome}
 use Rattle.st_tank.specs.Scripts.{IsPlayed, played_of, status_at, status_scripted}
+use Rattle.st_script.proofs.Outcomes.{unwritten as nothing}
 use Rattle.st_tank.proofs.Prefixed.{whole_prefix}
 
 whole_is_zero : {State : Type 0} (holds : State → Type 0) (e : Ending State) → IsWhole holds e → 0 ≡ status_at e
@@ -97,3 +103,33 @@ is_played holds r left left_now before now a b m n o reports through causes = re
   other = other_by r;
   known = known_by r;
 }
+
+-- nothing was read and nothing written, for want of memory
+pub unplayed : {State : Type 0} (left before : Option (List ℕ)) (a m : ℕ) (o : List ℕ → Outcome State) →
+    IsPlayed 5 left left before before a a m m (λ bytes. played_of (o bytes))
+unplayed {State} left before a m o =
+    is_played (λ (s : State). Unit {0}) (Err faults.Memory) left left before before a a m m o (unwritten left) tt (omega arith, omega arith)
+  where
+    unwritten : (l : Option (List ℕ)) → IfSome l (λ bytes. Reports (λ (s : State). Unit {0}) (Err faults.Memory) before before (o bytes))
+    unwritten None = tt
+    unwritten (Some bytes) = nothing before (o bytes).text
+
+-- a script of a journal, which gives back its store
+pub journal_is_played : (r : Result InMemory ScriptFault) (left left_now before now : Option (List ℕ)) (a b m n : ℕ) (o : List ℕ → Outcome JournalState) →
+    IfSome left (λ bytes. Leaves r before now (o bytes)) → OnOk r (IsAtEnd left_now) → HasCauses r a b m n →
+    IsPlayed (status_scripted r) left left_now before now a b m n (λ bytes. played_of (o bytes))
+journal_is_played (Ok store) left left_now before now a b m n o reports through causes =
+    is_played (λ s. HasChanges s store) (Ok tt) left left_now before now a b m n o reports through causes
+journal_is_played (Err e) left left_now before now a b m n o reports through causes = by_fault e reports causes
+  where
+    by_fault : (e : ScriptFault) → IfSome left (λ bytes. Leaves (Err e) before now (o bytes)) → HasCauses {T = InMemory} (Err e) a b m n →
+        IsPlayed (status_scripted {T = InMemory} (Err e)) left left_now before now a b m n (λ bytes. played_of (o bytes))
+    by_fault (faults.Line l) reports causes = is_played (λ s. Unit {0}) (Err (faults.Line l)) left left_now before now a b m n o reports tt causes
+    by_fault faults.Read reports causes = is_played (λ s. Unit {0}) (Err faults.Read) left left_now before now a b m n o reports tt causes
+    by_fault faults.Write reports causes = is_played (λ s. Unit {0}) (Err faults.Write) left left_now before now a b m n o reports tt causes
+    by_fault faults.Memory reports causes = is_played (λ s. Unit {0}) (Err faults.Memory) left left_now before now a b m n o reports tt causes
+
+-- a store of zeros that was made with no call to fail
+pub fresh_store : (s : InMemory) (fails : Vec ℕ Global) → fails.items ≡ [] → s ≡ record { contents = fresh_contents STORE_SIZE; plan = plans.fresh fails; starved = false } → IsFreshStore s
+fresh_store s fails none is =
+    subst IsFreshStore (sym is) (record { zeros = refl; sound = record { none = none; quiet = record { unset = refl; runs = refl } } })

@@ -5,8 +5,9 @@ use Rattle.st_link.specs.Causes.{Rose}
 use Rattle.st_link.specs.Prefixes.{AppendsPrefix}
 use Rattle.st_script.specs.declared.fault.ScriptFault.{ScriptFault}
 use Rattle.st_script.specs.declared.fault.ScriptFault.TheVariants as faults
+use Rattle.st_script.specs.JournalScripts as journals
 use Rattle.st_script.specs.MoveScripts as moves
-use Rattle.st_script.specs.Scripts.{Ending, Whole, Stopped, Outcome, script_of}
+use Rattle.st_script.specs.Scripts.{Ending, Whole, Stopped, Outcome, script_from, script_of}
 use Rattle.st_script.specs.SharedScripts as shared
 use Rattle.st_script.specs.SnapScripts as snaps
 use Rattle.st_tank.specs.declared.words.Command.{Command}
@@ -26,6 +27,7 @@ played_of o = record { text = o.text; status = status_at o.ending }
 
 -- what a command makes of the bytes of a script
 unfoldable pub played : Command → List ℕ → Played
+played commands.Journal bytes = played_of (script_from journals.journal_rules journals.fresh_journal bytes)
 played commands.Move bytes = played_of (script_of moves.head moves.move_rules bytes)
 played commands.Snap bytes = played_of (script_of snaps.head snaps.snap_rules bytes)
 played commands.Shared bytes = played_of (script_of shared.head shared.shared_rules bytes)

@@ -41,8 +41,11 @@ shared_in word = if bytes_eq word (codes "shared") then Some commands.Shared els
 abbrev pub snap_in : List ℕ → Option Command
 snap_in word = if bytes_eq word (codes "snap") then Some commands.Snap else shared_in word
 
+abbrev pub move_in : List ℕ → Option Command
+move_in word = if bytes_eq word (codes "move") then Some commands.Move else snap_in word
+
 abbrev pub command_in : List ℕ → Option Command
-command_in word = if bytes_eq word (codes "move") then Some commands.Move else snap_in word
+command_in word = if bytes_eq word (codes "journal") then Some commands.Journal else move_in word
 
 abbrev pub scripted : Option Command → Option Job
 scripted None = None
@@ -85,7 +88,7 @@ OnMade job fact = Unit {0}
 -- memory, and no text for 0 and 1.
 
 unfoldable pub USAGE : List ℕ
-USAGE = codes "usage: tank replay | generate N SEED | work N SEED | node server|client ID NAME | move | snap | shared\n"
+USAGE = codes "usage: tank replay | generate N SEED | work N SEED | node server|client ID NAME | journal | move | snap | shared\n"
 
 abbrev pub memory_text : ℕ → List ℕ
 memory_text status = if status == 5 then codes "tank: out of memory\n" else []

@@ -25,11 +25,11 @@ use st_generate_run::WorkFault;
 use st_link::{Link, Sink, Source, put_all};
 use st_replay::{ReplayFault, Summary, World};
 use st_runs::{all_is_promised, schedules_run_safely};
-use st_script::ScriptFault;
+use st_script::{MemoryStore, ScriptFault};
 use std::alloc::Global;
 
 const USAGE: &[u8] =
-    b"usage: tank replay | generate N SEED | work N SEED | node server|client ID NAME | move | snap | shared\n";
+    b"usage: tank replay | generate N SEED | work N SEED | node server|client ID NAME | journal | move | snap | shared\n";
 
 /// The status of a replay that ended so.
 fn status_after(ended: &Result<(Summary, World), ReplayFault>) -> u8
@@ -103,6 +103,25 @@ fn status_of_script<T: Drop>(ended: Result<T, ScriptFault>) -> u8
     }
 }
 
+/// The number of bytes of a journal's store.
+const STORE_SIZE: u64 = 4_194_304;
+
+/// Plays a script of a journal, in a store of zeros.
+#[tactic(auto, unfolding(crate::specs::Scripts::played))]
+fn journal<I: Source, O: Sink>(alloc: Global, input: &mut I, out: &mut O) -> u8
+    ensures { IsPlayed result (I.left input.old) (I.left input.new) (O.written out.old) (O.written out.new) (I.faults input.old) (I.faults input.new)
+        (O.faults out.old) (O.faults out.new) (played commands.Journal) }
+{
+    let fails = Vec::new(alloc);
+    match MemoryStore::new(alloc, STORE_SIZE, fails) {
+        Ok(store) => {
+            let ended = st_script::journal(alloc, input, out, store);
+            status_of_script(ended)
+        }
+        Err(_) => 5,
+    }
+}
+
 /// Plays a script of containers that move.
 #[tactic(auto, unfolding(crate::specs::Scripts::played))]
 fn move_containers<I: Source, O: Sink>(alloc: Global, input: &mut I, out: &mut O) -> u8
@@ -144,6 +163,7 @@ fn play_script<I: Source, O: Sink>(
         (O.faults out.old) (O.faults out.new) (played command) }
 {
     match command {
+        Command::Journal => journal(alloc, input, out),
         Command::Move => move_containers(alloc, input, out),
         Command::Snap => snap(alloc, input, out),
         Command::Shared => shared(alloc, input, out),

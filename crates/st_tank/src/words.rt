@@ -7,6 +7,8 @@ use crate::numbers::number;
 
 const REPLAY: &[u8] = b"replay";
 
+const JOURNAL: &[u8] = b"journal";
+
 const MOVE: &[u8] = b"move";
 
 const SNAP: &[u8] = b"snap";
@@ -23,6 +25,7 @@ const MOST_EVENTS: u64 = 100_000;
 /// The commands that play a script.
 #[derive(Clone, Copy, Debug, PartialEq, Eq)]
 pub(crate) enum Command {
+    Journal,
     Move,
     Snap,
     Shared,
@@ -40,7 +43,9 @@ pub(crate) enum Job {
 fn command_in(word: &[u8]) -> Option<Command>
     ensures { result ≡ words_of.command_in word.now }
 {
-    if word == MOVE {
+    if word == JOURNAL {
+        Some(Command::Journal)
+    } else if word == MOVE {
         Some(Command::Move)
     } else if word == SNAP {
         Some(Command::Snap)

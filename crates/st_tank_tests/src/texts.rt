@@ -20,4 +20,4 @@ pub const ONE_SIDED_CUT_REPORT: &str =
 
 /// The text at wrong words.
 pub const USAGE: &str =
-    "usage: tank replay | generate N SEED | work N SEED | node server|client ID NAME | move | snap | shared\n";
+    "usage: tank replay | generate N SEED | work N SEED | node server|client ID NAME | journal | move | snap | shared\n";
