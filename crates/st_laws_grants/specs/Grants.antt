@@ -1,0 +1,43 @@
+-- Grant numbers are given once: a number of a server names one client and one file, for ever.
+use Rattle.std.specs.Prelude.{◌≡◌, ℕ, Bool, true, false, ◌&&◌, ◌||◌, not, ◌==◌, List, map}
+use Rattle.std.specs.List.{list_all}
+use Rattle.st_base.specs.declared.ids.GrantNo.{GrantNo}
+use Rattle.st_base.specs.declared.ids.ServerId.{ServerId}
+use Rattle.st_messages.specs.declared.message.Body.{Body}
+use Rattle.st_messages.specs.declared.message.Body.TheVariants as bodies
+use Rattle.st_messages.specs.declared.message.Message.{Message}
+use Rattle.st_rules.specs.Keys.{server_node}
+use Rattle.st_rules.specs.Safety.{Promise}
+use Rattle.st_rules.specs.World.{all_servers}
+use Rattle.st_promises.specs.Counts.{message_in}
+
+-- a grant under this number
+abbrev pub has_number : GrantNo → Body → Bool
+has_number g (bodies.Granted ino h mode) = h.0 == g.0
+has_number g body = false
+
+-- a grant of this file
+abbrev pub is_of_file : ℕ → Body → Bool
+is_of_file ino (bodies.Granted i g mode) = i == ino
+is_of_file ino body = false
+
+-- the server's grants under this number are to this client, of this file
+abbrev pub agrees : ServerId → ℕ → ℕ → GrantNo → Message → Bool
+agrees s to ino g m = not ((m.header.from == server_node s) && has_number g m.body) || ((m.header.to == to) && is_of_file ino m.body)
+
+-- a grant of the server agrees with all of these
+abbrev pub grants_once : ServerId → List Message → ℕ → Body → Bool
+grants_once s ms to (bodies.Granted ino g mode) = list_all (agrees s to ino g) ms
+grants_once s ms to body = true
+
+-- a message of the server, if it is a grant
+abbrev pub is_given_once : ServerId → List Message → Message → Bool
+is_given_once s ms m = not (m.header.from == server_node s) || grants_once s ms m.header.to m.body
+
+-- all messages of the server
+abbrev pub gives_once : List Message → ServerId → Bool
+gives_once ms s = list_all (is_given_once s ms) ms
+
+-- Grant numbers are given once: of all messages that were ever sent, the grants of a server under one number are to one client, of one file.
+abbrev pub GrantNumbersAreGivenOnce : Promise
+GrantNumbersAreGivenOnce past x = list_all (gives_once (map message_in x.after.world.net.messages)) (all_servers x.after.world) ≡ true
