@@ -1,6 +1,6 @@
 -- Grant numbers are given once: at the start, behind every event, and over whole runs.
-use Rattle.std.proofs.Common.{◌≡◌, ℕ, ◌+◌, Bool, true, false, not, ◌==◌, ◌&&◌, ◌||◌, List, [], ◌∷◌, ◌++◌, Option, Some, None, Ok, refl, sym, ap, ◌∙◌, subst, arith}
-use Rattle.std.specs.List.{list_all}
+use Rattle.std.proofs.Common.{◌≡◌, ℕ, ◌+◌, ◌<◌, ◌⊎◌, Bool, true, false, not, ◌==◌, ◌&&◌, ◌||◌, List, [], ◌∷◌, ◌++◌, Option, Some, None, Ok, refl, sym, ap, ◌∙◌, subst, inl, inr, arith, lt-ltb}
+use Rattle.std.specs.List.{list_all, list_any}
 use Rattle.std.proofs.lemmas.Bool.{eq-eqb, eqb-true}
 use Rattle.st_base.specs.declared.config.Config as base
 use Rattle.st_base.specs.declared.ids.GrantNo.{GrantNo}
@@ -23,8 +23,8 @@ use Rattle.st_rules.specs.Server.{ServerNode}
 use Rattle.st_rules.specs.World.{World, ClientSite, all_servers, fresh_site, fresh_world, node_at_start, node_of}
 use Rattle.st_protocol.specs.Assoc.{Config}
 use Rattle.st_lemmas.specs.Lists.{Has}
-use Rattle.st_lemmas.proofs.Lookups.{some_is}
-use Rattle.st_lemmas.proofs.Tables.{all_pass, and_both, has_map}
+use Rattle.st_lemmas.proofs.Lookups.{or_left, or_right, some_is}
+use Rattle.st_lemmas.proofs.Tables.{all_pass, and_both, has_map, some_passes}
 use Rattle.st_laws_pages.proofs.Lives.Fresh.{fresh_is}
 use Rattle.st_laws_refine.specs.Client.Shown.{Kept}
 use Rattle.st_laws_refine.specs.Server.Pair.{terms_of}
@@ -33,9 +33,9 @@ use Rattle.st_laws_leases.specs.Dates.Dates.{message_in, messages}
 use Rattle.st_laws_leases.specs.Sides.Law.{InEveryRun}
 use Rattle.st_laws_leases.specs.Sides.World.{AllStand}
 use Rattle.st_laws_leases.proofs.Sides.Runs.{throughout_events}
-use Rattle.st_laws_extents.proofs.CutRequests.Law.{Hold, first, owed, same_all}
-use Rattle.st_laws_grants.specs.Grants.{GrantNumbersAreGivenOnce, agrees, gives_once, grants_once, has_number, is_given_once, is_of_file}
-use Rattle.st_laws_grants.specs.Owners.{AllGiveOnce, GivesOnce, Side}
+use Rattle.st_laws_extents.proofs.CutRequests.Law.{Hold, first, followed, owed, same_all}
+use Rattle.st_laws_grants.specs.Grants.{GrantNumbersAreGivenOnce, GrantNumbersRise, agrees, gives_below, gives_rising, gives_once, grants_once, has_number, is_given_once, is_number_below, is_number_of, is_of_file, is_risen, rises}
+use Rattle.st_laws_grants.specs.Owners.{AllGiveOnce, GivesOnce, RiseFrom, Side, WasSent}
 use Rattle.st_laws_grants.proofs.Nets.{granted_owned}
 use Rattle.st_laws_grants.proofs.World.{goes_on}
 
@@ -89,14 +89,60 @@ module _ (k : Config) (count : ℕ) (w : World) (all : AllStand k count w) (g : 
   pub all_once : list_all (gives_once (messages w)) (all_servers w) ≡ true
   all_once = all_pass (gives_once (messages w)) (all_servers w) (λ s h. all_pass (is_given_once s (messages w)) (messages w) (λ m i. once s m i))
 
-one : (k : Config) (count : ℕ) (past : List Step) (t : Traced) (e : Event) (sc : WorldTurn) → is_event count e ≡ true → AllOnce k count past t → world_step t.world e ≡ Ok sc → GrantNumbersAreGivenOnce past (step t e sc) × AllOnce k count (past ++ step t e sc ∷ []) (traced_after e t sc)
-one k count past t e sc r h taken = (all_once k count sc.world base.all gives, record { base = base; gives = gives })
+-- Numbers rise.
+module _ (k : Config) (count : ℕ) (w v : World) (all : AllStand k count v) (back : (s : ServerId) (node : ServerNode) → node_of v s ≡ Some node → (old : ServerNode) × (node_of w s ≡ Some old)) (f : RiseFrom w v) where
+  risen : (s : ServerId) (m : Message) → Has m (messages v) → is_risen s (messages w) m ≡ true
+  risen s m h = go (m.header.from == server_node s) refl
+    where
+      old : m.header.from ≡ server_node s → (node : ServerNode) × (node_of w s ≡ Some node)
+      old from = at (has_map message_in v.net.messages m h)
+        where
+          at : (n : SentMessage) × Has n v.net.messages × (m ≡ message_in n) → (node : ServerNode) × (node_of w s ≡ Some node)
+          at (n, i, f) = let t = all.senders n i s (ap (λ (y : Message). y.header.from) (sym f) ∙ from) in back s t.node t.is
+
+      same : (g : GrantNo) (x : Message) → Has x (messages w) → x.header.from ≡ server_node s → (ino : ℕ) (mode : Mode) → x.body ≡ bodies.Granted ino (record { 0 = g.0 }) mode → list_any (is_number_of s g) (messages w) ≡ true
+      same g x i from ino mode e = some_passes (is_number_of s g) (messages w) x i (and_both _ _ (eq-eqb _ _ from) (subst (λ b. has_number g b ≡ true) (sym e) (eq-eqb g.0 g.0 refl)))
+
+      below : (g : GrantNo) → ((x : Message) → Has x (messages w) → x.header.from ≡ server_node s → (j : ℕ) (h : GrantNo) (by : Mode) → x.body ≡ bodies.Granted j h by → h.0 < g.0) → list_all (gives_below s g) (messages w) ≡ true
+      below g low = all_pass (gives_below s g) (messages w) (λ x i. each x i (x.header.from == server_node s) refl)
+        where
+          each : (x : Message) → Has x (messages w) → (z : Bool) → (x.header.from == server_node s) ≡ z → (not z || is_number_below g x.body) ≡ true
+          each x i false e = refl
+          each x i true e = body x.body refl
+            where
+              body : (b : Body) → x.body ≡ b → is_number_below g b ≡ true
+              body (bodies.Granted j h by) q = lt-ltb h.0 g.0 (low x i (eqb-true x.header.from (server_node s) e) j h by q)
+              body b q = refl
+
+      body : m.header.from ≡ server_node s → (b : Body) → m.body ≡ b → rises s (messages w) b ≡ true
+      body from (bodies.Granted ino g mode) e = by (f s (old from).0 (old from).1 m h from ino g mode e)
+        where
+          by : Has m (messages w) ⊎ (WasSent s (messages w) g.0 ⊎ ((x : Message) → Has x (messages w) → x.header.from ≡ server_node s → (j : ℕ) (h : GrantNo) (by : Mode) → x.body ≡ bodies.Granted j h by → h.0 < g.0)) →
+              (list_any (is_number_of s g) (messages w) || list_all (gives_below s g) (messages w)) ≡ true
+          by (inl i) = or_left _ _ (same g m i from ino mode e)
+          by (inr (inl z)) = or_left _ _ (same g z.message z.among z.from z.ino z.mode z.body)
+          by (inr (inr low)) = or_right _ _ (below g low)
+      body from b e = refl
+
+      go : (z : Bool) → (m.header.from == server_node s) ≡ z → (not z || rises s (messages w) m.body) ≡ true
+      go false e = refl
+      go true e = body (eqb-true m.header.from (server_node s) e) m.body refl
+
+  pub all_rise : list_all (gives_rising (messages w) (messages v)) (all_servers v) ≡ true
+  all_rise = all_pass (gives_rising (messages w) (messages v)) (all_servers v) (λ s h. all_pass (is_risen s (messages w)) (messages v) (λ m i. risen s m i))
+
+both : (k : Config) (count : ℕ) (past : List Step) (t : Traced) (e : Event) (sc : WorldTurn) → is_event count e ≡ true → AllOnce k count past t → world_step t.world e ≡ Ok sc →
+    (GrantNumbersAreGivenOnce past (step t e sc) × GrantNumbersRise past (step t e sc)) × AllOnce k count (past ++ step t e sc ∷ []) (traced_after e t sc)
+both k count past t e sc r h taken = ((all_once k count sc.world base.all goes.0, all_rise k count t.world sc.world base.all back goes.1), record { base = base; gives = goes.0 })
   where
     base : Hold k count (past ++ step t e sc ∷ []) (traced_after e t sc)
     base = (same_all k count past t e sc r h.base taken).0
 
-    gives : AllGiveOnce sc.world
-    gives = goes_on k count t.world h.base.all h.gives (λ s n at. (h.base.cuts.servers s n at).id) e sc (owed k count past t e sc r h.base taken) taken
+    goes : AllGiveOnce sc.world × RiseFrom t.world sc.world
+    goes = goes_on k count t.world h.base.all h.gives (λ s n at. (h.base.cuts.servers s n at).id) e sc (owed k count past t e sc r h.base taken) taken
+
+    back : (s : ServerId) (node : ServerNode) → node_of sc.world s ≡ Some node → (old : ServerNode) × (node_of t.world s ≡ Some old)
+    back s node at = let z = (followed k count past t e sc r h.base taken).came s.0 node at in (z.node, z.before)
 
 -- The start.
 begins : (k : base.Config) (clients servers disks blocks form : ℕ) → IsHead k clients servers disks blocks form → AllOnce (terms_of k) (clients + servers) [] (traced (fresh_world k clients servers disks blocks form))
@@ -121,6 +167,7 @@ begins k clients servers disks blocks form head = record { base = first k client
         record {
           owner = λ n. None;
           state = (record { low = λ n y e. none e; rows = λ r h. absurd h }, λ c x e. none e);
+          told = λ n y e. none e;
           pairs = λ c. record {
             net = [];
             tells = λ m h. absurd h;
@@ -138,4 +185,10 @@ begins k clients servers disks blocks form head = record { base = first k client
 
 pub law : InEveryRun GrantNumbersAreGivenOnce
 law k clients servers disks blocks form es head events =
-    throughout_events (clients + servers) GrantNumbersAreGivenOnce (AllOnce (terms_of k) (clients + servers)) (one (terms_of k) (clients + servers)) es events [] (traced (fresh_world k clients servers disks blocks form)) (begins k clients servers disks blocks form head)
+    throughout_events (clients + servers) GrantNumbersAreGivenOnce (AllOnce (terms_of k) (clients + servers)) (λ past t e sc r h taken. let z = both (terms_of k) (clients + servers) past t e sc r h taken in (z.0.0, z.1)) es events []
+    (traced (fresh_world k clients servers disks blocks form)) (begins k clients servers disks blocks form head)
+
+pub rising : InEveryRun GrantNumbersRise
+rising k clients servers disks blocks form es head events =
+    throughout_events (clients + servers) GrantNumbersRise (AllOnce (terms_of k) (clients + servers)) (λ past t e sc r h taken. let z = both (terms_of k) (clients + servers) past t e sc r h taken in (z.0.1, z.1)) es events []
+    (traced (fresh_world k clients servers disks blocks form)) (begins k clients servers disks blocks form head)

@@ -55,10 +55,11 @@ use Rattle.st_laws_refine.proofs.Views.Moves.{Grows as MoreSent, heard_more, mov
 use Rattle.st_laws_requests.specs.Replies.Reached.{NewOwed}
 use Rattle.st_laws_requests.proofs.Replies.EachEvent as each
 use Rattle.st_laws_requests.proofs.Replies.EachEvent.{ClientTook, NodeAfter, ServerLeft, ServerTook, SiteAfter}
-use Rattle.st_laws_grants.specs.Owners.{AllGiveOnce, AllTell, GivesOnce, Grows, Keeps, LocksOk, Owned, Owner, Pair, Side, StateOk, Tells}
+use Rattle.st_laws_grants.specs.Owners.{AllGiveOnce, AllTell, Fits, GivesOnce, Grows, Keeps, LocksOk, Owned, Owner, Pair, RiseFrom, Side, StateOk, Tells, WasSent}
 use Rattle.st_laws_grants.proofs.Moves.{Down, stays_down}
-use Rattle.st_laws_grants.proofs.Nets.{add, add_grows, add_shows, add_tells}
-use Rattle.st_laws_grants.proofs.Server.{Gives, RowsOwned, served}
+use Rattle.st_laws_grants.proofs.Locking.{IsDue, top}
+use Rattle.st_laws_grants.proofs.Nets.{add, add_grows, add_shows, add_tells, granted_owned, server_tells}
+use Rattle.st_laws_grants.proofs.Server.{Gives, IsTold, RowsOwned, served}
 
 -- a client's message is its own, and its server can hear it
 said_out : (id : ℕ) (own : ServerId) (os : List Output) (N : List Msg) (m : Message) → Said id own os N → Has (outputs.Send m) os → (m.header.from ≡ id) × (m.header.to ≡ server_node own → Heard m.header m.body N)
@@ -87,6 +88,10 @@ reasserted_owned o m N rows e h k r i = subst (λ (l : net.Lock). o l.g ≡ Some
 
     told : 1 ≤ (lock_in rows r.0).mode → o (lock_in rows r.0).g ≡ Some (m.header.from, r.0)
     told l = k _ here.shows.rest.one r.0 l
+
+-- With more messages.
+sent_more : (s : ServerId) (ms ns : List Message) (g : ℕ) → ((m : Message) → Has m ms → Has m ns) → WasSent s ms g → WasSent s ns g
+sent_more s ms ns g f z = record { message = z.message; among = f z.message z.among; from = z.from; ino = z.ino; mode = z.mode; body = z.body }
 
 -- With more numbers.
 pair_grow : (o p : Owner) → Grows o p → (c : ℕ) (s : ServerId) (w : World) → Pair o c s w → Pair p c s w
@@ -134,6 +139,9 @@ pair_on o c s w v f at q =
     hears m (inl h) to of from = q.hears m h to of from
     hears m (inr n) to of from = absurd (n.1 of from)
 
+below_that : (a b c : ℕ) → a ≤ b → b < c → a < c
+below_that a b c x y = omega (arith, x, y)
+
 -- no server has the number of a client
 of_no_client : (s : ServerId) (n : ℕ) → n ≡ server_node s → is_client_node n ≡ true → ⊥
 of_no_client s n e c = let z = leb-true n 16 (and_true (nat_le 1 n) (nat_le n 16) c).1 in omega (arith, e, z)
@@ -154,14 +162,14 @@ module _ (k : Config) (count : ℕ) (w : World) (all : AllStand k count w) (g : 
     alike : AllGiveOnce v
     alike s node e =
         let z = g s node (ap (λ x. numbered x s.0) (sym ss) ∙ e) in
-        record { owner = z.owner; state = z.state; pairs = λ c. pair_on z.owner c s w v (old_message c s) (λ site f. ap (λ x. numbered x c) (sym cs) ∙ f) (z.pairs c) }
+        record { owner = z.owner; state = z.state; pairs = λ c. pair_on z.owner c s w v (old_message c s) (λ site f. ap (λ x. numbered x c) (sym cs) ∙ f) (z.pairs c); told = λ n y e. sent_more s (messages w) (messages v) n (λ m h. subst (Has m) (sym ms) h) (z.told n y e) }
 
   -- A client that is emptied.
   emptied : (v : World) (c : ClientId) (old new : ClientSite) → site_of w c ≡ Some old → v.clients ≡ with_numbered c.0 new w.clients → v.servers ≡ w.servers → messages v ≡ messages w →
       ((a : Association) → Has a new.node.state.associations → a.session ≡ None) → AllGiveOnce v
   emptied v c old new at cs ss ms none s node e =
       let z = g s node (ap (λ x. numbered x s.0) (sym ss) ∙ e) in
-      record { owner = z.owner; state = z.state; pairs = λ d. pair z.owner d (z.pairs d) }
+      record { owner = z.owner; state = z.state; pairs = λ d. pair z.owner d (z.pairs d); told = λ n y e. sent_more s (messages w) (messages v) n (λ m h. subst (Has m) (sym ms) h) (z.told n y e) }
     where
       pair : (o : Owner) (d : ℕ) → Pair o d s w → Pair o d s v
       pair o d q =
@@ -308,11 +316,18 @@ module _ (k : Config) (count : ℕ) (w : World) (all : AllStand k count w) (g : 
           at_other x (inr e) = e.1
 
       after : GivesOnce last s node
-      after = record { owner = z.owner; state = z.state; pairs = λ d. go d (same_or_not d c.0) }
+      after = record { owner = z.owner; state = z.state; pairs = λ d. go d (same_or_not d c.0); told = λ n y e. sent_more s (messages w) (messages last) n l.old (z.told n y e) }
         where
           go : (d : ℕ) → (d ≡ c.0) ⊎ (d ≢ c.0) → Pair z.owner d s last
           go d (inl e) = subst (λ n. Pair z.owner n s last) (sym e) own
           go d (inr n) = other d n
+
+    client_rises : RiseFrom w last
+    client_rises s node there m h from ino b mode f = go (from_where s node there m h)
+      where
+        go : Has m (messages w) ⊎ Has (outputs.Send m) (ClientTook v c i site).out → Has m (messages w) ⊎ (WasSent s (messages w) b.0 ⊎ ((y : Message) → Has y (messages w) → y.header.from ≡ server_node s → (j : ℕ) (c : GrantNo) (by : Mode) → y.body ≡ bd.Granted j c by → c.0 < b.0))
+        go (inl k) = inl k
+        go (inr k) = absurd (server_not_client c.0 s.0 (few s node there) (sym (sent s node there m k).0 ∙ from))
 
     client_step : AllGiveOnce last
     client_step s node e = after s node (ap (λ x. numbered x s.0) (sym ss) ∙ ap (λ x. numbered x s.0) (sym l.servers) ∙ e)
@@ -334,18 +349,26 @@ module _ (k : Config) (count : ℕ) (w : World) (all : AllStand k count w) (g : 
         let q = was.pairs m.header.from in
         reasserted_owned was.owner m q.net rows f (q.hears m (subst (each.Brings w) e brings) to of refl) q.tells
 
-    u : Gives s was.owner i asserted (ServerTook w s i node)
-    u = served s was.owner i asserted node.state (clock_of (ev.counted w) (nodes.Server s)) (record { owner = was.owner; grows = λ n y e. e; id = id; locked = before.0; kept = before.1; sent = λ x h. absurd h })
+    u : Gives s was.owner (top node.state.locks) i asserted (ServerTook w s i node)
+    u = served s was.owner (top node.state.locks) i asserted node.state (clock_of (ev.counted w) (nodes.Server s)) (record { owner = was.owner; grows = λ n y e. e; id = id; locked = before.0; kept = before.1; sent = λ x h. absurd h; told = λ n y e. inl e; up = omega arith })
 
     came : (m : Message) → Has m (messages Last) → Has m (messages w) ⊎ Has (outputs.Send m) (ServerTook w s i node).out
     came m h = leaves_from (messages w) (ev.with_node s (NodeAfter w s i node) (ev.counted w)) Last (ServerTook w s i node).out l m h
+
+    said : (m : Message) → Has (outputs.Send m) (ServerTook w s i node).out → Has m (messages Last)
+    said m h = server_tells s (ServerTook w s i node).out (ev.quiet (ev.with_node s (NodeAfter w s i node) (ev.counted w))) m h
 
     site_there : (d : ℕ) (x : ClientSite) → site_of Last (client d) ≡ Some x → site_of w (client d) ≡ Some x
     site_there d x e = ap (λ u. numbered u d) (sym l.clients) ∙ e
 
     own_node : GivesOnce Last s (NodeAfter w s i node)
-    own_node = record { owner = u.owner; state = subst (λ b. StateOk u.owner b (ServerTook w s i node).state) (sym run) (u.locked, u.kept); pairs = λ d. pair d (pair_grow was.owner u.owner u.grows d s w (was.pairs d)) }
+    own_node = record { owner = u.owner; state = subst (λ b. StateOk u.owner b (ServerTook w s i node).state) (sym run) (u.locked, u.kept); told = λ n y e. told n y (u.told n y e); pairs = λ d. pair d (pair_grow was.owner u.owner u.grows d s w (was.pairs d)) }
       where
+        told : (n : ℕ) (y : ℕ × ℕ) → (was.owner n ≡ Some y) ⊎ ((top node.state.locks < n) × (IsTold s (ServerTook w s i node).out n y ⊎ IsDue [] n y)) → WasSent s (messages Last) n
+        told n y (inl e) = sent_more s (messages w) (messages Last) n l.old (was.told n y e)
+        told n y (inr (a, inr e)) = absurd e.among
+        told n y (inr (a, inl e)) = record { message = e.message; among = said e.message e.among; from = e.from; ino = y.1; mode = e.mode; body = e.body }
+
         pair : (d : ℕ) → Pair u.owner d s w → Pair u.owner d s Last
         pair d q =
             record {
@@ -368,11 +391,32 @@ module _ (k : Config) (count : ℕ) (w : World) (all : AllStand k count w) (g : 
             hears m (inr h) to of from = absurd (of_no_client s m.header.from (u.sent m h).0 of)
 
     other_node : (x : ServerId) (n : ServerNode) → x.0 ≢ s.0 → node_of w x ≡ Some n → GivesOnce Last x n
-    other_node x n ne e = let y = g x n e in record { owner = y.owner; state = y.state; pairs = λ d. pair_on y.owner d x w Last (λ m h. foreign d m (came m h)) (site_there d) (y.pairs d) }
+    other_node x n ne e = let y = g x n e in record { owner = y.owner; state = y.state; pairs = λ d. pair_on y.owner d x w Last (λ m h. foreign d m (came m h)) (site_there d) (y.pairs d); told = λ a b f. sent_more x (messages w) (messages Last) a l.old (y.told a b f) }
       where
         foreign : (d : ℕ) (m : Message) → Has m (messages w) ⊎ Has (outputs.Send m) (ServerTook w s i node).out → Has m (messages w) ⊎ Foreign d x m
         foreign d m (inl h) = inl h
         foreign d m (inr h) = inr ((λ from. ne (let a = (u.sent m h).0 in omega (arith, from, a))), λ of from. of_no_client s m.header.from (u.sent m h).0 of)
+
+    -- its new numbers are above all that it had sent
+    server_rises : RiseFrom w Last
+    server_rises x n e m h from ino b mode f = go (came m h)
+      where
+        number : x.0 ≡ s.0 → x ≡ s
+        number q = ap (λ (y : ℕ). record { 0 = y }) q
+
+        low : x ≡ s → top node.state.locks < b.0 → (y : Message) → Has y (messages w) → y.header.from ≡ server_node x → (j : ℕ) (c : GrantNo) (by : Mode) → y.body ≡ bd.Granted j c by → c.0 < b.0
+        low q up y k r j c by p =
+            let pair = was.pairs y.header.to in
+            below_that c.0 (top node.state.locks) b.0 (before.0.low c.0 (y.header.to, j) (granted_owned was.owner y.header.to y pair.net j c by p pair.tells (pair.shows y k (r ∙ ap server_node q) refl))) up
+
+        new : x ≡ s → (y : ℕ × ℕ) → (was.owner b.0 ≡ Some y) ⊎ ((top node.state.locks < b.0) × (IsTold s (ServerTook w s i node).out b.0 y ⊎ IsDue [] b.0 y)) →
+            WasSent x (messages w) b.0 ⊎ ((y : Message) → Has y (messages w) → y.header.from ≡ server_node x → (j : ℕ) (c : GrantNo) (by : Mode) → y.body ≡ bd.Granted j c by → c.0 < b.0)
+        new q y (inl k) = inl (subst (λ (v : ServerId). WasSent v (messages w) b.0) (sym q) (was.told b.0 y k))
+        new q y (inr k) = inr (low q k.0)
+
+        go : Has m (messages w) ⊎ Has (outputs.Send m) (ServerTook w s i node).out → Has m (messages w) ⊎ (WasSent x (messages w) b.0 ⊎ ((y : Message) → Has y (messages w) → y.header.from ≡ server_node x → (j : ℕ) (c : GrantNo) (by : Mode) → y.body ≡ bd.Granted j c by → c.0 < b.0))
+        go (inl k) = inl k
+        go (inr k) = inr (new (number (let a = (u.sent m k).0 in omega (arith, a, from))) (m.header.to, ino) (u.told b.0 (m.header.to, ino) (subst (Fits u.owner m.header.to) f (u.sent m k).1)))
 
     server_step : AllGiveOnce Last
     server_step x n e = go (set_cases w.servers s.0 x.0 node (NodeAfter w s i node) n at (ap (λ u. numbered u x.0) (sym l.servers) ∙ e))
@@ -390,11 +434,11 @@ module _ (k : Config) (count : ℕ) (w : World) (all : AllStand k count w) (g : 
       pair o y d q = pair_on o d y w v (λ m h. inl (subst (Has m) ms h)) (λ site k. ap (λ u. numbered u d) (sym cs) ∙ k) q
 
       own : GivesOnce v s next
-      own = let z = g s node at in record { owner = z.owner; state = f z.owner z.state; pairs = λ d. pair z.owner s d (z.pairs d) }
+      own = let z = g s node at in record { owner = z.owner; state = f z.owner z.state; pairs = λ d. pair z.owner s d (z.pairs d); told = λ n y e. sent_more s (messages w) (messages v) n (λ m h. subst (Has m) (sym ms) h) (z.told n y e) }
 
       go : ((x.0 ≡ s.0) × (n ≡ next)) ⊎ ((x.0 ≢ s.0) × (node_of w x ≡ Some n)) → GivesOnce v x n
       go (inl q) = subst (λ y. GivesOnce v (record { 0 = y }) n) (sym q.0) (subst (GivesOnce v s) (sym q.1) own)
-      go (inr q) = let z = g x n q.1 in record { owner = z.owner; state = z.state; pairs = λ d. pair z.owner x d (z.pairs d) }
+      go (inr q) = let z = g x n q.1 in record { owner = z.owner; state = z.state; pairs = λ d. pair z.owner x d (z.pairs d); told = λ n y e. sent_more x (messages w) (messages v) n (λ m h. subst (Has m) (sym ms) h) (z.told n y e) }
 
   -- all numbers are below those of the next epoch
   over : (s : ServerId) (node : ServerNode) → node_of w s ≡ Some node → (o : Owner) → StateOk o node.running node.state → StateOk o false node.state
@@ -421,10 +465,34 @@ module _ (k : Config) (count : ℕ) (w : World) (all : AllStand k count w) (g : 
       none : {A : Type 0} {x : Session} → ◌≡◌ {A = Option Session} None (Some x) → A
       none e = cc
 
+  -- the same messages
+  same_rise : (v : World) → messages v ≡ messages w → RiseFrom w v
+  same_rise v ms s node e m h from ino b mode f = inl (subst (Has m) ms h)
+
+  -- What an event leaves.
+  abbrev pub Goes : World → Type 0
+  Goes v = AllGiveOnce v × RiseFrom w v
+
+  stops : (c : ClientId) (site : ClientSite) → site_of w c ≡ Some site → Goes (ev.crashes_client (ev.counted w) c (Some site)).world
+  unfolding ev.crashes_client ev.marks
+  stops c site at = (stopped c site at, same_rise (ev.crashes_client (ev.counted w) c (Some site)).world refl)
+
+  begins : (c : ClientId) (site : ClientSite) → site_of w c ≡ Some site → Goes (ev.starts_client (ev.counted w) c (Some site))
+  unfolding ev.starts_client
+  begins c site at = (begun c site at, same_rise (ev.starts_client (ev.counted w) c (Some site)) refl)
+
+  crashes : (s : ServerId) (node : ServerNode) → node_of w s ≡ Some node → Goes (ev.crashes_server (ev.counted w) s (Some node))
+  unfolding ev.crashes_server
+  crashes s node at = (crashed s node at, same_rise (ev.crashes_server (ev.counted w) s (Some node)) refl)
+
+  starts : (s : ServerId) (node : ServerNode) → node_of w s ≡ Some node → Goes (ev.starts_server (ev.counted w) s (Some node))
+  unfolding ev.starts_server
+  starts s node at = (started s node at, same_rise (ev.starts_server (ev.counted w) s (Some node)) refl)
+
   -- every event
-  pub goes_on : ((s : ServerId) (node : ServerNode) → node_of w s ≡ Some node → node.state.id ≡ s) → (e : Event) (sc : WorldTurn) → NewOwed (ev.counted w) e → world_step w e ≡ Ok sc → AllGiveOnce sc.world
+  pub goes_on : ((s : ServerId) (node : ServerNode) → node_of w s ≡ Some node → node.state.id ≡ s) → (e : Event) (sc : WorldTurn) → NewOwed (ev.counted w) e → world_step w e ≡ Ok sc → Goes sc.world
   goes_on ids e sc owed taken =
-      each.event_leaves w AllGiveOnce alike
-      (λ v cs ss c i site old same run at comes last l. client_step v cs ss c i site old same at comes last l)
-      (λ s i node at run brings fresh l. server_step s i node at run (ids s node at) brings l)
-      stopped begun crashed started e sc owed taken
+      each.event_leaves w Goes (λ v cs ss ms. (alike v cs ss ms, same_rise v ms))
+      (λ v cs ss c i site old same run at comes last l. (client_step v cs ss c i site old same at comes last l, client_rises v cs ss c i site old same at comes last l))
+      (λ s i node at run brings fresh l. (server_step s i node at run (ids s node at) brings l, server_rises s i node at run (ids s node at) brings l))
+      stops begins crashes starts e sc owed taken

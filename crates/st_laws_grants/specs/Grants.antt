@@ -1,6 +1,6 @@
 -- Grant numbers are given once: a number of a server names one client and one file, for ever.
-use Rattle.std.specs.Prelude.{◌≡◌, ℕ, Bool, true, false, ◌&&◌, ◌||◌, not, ◌==◌, List, map}
-use Rattle.std.specs.List.{list_all}
+use Rattle.std.specs.Prelude.{◌≡◌, ℕ, Bool, true, false, ◌&&◌, ◌||◌, not, ◌==◌, nat_lt, List, map}
+use Rattle.std.specs.List.{list_all, list_any}
 use Rattle.st_base.specs.declared.ids.GrantNo.{GrantNo}
 use Rattle.st_base.specs.declared.ids.ServerId.{ServerId}
 use Rattle.st_messages.specs.declared.message.Body.{Body}
@@ -41,3 +41,35 @@ gives_once ms s = list_all (is_given_once s ms) ms
 -- Grant numbers are given once: of all messages that were ever sent, the grants of a server under one number are to one client, of one file.
 abbrev pub GrantNumbersAreGivenOnce : Promise
 GrantNumbersAreGivenOnce past x = list_all (gives_once (map message_in x.after.world.net.messages)) (all_servers x.after.world) ≡ true
+
+-- a lower number
+abbrev pub is_number_below : GrantNo → Body → Bool
+is_number_below g (bodies.Granted ino h mode) = nat_lt h.0 g.0
+is_number_below g body = true
+
+-- a grant of the server under this number
+abbrev pub is_number_of : ServerId → GrantNo → Message → Bool
+is_number_of s g m = (m.header.from == server_node s) && has_number g m.body
+
+-- the server's grants have lower numbers
+abbrev pub gives_below : ServerId → GrantNo → Message → Bool
+gives_below s g m = not (m.header.from == server_node s) || is_number_below g m.body
+
+-- a grant under a number that was sent before, or above all that were
+abbrev pub rises : ServerId → List Message → Body → Bool
+rises s before (bodies.Granted ino g mode) = list_any (is_number_of s g) before || list_all (gives_below s g) before
+rises s before body = true
+
+-- a message of the server, if it is a grant
+abbrev pub is_risen : ServerId → List Message → Message → Bool
+is_risen s before m = not (m.header.from == server_node s) || rises s before m.body
+
+-- all messages of the server
+abbrev pub gives_rising : List Message → List Message → ServerId → Bool
+gives_rising before after s = list_all (is_risen s before) after
+
+-- Grant numbers rise: of all messages that are there behind an event, each grant of a server is under a number that it had sent before the
+-- event, or under one above all that it had sent.
+abbrev pub GrantNumbersRise : Promise
+GrantNumbersRise past x =
+    list_all (gives_rising (map message_in x.before.world.net.messages) (map message_in x.after.world.net.messages)) (all_servers x.after.world) ≡ true

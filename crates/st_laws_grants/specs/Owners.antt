@@ -1,7 +1,9 @@
 -- Why grant numbers are given once: each number has an owner, a client and a file; and all that tells a number tells it of its owner.
-use Rattle.std.specs.Prelude.{◌≡◌, ℕ, ◌+◌, ◌<◌, ◌≤◌, Bool, true, false, List, Option, Some}
+use Rattle.std.specs.Prelude.{◌≡◌, ◌⊎◌, ℕ, ◌+◌, ◌<◌, ◌≤◌, Bool, true, false, List, Option, Some}
 use Rattle.st_base.specs.declared.ids.ClientId.{ClientId}
+use Rattle.st_base.specs.declared.ids.GrantNo.{GrantNo}
 use Rattle.st_base.specs.declared.ids.ServerId.{ServerId}
+use Rattle.st_base.specs.declared.mode.Mode.{Mode}
 use Rattle.st_messages.specs.declared.message.Body.{Body}
 use Rattle.st_messages.specs.declared.message.Body.TheVariants as bodies
 use Rattle.st_messages.specs.declared.message.Message.{Message}
@@ -92,12 +94,28 @@ pub record Pair (o : Owner) (c : ℕ) (s : ServerId) (w : World) : Type 0 where
   pub hears : (m : Message) → Has m (messages w) → m.header.to ≡ server_node s → is_client_node m.header.from ≡ true → m.header.from ≡ c → Heard m.header m.body net
   pub side : (site : ClientSite) → site_of w (client c) ≡ Some site → (a : Association) → Has a site.node.state.associations → a.server ≡ s → Side o c a net
 
--- a server with all clients
+-- a grant of the server under this number was sent
+pub record WasSent (s : ServerId) (ms : List Message) (g : ℕ) : Type 0 where
+  pub message : Message
+  pub among : Has message ms
+  pub from : message.header.from ≡ server_node s
+  pub ino : ℕ
+  pub mode : Mode
+  pub body : message.body ≡ bodies.Granted ino (record { 0 = g }) mode
+
+-- a server with all clients; each number that it gave was sent
 pub record GivesOnce (w : World) (s : ServerId) (node : ServerNode) : Type 0 where
   pub owner : Owner
   pub state : StateOk owner node.running node.state
   pub pairs : (c : ℕ) → Pair owner c s w
+  pub told : (g : ℕ) (y : ℕ × ℕ) → owner g ≡ Some y → WasSent s (messages w) g
 
 -- so each server
 abbrev pub AllGiveOnce : World → Type 0
 AllGiveOnce w = (s : ServerId) (node : ServerNode) → node_of w s ≡ Some node → GivesOnce w s node
+
+-- Each grant of a server that is there behind an event was there before, or is under a number that was sent before, or is above all that were.
+abbrev pub RiseFrom : World → World → Type 0
+RiseFrom w v =
+    (s : ServerId) (node : ServerNode) → node_of w s ≡ Some node → (m : Message) → Has m (messages v) → m.header.from ≡ server_node s → (ino : ℕ) (g : GrantNo) (mode : Mode) → m.body ≡ bodies.Granted ino g mode →
+    Has m (messages w) ⊎ (WasSent s (messages w) g.0 ⊎ ((x : Message) → Has x (messages w) → x.header.from ≡ server_node s → (j : ℕ) (h : GrantNo) (by : Mode) → x.body ≡ bodies.Granted j h by → h.0 < g.0))
