@@ -7,3 +7,4 @@ pub mod Feeding
 pub mod LastLines
 pub mod Streams
 pub mod Reported
+pub mod Law

@@ -16,7 +16,7 @@ use Rattle.st_replay.specs.declared.fault.Stop.{Stop}
 use Rattle.st_replay.specs.declared.fault.Stop.TheVariants as stops
 use Rattle.st_runs.specs.Schedule.{lines_of}
 use Rattle.st_runs.specs.Replay.{Replay, Whole, behind, last_line, text, replay_lines, replay_of, report_of}
-use Rattle.st_runs.proofs.Law.{law}
+use Rattle.st_replay.proofs.Law.{law}
 use Rattle.st_replay.specs.Pieces.{Passes, whole_lines}
 use Rattle.st_replay.specs.Ends.{IsCutOff}
 use Rattle.st_replay.specs.Playing.{AtStop, EndsAt, Feeds, Handled, HasNone, IsHere, from_here}

@@ -2,6 +2,8 @@
 //! run goes on. `docs/PROTOCOL.md`, "Schedules" and "The report".
 #![tactic(auto)]
 
+ghost use Rattle.st_runs.specs.Safe.{EveryScheduleRunsSafely};
+
 mod ending;
 mod fault;
 mod feed;
@@ -14,6 +16,14 @@ mod source;
 
 pub use fault::ReplayFault;
 pub use source::replay;
+pub use st_laws_safe::all_is_promised;
 pub use st_rules::Summary;
 pub use st_runs::LineRefusal;
 pub use st_world::World;
+
+/// Every schedule runs safely: where its first line is read as a head, its replay is that of the run of the events behind that head,
+/// from the head's world, and each step of this run keeps every promise. Nothing is owed: the reader lets no other head and no other
+/// event through than those of which the promises speak.
+pub fn schedules_run_safely()
+    ensures { EveryScheduleRunsSafely }
+{}

@@ -12,10 +12,10 @@ use crate::fault::{Halt, ReplayFault};
 use crate::feed::feed;
 use crate::finish::finish;
 use crate::player::Player;
+use crate::schedules_run_safely;
 use crate::sinks::{flush, refuse};
 use st_link::{Sink, Source};
 use st_rules::Summary;
-use st_runs::schedules_run_safely;
 use st_world::World;
 use std::alloc::Global;
 

@@ -3,5 +3,4 @@ pub mod Ranges
 pub mod Heads
 pub mod Events
 pub mod RunReports
-pub mod Law
 pub mod Known

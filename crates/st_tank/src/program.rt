@@ -23,8 +23,7 @@ use crate::words::{Command, Job, job_of};
 use st_clock::Clock;
 use st_generate_run::WorkFault;
 use st_link::{Link, Sink, Source, put_all};
-use st_replay::{ReplayFault, Summary, World};
-use st_runs::{all_is_promised, schedules_run_safely};
+use st_replay::{ReplayFault, Summary, World, all_is_promised, schedules_run_safely};
 use st_script::{MemoryStore, ScriptFault};
 use std::alloc::Global;
 

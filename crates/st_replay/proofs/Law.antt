@@ -3,7 +3,6 @@ use Rattle.std.proofs.Common.{◌≡◌, ℕ, ◌+◌, true, List, ◌∷◌, sy
 use Rattle.std.specs.List.{list_all}
 use Rattle.st_messages.specs.declared.event.Counts.{Counts}
 use Rattle.st_rules.specs.Report.{opening}
-use Rattle.st_promises.specs.Safe.{EveryRunIsSafe}
 use Rattle.st_rules.specs.Safety.{IsHead, is_event}
 use Rattle.st_schedule.specs.declared.reader.Progress.{Progress}
 use Rattle.st_schedule.specs.declared.reader.Progress.TheVariants as progress
