@@ -4,6 +4,3 @@ pub mod Checks
 pub mod Lives
 pub mod Taking
 pub mod Clients
-pub mod Servers
-pub mod Journals
-pub mod Keeping

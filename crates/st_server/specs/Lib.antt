@@ -5,4 +5,3 @@ pub mod Room
 pub mod Sound
 pub mod Answers
 pub mod Ready
-pub mod Restored

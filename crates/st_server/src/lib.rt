@@ -11,7 +11,6 @@ mod page_requests;
 mod passes;
 mod reassertions;
 mod requests;
-mod restore;
 mod stable;
 mod step;
 mod suspicion;

@@ -1,5 +1,4 @@
 -- What the proofs of `tank_c` share.
 pub mod ClientSlots
-pub mod ServerSlots
 mod Opening
 pub mod Values

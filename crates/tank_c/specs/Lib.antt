@@ -2,4 +2,3 @@
 pub mod Slots
 pub mod Codes
 pub mod Calls
-pub mod ServerCalls
