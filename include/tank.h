@@ -1,8 +1,8 @@
-/* tank.h: a client of the protocol inside another program.
+/* tank.h: the nodes of the protocol inside another program.
  *
- * A client is a state machine in the caller's memory. It has no thread, no clock and no socket: the caller gives it one frame
+ * A client or a server is a state machine in the caller's memory. It has no thread, no clock and no socket: the caller gives it one frame
  * and a reading of a clock, and takes out the frames that come of it. What a step does is what `tank node` does with the same frame at the
- * same reading, to the byte; docs/PROTOCOL.md has the rules, and its chapter "Building on it" what the program around a client owes.
+ * same reading, to the byte; docs/PROTOCOL.md has the rules, and its chapter "Building on it" what the program around a node owes.
  *
  *     struct tank_client client = TANK_CLIENT_CLOSED;
  *     uint64_t lives[1] = {0};
@@ -57,6 +57,9 @@ extern "C" {
     X(6, TANK_UNTAKEN, "frames of an earlier step were not taken")                                            \
     X(7, TANK_TIME, "the moment is before an earlier one, or above 2^62")                                     \
     X(8, TANK_FULL, "a counter of the node is at its end")                                                    \
+    X(9, TANK_UNKEPT, "a change was not kept in the journal")                                                 \
+    X(10, TANK_SHORT_ROOM, "the buffer is too short")                                                         \
+    X(11, TANK_JOURNAL_FULL, "the journal has too little room for a change")                                  \
     X(16, TANK_CUT, "the frame is cut")                                                                       \
     X(17, TANK_EXTRA, "bytes follow the frame")                                                               \
     X(18, TANK_SHORT, "the message ends inside a field")                                                      \
@@ -72,7 +75,12 @@ extern "C" {
     X(36, TANK_SETTINGS_GRAIN, "the grain is above the lease")                                                \
     X(37, TANK_NUMBER, "a client's number is from 1 to 16")                                                   \
     X(38, TANK_SERVERS, "there are more than four servers")                                                   \
-    X(39, TANK_LIVES, "the lives are neither all 0 nor all from 1 to 2^62 - 1")
+    X(39, TANK_LIVES, "the lives are neither all 0 nor all from 1 to 2^62 - 1")                               \
+    X(40, TANK_SHAPE, "the number of the server, of servers, disks or blocks is out of its range")            \
+    X(41, TANK_JOURNAL_SIZE, "a journal has from 1 to 2^32 - 1 bytes")                                        \
+    X(42, TANK_JOURNAL_DAMAGED, "no change that applies lies behind the open gate at this place")             \
+    X(43, TANK_JOURNAL_FOREIGN, "the changes of the journal begin no epoch")                                  \
+    X(44, TANK_EPOCHS, "no epoch is left")
 
 #define TANK_NUMBERED(number, name, text) name = number,
 enum tank_result { TANK_RESULTS(TANK_NUMBERED) TANK_RESULTS_END };
@@ -143,6 +151,74 @@ uint32_t tank_client_at(struct tank_client *client, uint16_t server, uint64_t no
 
 /* Closes a client and frees what it holds. Its dirty pages and locks are gone, as after a crash. A handle that is not open stays so. */
 void tank_client_close(struct tank_client *client);
+
+/* A server.
+ *
+ * A server's epoch, names and extents outlive it in a journal, a file or device of a fixed number of bytes that the caller writes ("A
+ * metadata journal" has its layout). Each change is one record:
+ *
+ *   1. write the record's bytes at gate + 1, and sync;
+ *   2. write one byte 1 at gate, and sync;
+ *   3. tank_server_kept.
+ *
+ * Only then the frames of the step can be taken out: the library gives none before, and takes no step. Opening makes the first record, the one
+ * that begins the epoch. */
+
+struct tank_server {
+    void *at;
+    bool full;
+};
+#define TANK_SERVER_CLOSED {0, 0}
+
+/* Which server it is: its number, from 1; how many servers there are, at most 4; how many disks, as many as servers at least and at most 8;
+ * and how many blocks each disk has, 1 to 4096. The same at each opening. */
+struct tank_shape {
+    uint16_t id, servers, disks;
+    uint32_t blocks;
+};
+
+/* Opens a server on the bytes of its journal, `size` in number, at this moment. Zeros are a server that was never started: it runs in epoch 1,
+ * without grace. Else it is the server that the journal stands for, started in the next epoch, in grace. The bytes are read in this call
+ * alone. A record is to be kept before the first step.
+ *
+ * TANK_BUSY, TANK_SETTINGS_*, TANK_SHAPE, TANK_TIME, TANK_JOURNAL_SIZE, TANK_JOURNAL_DAMAGED (its place in *at), TANK_JOURNAL_FULL,
+ * TANK_JOURNAL_FOREIGN, TANK_EPOCHS, TANK_NO_MEMORY: the handle stays as it was. What a crash may leave of a journal that was kept as said
+ * above is never damaged. */
+uint32_t tank_server_open(struct tank_server *server, const struct tank_settings *settings, const struct tank_shape *shape, uint64_t now, const uint8_t *journal, size_t size, uint64_t *at);
+
+struct tank_server_step {
+    uint64_t at;     /* as of a client */
+    uint32_t record; /* 1 where a record is to be kept */
+};
+
+/* Takes a step at this moment for one frame of `length` bytes.
+ *
+ * TANK_ABSENT, TANK_UNKEPT, TANK_CRASHED, TANK_UNTAKEN, TANK_TIME, TANK_CUT to TANK_TOO_LONG, TANK_NO_MEMORY, TANK_FULL, TANK_JOURNAL_FULL (of
+ * a request that may make a change): no step was taken. TANK_STARVED: the server is crashed, and nothing is to be kept or taken out. */
+uint32_t tank_server_step(struct tank_server *server, uint64_t now, const uint8_t *frame, size_t length, struct tank_server_step *step);
+
+struct tank_record {
+    uint64_t gate; /* the place in the journal of the gate in front of the record */
+    size_t size;   /* how many bytes the record has; 0 where none is to be kept */
+};
+
+/* The bytes of a record are at most so many. */
+#define TANK_RECORD_MOST 526
+
+/* Writes the record that is to be kept to out[0 .. record->size). It may be asked for again. TANK_ABSENT, TANK_NO_MEMORY, TANK_SHORT_ROOM. */
+uint32_t tank_server_record(struct tank_server *server, uint8_t *out, size_t room, struct tank_record *record);
+
+/* Says that the record and its gate were written and synced. TANK_ABSENT. */
+uint32_t tank_server_kept(struct tank_server *server);
+
+/* As of a client. TANK_ABSENT, TANK_UNKEPT, TANK_NO_MEMORY. */
+uint32_t tank_server_take(struct tank_server *server, uint8_t *out, size_t room, size_t *count);
+
+/* The epoch of a server; 0 where the handle is not open. */
+uint64_t tank_server_epoch(struct tank_server *server);
+
+/* Closes a server and frees what it holds, as a crash would. A handle that is not open stays so. */
+void tank_server_close(struct tank_server *server);
 
 #ifdef __cplusplus
 }

@@ -1,7 +1,7 @@
 """Steps a second through ctypes."""
 import time
 
-from tank import Client, Settings
+from tank import Client, Server, Settings, Shape
 
 STEPS = 200000
 SETTINGS = Settings(10000, 5000, 7000, 8500, 1000, 500, 101, 100, 1)
@@ -16,6 +16,14 @@ def say(what, seconds):
     print(f"{what} through ctypes: {STEPS / seconds:.0f} steps a second, {seconds / STEPS * 1e6:.2f} us each")
 
 
+server = Server(SETTINGS, Shape(1, 1, 1, 64), 0, bytes(65536), lambda place, data: None)
+server.step(1, frame(1, 1, 32769, 1))
+frames = [frame(2, 1, 32769, 1, 1, i, i) for i in range(1, STEPS + 1)]
+a = time.process_time()
+for one in frames:
+    server.step_bytes(2, one)
+b = time.process_time()
+say("a server's keep-alives", b - a)
 client = Client(SETTINGS, 1, [0])
 tick = frame(64, 0, 1)
 b = time.process_time()

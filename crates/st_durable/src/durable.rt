@@ -12,6 +12,7 @@ ghost use Rattle.st_durable.specs.Durable as durable;
 ghost use Rattle.st_durable.specs.Durable.{IsAsked, IsMade, IsOwn, Tells};
 ghost use Rattle.st_server.specs.Parts.{stable_of};
 ghost use Rattle.st_server.specs.Ready.{comes_fit};
+ghost use Rattle.st_server.specs.Restored.{IsStable, crashed_node};
 ghost use Rattle.st_server.specs.Room.{HasRoom};
 ghost use Rattle.st_server.specs.Sound.{is_sent};
 ghost use Rattle.st_server.specs.Steps.{Steps};
@@ -285,6 +286,28 @@ impl DurableServer {
             node: ServerNode::fresh(alloc, id, config, servers, disks, blocks)?,
             changed: Some(Change::Epoch),
         })
+    }
+
+    /// A server of which a crash left this stable part. It does not run, and no change is told; `start` begins its next epoch. `id` is from
+    /// 1 to 4.
+    pub fn restore(
+        alloc: Global,
+        id: ServerId,
+        config: &Config,
+        stable: ServerStable,
+    ) -> DurableServer
+        requires checked { IsOk (settings.check config.now) }
+        requires some { 1 ≤ id.0 }
+        requires known { id.0 ≤ 4 }
+        requires stable { IsStable (stable_of stable) }
+        requires own { stable.extents.server ≡ id }
+        ensures node { result.node ≡ crashed_node id config.now (stable_of stable) }
+        ensures changed { result.changed ≡ None }
+    {
+        DurableServer {
+            node: ServerNode::restore(alloc, id, config, stable),
+            changed: None,
+        }
     }
 
     /// The node.

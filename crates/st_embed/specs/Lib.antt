@@ -4,3 +4,6 @@ pub mod Checks
 pub mod Lives
 pub mod Taking
 pub mod Clients
+pub mod Servers
+pub mod Journals
+pub mod Keeping

@@ -57,3 +57,40 @@ pub enum OpenFault {
     #[error("out of memory")]
     Memory,
 }
+
+/// Why a step of a server is refused. All but `Starved` change nothing.
+#[derive(Clone, Copy, Debug, PartialEq, Eq, Error)]
+pub enum ServerRefusal {
+    /// The change of an earlier step, or the beginning of the epoch, is still to be kept.
+    #[error("a change was not kept")]
+    Unkept,
+    /// As of any node.
+    #[error("{0}")]
+    Step(StepRefusal),
+    /// The journal has too little room for the change that the request asks for.
+    #[error("the journal is full")]
+    JournalFull,
+}
+
+/// Why a server is not opened, in the order of the checks.
+#[derive(Clone, Copy, Debug, PartialEq, Eq, Error)]
+pub enum ServerFault {
+    #[error("{0}")]
+    Settings(ConfigRefusal),
+    #[error("the numbers of the server, of servers, disks or blocks are out of their ranges")]
+    Shape,
+    #[error("the moment is above 2^62")]
+    Time,
+    #[error("the journal has no byte, or 2^32 or more")]
+    Size,
+    #[error("no change that applies lies behind the open gate at {0}")]
+    Damaged(u64),
+    #[error("the journal is full")]
+    Full,
+    #[error("the changes of the journal begin no epoch")]
+    NoEpoch,
+    #[error("no epoch is left")]
+    Epochs,
+    #[error("out of memory")]
+    Memory,
+}

@@ -146,7 +146,7 @@ impl Change {
 
     /// How many bytes the change has.
     #[tactic(auto, unfolding(crate::specs::Changes::bytes_of, crate::specs::Changes::fits, crate::specs::Changes::word16, crate::specs::Changes::word32, crate::specs::Changes::name))]
-    pub(crate) fn size(&self) -> u64
+    pub fn size(&self) -> u64
         requires { changes.fits self.now ≡ true }
         ensures size { result ≡ length (changes.bytes_of self.now) }
         ensures most { result ≤ 521 }

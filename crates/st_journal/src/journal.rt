@@ -236,6 +236,13 @@ impl<D: Store + Drop> Journal<D> {
         self.changes
     }
 
+    /// The place of the gate behind the changes.
+    pub fn gate(&self) -> u64
+        ensures { result ≡ self.now.gate }
+    {
+        self.gate
+    }
+
     /// The store.
     pub fn into_store(self) -> D
         ensures { result ≡ self.store }

@@ -29,3 +29,4 @@ pub use reading::decode;
 pub use st_link::Failed;
 pub use stable::{ChangeRefusal, Stable};
 pub use store::Store;
+pub use writing::record_of;

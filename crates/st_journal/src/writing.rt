@@ -13,7 +13,7 @@ use std::alloc::{AllocError, Global};
 
 /// The bytes that are written behind a gate: the number of the change's bytes, those bytes, and a gate that is not open.
 #[tactic(auto, unfolding(crate::specs::Journal::framed))]
-pub(crate) fn record_of(alloc: Global, change: &Change) -> Result<Vec<u8>, AllocError>
+pub fn record_of(alloc: Global, change: &Change) -> Result<Vec<u8>, AllocError>
     requires { fits change.now ≡ true }
     ensures { IfOk result (λ r. r.items ≡ framed change.now ++ 0 ∷ []) }
 {

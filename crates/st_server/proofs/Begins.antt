@@ -1,5 +1,5 @@
 -- A server is sound when it begins, after a crash, and when it is started.
-use Rattle.std.proofs.Common.{◌≡◌, ℕ, ◌+◌, ◌-◌, ◌^◌, ◌<◌, true, refl, arith}
+use Rattle.std.proofs.Common.{◌≡◌, ℕ, ◌+◌, ◌-◌, ◌^◌, ◌<◌, ◌≤◌, true, refl, arith}
 use Rattle.std.specs.Prelude.{nat_le}
 use Rattle.std.proofs.lemmas.Bool.{and_from, le-leb}
 use Rattle.st_base.specs.declared.config.Config.{Config}
@@ -8,7 +8,8 @@ use Rattle.st_base.specs.declared.ids.Stamp.{Stamp}
 use Rattle.st_messages.specs.Kinds.{is_word64}
 use Rattle.st_extents.specs.Layout.{IsWithinLimits}
 use Rattle.st_rules.specs.Names.{fresh_names}
-use Rattle.st_rules.specs.Server.{ServerState, fresh_server, crash, start, begin_epoch}
+use Rattle.st_rules.specs.Server.{ServerState, Stable, fresh_server, crash, start, begin_epoch}
+use Rattle.st_server.specs.Restored.{IsStable, crashed_server}
 use Rattle.st_server.specs.Sound.{IsSound, IsSoundTo}
 
 pub fresh_sound : (id : ServerId) (k : Config) (servers disks blocks : ℕ) → IsWithinLimits id.0 servers disks blocks → IsSound (fresh_server id k servers disks blocks)
@@ -23,6 +24,19 @@ fresh_sound id k servers disks blocks h =
       graced = refl;
       named = record { entries = refl; next = omega arith };
       mapped = record { rows = refl; disks = h.few_disks; blocks = h.few_blocks };
+    }
+
+pub restored_sound : (id : ServerId) (k : Config) (stable : Stable) → 1 ≤ id.0 → id.0 ≤ 4 → IsStable stable → IsSound (crashed_server id k stable)
+restored_sound id k stable some known h =
+    record {
+      id = and_from (nat_le 1 id.0) (nat_le id.0 4) (le-leb 1 id.0 some) (le-leb id.0 4 known);
+      epoch = and_from (nat_le 1 stable.epoch.0) (nat_le stable.epoch.0 (2 ^ 32 - 1)) (le-leb 1 stable.epoch.0 h.least) (le-leb stable.epoch.0 4294967295 (omega (arith, h.most)));
+      held = record { rows = refl; waits = refl; few = omega arith; epoch = refl };
+      kept = refl;
+      timed = refl;
+      graced = refl;
+      named = h.named;
+      mapped = h.mapped;
     }
 
 pub crash_sound : (n : ℕ) (s : ServerState) → IsSoundTo n s → IsSound (crash s)

@@ -5,3 +5,4 @@ pub mod Room
 pub mod Sound
 pub mod Answers
 pub mod Ready
+pub mod Restored

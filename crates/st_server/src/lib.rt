@@ -11,6 +11,7 @@ mod page_requests;
 mod passes;
 mod reassertions;
 mod requests;
+mod restore;
 mod stable;
 mod step;
 mod suspicion;

@@ -9,6 +9,7 @@ ghost use Rattle.st_rules.specs.declared.input.ServerInput.TheVariants.{Control}
 ghost use Rattle.st_server.specs.Answers.{AnswersAreNamed};
 ghost use Rattle.st_server.specs.Parts.{stable_of};
 ghost use Rattle.st_server.specs.Ready.{comes_fit};
+ghost use Rattle.st_server.specs.Restored.{IsStable, crashed_node};
 ghost use Rattle.st_server.specs.Room.{HasRoom};
 ghost use Rattle.st_server.specs.Sound.{IsSound, is_sent};
 ghost use Rattle.st_server.specs.Steps.{Runs, Steps};
@@ -65,6 +66,20 @@ impl ServerNode {
             machine: ServerMachine::fresh(alloc, id, *config, servers, disks, blocks)?,
             running: true,
         })
+    }
+
+    /// A server of which a crash left this stable part. It does not run, and `start` begins its next epoch. `id` is from 1 to 4.
+    pub fn restore(alloc: Global, id: ServerId, config: &Config, stable: ServerStable) -> ServerNode
+        requires checked { IsOk (settings.check config.now) }
+        requires some { 1 ≤ id.0 }
+        requires known { id.0 ≤ 4 }
+        requires stable { IsStable (stable_of stable) }
+        ensures { result ≡ crashed_node id config.now (stable_of stable) }
+    {
+        ServerNode {
+            machine: ServerMachine::restore(alloc, id, *config, stable),
+            running: false,
+        }
     }
 
     /// The server's number.

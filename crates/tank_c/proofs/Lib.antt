@@ -1,4 +1,5 @@
 -- What the proofs of `tank_c` share.
 pub mod ClientSlots
+pub mod ServerSlots
 mod Opening
 pub mod Values

@@ -9,6 +9,10 @@ use Rattle.st_embed.specs.declared.fault.FrameFault.{FrameFault}
 use Rattle.st_embed.specs.declared.fault.FrameFault.TheVariants as frames
 use Rattle.st_embed.specs.declared.fault.OpenFault.{OpenFault}
 use Rattle.st_embed.specs.declared.fault.OpenFault.TheVariants as opening
+use Rattle.st_embed.specs.declared.fault.ServerFault.{ServerFault}
+use Rattle.st_embed.specs.declared.fault.ServerFault.TheVariants as servers
+use Rattle.st_embed.specs.declared.fault.ServerRefusal.{ServerRefusal}
+use Rattle.st_embed.specs.declared.fault.ServerRefusal.TheVariants as refused
 use Rattle.st_embed.specs.declared.fault.StepRefusal.{StepRefusal}
 use Rattle.st_embed.specs.declared.fault.StepRefusal.TheVariants as steps
 use Rattle.st_rules.specs.declared.lease.Phase.{Phase}
@@ -107,3 +111,35 @@ end_held (Some end) = end.0
 abbrev pub flag : Bool → ℕ
 flag true = 1
 flag false = 0
+
+-- the buffer is too short
+abbrev pub SHORT_ROOM : ℕ
+SHORT_ROOM = 10
+
+-- of a server's step
+abbrev pub of_server_step : ServerRefusal → ℕ
+of_server_step refused.Unkept = 9
+of_server_step (refused.Step r) = of_step r
+of_server_step refused.JournalFull = 11
+
+abbrev pub place_of_server_step : ServerRefusal → ℕ
+place_of_server_step refused.Unkept = 0
+place_of_server_step (refused.Step r) = place_of_step r
+place_of_server_step refused.JournalFull = 0
+
+-- of opening a server
+abbrev pub of_server_open : ServerFault → ℕ
+of_server_open servers.Memory = NO_MEMORY
+of_server_open (servers.Settings r) = of_settings r
+of_server_open servers.Time = 7
+of_server_open servers.Full = 11
+of_server_open servers.Shape = 40
+of_server_open servers.Size = 41
+of_server_open (servers.Damaged at) = 42
+of_server_open servers.NoEpoch = 43
+of_server_open servers.Epochs = 44
+
+-- the place in the journal that is told, or 0
+abbrev pub place_of_server_open : ServerFault → ℕ
+place_of_server_open (servers.Damaged at) = at
+place_of_server_open f = 0

@@ -2,3 +2,4 @@
 pub mod Slots
 pub mod Codes
 pub mod Calls
+pub mod ServerCalls

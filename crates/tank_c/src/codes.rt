@@ -2,7 +2,9 @@
 ghost use Rattle.std.specs.Prelude.{◌≡◌, ◌≢◌};
 ghost use Rattle.tank_c.specs.Codes as codes;
 
-use st_embed::{CodecRefusal, ConfigRefusal, FrameFault, OpenFault, StepRefusal};
+use st_embed::{
+    CodecRefusal, ConfigRefusal, FrameFault, OpenFault, ServerFault, ServerRefusal, StepRefusal,
+};
 
 pub(crate) const DONE: u32 = 0;
 
@@ -109,5 +111,55 @@ pub(crate) fn open_code(fault: OpenFault) -> u32
         OpenFault::Number => 37,
         OpenFault::Servers => 38,
         OpenFault::Lives => 39,
+    }
+}
+
+/// The number of why a step of a server is refused.
+pub(crate) fn server_code(refusal: ServerRefusal) -> u32
+    ensures exact { result ≡ codes.of_server_step refusal }
+    ensures some { result ≢ 0 }
+{
+    match refusal {
+        ServerRefusal::Unkept => 9,
+        ServerRefusal::Step(refusal) => step_code(refusal),
+        ServerRefusal::JournalFull => 11,
+    }
+}
+
+/// The place that it tells.
+pub(crate) fn server_place(refusal: ServerRefusal) -> u64
+    ensures { result ≡ codes.place_of_server_step refusal }
+{
+    match refusal {
+        ServerRefusal::Step(refusal) => step_place(refusal),
+        _ => 0,
+    }
+}
+
+/// The number of why a server is not opened.
+pub(crate) fn server_open_code(fault: ServerFault) -> u32
+    ensures exact { result ≡ codes.of_server_open fault }
+    ensures some { result ≢ 0 }
+{
+    match fault {
+        ServerFault::Memory => NO_MEMORY,
+        ServerFault::Settings(refusal) => settings_code(refusal),
+        ServerFault::Time => 7,
+        ServerFault::Full => 11,
+        ServerFault::Shape => 40,
+        ServerFault::Size => 41,
+        ServerFault::Damaged(_) => 42,
+        ServerFault::NoEpoch => 43,
+        ServerFault::Epochs => 44,
+    }
+}
+
+/// The place in the journal that it tells.
+pub(crate) fn server_open_place(fault: ServerFault) -> u64
+    ensures { result ≡ codes.place_of_server_open fault }
+{
+    match fault {
+        ServerFault::Damaged(at) => at,
+        _ => 0,
     }
 }

@@ -4,18 +4,24 @@
 ghost use Rattle.std.specs.Prelude.{◌≡◌, ◌≢◌, None, is_some};
 ghost use Rattle.tank_c.specs.Calls.{ClientOpens, ClientSteps, ClientTakes, NoClientOpened, NoClientStep, TellsOf};
 ghost use Rattle.tank_c.specs.Codes.{ABSENT, DONE};
+ghost use Rattle.tank_c.specs.ServerCalls.{NoServerOpened, NoServerRecord, NoServerStep, ServerKept, ServerOpens, ServerSteps, ServerTakes, TellsRecord, epoch_of};
 
 mod client_calls;
 pub mod client_slot;
 mod codes;
 mod loose;
+mod server_calls;
+pub mod server_slot;
 
 use crate::client_calls::{association_at, config_of, step_client, take_client};
 use crate::client_slot::ClientSlot;
-use crate::codes::{ABSENT, BUSY, DONE, NO_MEMORY, open_code};
+use crate::codes::{ABSENT, BUSY, DONE, NO_MEMORY, open_code, server_open_code, server_open_place};
 use crate::loose::Loose;
+use crate::server_calls::{record_server, step_server, take_server};
+use crate::server_slot::ServerSlot;
 pub use client_calls::{TankAssociation, TankClientStep, TankSettings};
-use st_embed::{ClientId, EmbeddedClient};
+pub use server_calls::{TankRecord, TankServerStep, TankShape};
+use st_embed::{ClientId, EmbeddedClient, EmbeddedServer, ServerId, Shape, Stamp};
 use std::alloc::Global;
 use std::mem;
 
@@ -136,6 +142,178 @@ pub extern "C" fn tank_client_close(client: &mut TankClient, alloc: Global)
             .into_loose(alloc)
             .into_box();
         client.full = false;
+        drop(held);
+    }
+}
+
+/// A server that C keeps: all zero before it is opened.
+#[repr(C)]
+#[derive(Drop)]
+pub struct TankServer {
+    slot: ServerSlot,
+    full: bool,
+    pub ghost agrees: { full ≡ is_some slot.value },
+}
+
+/// Opens a server on the bytes of its journal.
+#[unsafe(no_mangle)]
+pub extern "C" fn tank_server_open(
+    server: &mut TankServer,
+    alloc: Global,
+    settings: &TankSettings,
+    shape: &TankShape,
+    now: u64,
+    journal: &[u8],
+    at: &mut u64,
+) -> u32
+    ensures opened { result ≡ DONE → ServerOpens server.old.slot.value server.new.slot.value settings.now shape.now now journal.now }
+    ensures refused { result ≢ DONE → NoServerOpened server.old.slot.value server.new.slot.value settings.now shape.now now journal.now result at.new }
+{
+    if server.full {
+        return BUSY;
+    }
+    *at = 0;
+    let within = Shape {
+        servers: shape.servers,
+        disks: shape.disks,
+        blocks: shape.blocks,
+    };
+    match EmbeddedServer::open(
+        alloc,
+        ServerId(shape.id),
+        &config_of(settings),
+        within,
+        Stamp(now),
+        journal,
+    ) {
+        Ok(opened) => match Box::new(alloc, opened) {
+            Ok(held) => {
+                server.slot = ServerSlot::of(Loose::of(held));
+                server.full = true;
+                DONE
+            }
+            Err(_) => NO_MEMORY,
+        },
+        Err(fault) => {
+            *at = server_open_place(fault);
+            server_open_code(fault)
+        }
+    }
+}
+
+/// Takes a step of a server.
+#[unsafe(no_mangle)]
+pub extern "C" fn tank_server_step(
+    server: &mut TankServer,
+    alloc: Global,
+    now: u64,
+    frame: &[u8],
+    step: &mut TankServerStep,
+) -> u32
+    ensures done { result ≡ DONE → ServerSteps server.old.slot.value server.new.slot.value now frame.now step.new }
+    ensures refused { result ≢ DONE → NoServerStep server.old.slot.value server.new.slot.value now frame.now result step.new }
+{
+    if !server.full {
+        return ABSENT;
+    }
+    let mut held = mem::replace(&mut server.slot, ServerSlot::empty())
+        .into_loose(alloc)
+        .into_box();
+    let code = step_server(&mut held, now, frame, step);
+    server.slot = ServerSlot::of(Loose::of(held));
+    code
+}
+
+/// Gives the record that is to be kept.
+#[unsafe(no_mangle)]
+pub extern "C" fn tank_server_record(
+    server: &mut TankServer,
+    alloc: Global,
+    out: &mut [u8],
+    told: &mut TankRecord,
+) -> u32
+    ensures done { result ≡ DONE → TellsRecord server.old.slot.value out.old out.new told.new }
+    ensures refused { result ≢ DONE → NoServerRecord server.old.slot.value out.old out.new told.new result }
+    ensures same { server.new.slot.value ≡ server.old.slot.value }
+{
+    if !server.full {
+        return ABSENT;
+    }
+    let held = mem::replace(&mut server.slot, ServerSlot::empty())
+        .into_loose(alloc)
+        .into_box();
+    let code = record_server(&held, out, told);
+    server.slot = ServerSlot::of(Loose::of(held));
+    code
+}
+
+/// Says that the record was kept.
+#[unsafe(no_mangle)]
+pub extern "C" fn tank_server_kept(server: &mut TankServer, alloc: Global) -> u32
+    ensures kept { ServerKept server.old.slot.value server.new.slot.value }
+    ensures absent { result ≢ DONE → (result ≡ ABSENT) × (server.old.slot.value ≡ None) }
+{
+    if !server.full {
+        return ABSENT;
+    }
+    let mut held = mem::replace(&mut server.slot, ServerSlot::empty())
+        .into_loose(alloc)
+        .into_box();
+    held.kept();
+    server.slot = ServerSlot::of(Loose::of(held));
+    DONE
+}
+
+/// Takes bytes of a server's frames out.
+#[unsafe(no_mangle)]
+pub extern "C" fn tank_server_take(
+    server: &mut TankServer,
+    alloc: Global,
+    out: &mut [u8],
+    count: &mut usize,
+) -> u32
+    ensures done { result ≡ DONE → ServerTakes server.old.slot.value server.new.slot.value out.old out.new count.new }
+    ensures same { result ≢ DONE → server.new.slot.value ≡ server.old.slot.value }
+    ensures kept { result ≢ DONE → out.new ≡ out.old }
+{
+    if !server.full {
+        return ABSENT;
+    }
+    let mut held = mem::replace(&mut server.slot, ServerSlot::empty())
+        .into_loose(alloc)
+        .into_box();
+    let code = take_server(&mut held, out, count);
+    server.slot = ServerSlot::of(Loose::of(held));
+    code
+}
+
+/// Tells a server's epoch; 0 where the handle is not open.
+#[unsafe(no_mangle)]
+pub extern "C" fn tank_server_epoch(server: &mut TankServer, alloc: Global) -> u64
+    ensures epoch { result ≡ epoch_of server.old.slot.value }
+    ensures same { server.new.slot.value ≡ server.old.slot.value }
+{
+    if !server.full {
+        return 0;
+    }
+    let held = mem::replace(&mut server.slot, ServerSlot::empty())
+        .into_loose(alloc)
+        .into_box();
+    let epoch = held.epoch().0;
+    server.slot = ServerSlot::of(Loose::of(held));
+    epoch
+}
+
+/// Closes a server; a handle that is not open stays so.
+#[unsafe(no_mangle)]
+pub extern "C" fn tank_server_close(server: &mut TankServer, alloc: Global)
+    ensures { server.new.slot.value ≡ None }
+{
+    if server.full {
+        let held = mem::replace(&mut server.slot, ServerSlot::empty())
+            .into_loose(alloc)
+            .into_box();
+        server.full = false;
         drop(held);
     }
 }

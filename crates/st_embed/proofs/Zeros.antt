@@ -1,0 +1,9 @@
+-- Bytes that are written over as many zeros.
+use Rattle.std.proofs.Common.{◌≡◌, ℕ, List, [], ◌∷◌, length, refl, ap}
+use Rattle.st_journal.specs.InMemory.{zeros}
+use Rattle.st_journal.specs.Store.{written}
+
+pub all_written : (bytes : List ℕ) → written (zeros (length bytes)) 0 bytes ≡ bytes
+unfolding zeros
+all_written [] = refl
+all_written (b ∷ bytes) = ap (λ (xs : List ℕ). b ∷ xs) (all_written bytes)

@@ -1,0 +1,40 @@
+use Rattle.std.proofs.Common.{ℕ, ◌∙◌, ap, arith, length, refl, rules}
+use Rattle.st_extents.specs.Layout.{IsWithinLimits}
+use Rattle.st_journal.specs.Parts as parts
+use Rattle.st_journal.proofs.Recording.{gate_within}
+use Rattle.st_embed.specs.Servers.{begun}
+use Rattle.st_embed.proofs.Opened.{epoch_placed, epoch_room}
+use Rattle.st_embed.proofs.Restoring.{is_of_server}
+use Rattle.st_embed.proofs.server.EmbeddedServer.open.Goals as goal
+
+pub opened-requires-clause-own : goal.opened-requires-clause-own
+opened-requires-clause-own c =
+    let limits : IsWithinLimits c.args.id.0 c.args.shape.servers c.args.shape.disks c.args.shape.blocks = search rules in
+    is_of_server c.args.id c.args.shape c.args.journal.now c.in-Ok.ensures.ok.changes (parts.stable_of c.in-Ok.read.stable) limits (omega (arith, c.if-size-gt4294967295.false)) c.in-Ok.ensures.ok.stands
+
+pub invariant_of-result : goal.invariant_of-result
+invariant_of-result c =
+    let reads = c.in-Ok.ensures.ok in
+    record {
+      within = gate_within c.args.journal.now reads.changes c.in-Ok.read.gate reads.stands.journal reads.gate;
+      small = omega (arith, c.if-size-gt4294967295.false);
+      room = λ _. epoch_placed c.in_ok-server.server.changed (length c.args.journal.now) c.in-Ok.read.gate c.in_ok-server.ensures.changed (omega (arith, c.if-size-read-lt-MOST_RECORD.false));
+    }
+
+pub returns-clause-ok : goal.returns-clause-ok
+returns-clause-ok c =
+    let reads = c.in-Ok.ensures.ok in
+    record {
+      changes = reads.changes;
+      stable = parts.stable_of c.in-Ok.read.stable;
+      stands = reads.stands;
+      node = c.in_ok-server.ensures.node ∙ ap (λ (n : ℕ). begun c.args.id c.args.config.now c.args.shape c.args.now n (parts.stable_of c.in-Ok.read.stable)) reads.count;
+      changed = c.in_ok-server.ensures.changed;
+      told = c.in_ok-server.ensures.told;
+      gate = reads.gate;
+      size = refl;
+      room = epoch_room (length c.args.journal.now) c.in-Ok.read.gate (omega (arith, c.if-size-read-lt-MOST_RECORD.false));
+      unkept = refl;
+      left = c.new.ensures;
+      last = refl;
+    }
