@@ -23,8 +23,8 @@ pub fn steps_keep_copies()
     ensures { StepsKeepCopies }
 {}
 
-/// In the world, a client whose outputs are right by the log answers its reads with the last writes, and its syncs only where
-/// the file is hard.
+/// In the world, a client whose outputs are right by the log answers its reads with the last writes, and a sync `hard` only where
+/// the writes of the asker's present life to the file are hard.
 pub fn steps_answer_right()
     ensures { StepsAnswerRight }
 {}
