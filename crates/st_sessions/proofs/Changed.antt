@@ -18,7 +18,7 @@ abbrev client_of : Session → ℕ
 client_of s = s.client.0
 
 -- a session of this client
-abbrev some_session : ClientId → Session
+abbrev pub some_session : ClientId → Session
 some_session c = record { client = c; life = record { 0 = 0 }; state = Ended }
 
 -- the one session of the client is changed

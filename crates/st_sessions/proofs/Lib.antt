@@ -1,3 +1,4 @@
 mod Once
 mod Changes
 mod Changed
+mod Seated

@@ -4,6 +4,7 @@
 
 mod greeting;
 mod requests;
+mod seats;
 mod sessions;
 mod table;
 

@@ -5,7 +5,7 @@ ghost use Rattle.st_rules.specs.ServerInvariants.{are_once, same_session};
 
 use crate::greeting::{is_live, judge};
 use crate::requests::{kept_state, knows_life, serves_life, take_life};
-use crate::table::{find_session, index_of, put_session, set_state};
+use crate::table::SessionTable;
 use st_base::{ClientId, Epoch, Life};
 use st_messages::Body;
 use st_rules::{Hello, Session, SessionState, Taken};
@@ -17,7 +17,7 @@ use std::marker::Model;
 #[derive(Drop)]
 pub struct Sessions {
     epoch: Epoch,
-    rows: Vec<Session>,
+    rows: SessionTable,
 }
 
 impl Model for Sessions {
@@ -27,9 +27,9 @@ impl Model for Sessions {
 
     ghost Value = { sessions.Sessions };
 
-    ghost view = { λ t. record { epoch = t.epoch; rows = t.rows.items } };
+    ghost view = { λ t. record { epoch = t.epoch; rows = t.rows } };
 
-    ghost invariant = { λ t. are_once same_session t.rows.items ≡ true };
+    ghost invariant = { λ t. are_once same_session t.rows ≡ true };
 }
 
 impl Sessions {
@@ -40,7 +40,7 @@ impl Sessions {
     {
         Sessions {
             epoch,
-            rows: Vec::new(alloc),
+            rows: SessionTable::new(alloc),
         }
     }
 
@@ -49,7 +49,7 @@ impl Sessions {
         ensures ok { OnOk result (self.new ≡ sessions.with_session session self.old) }
         ensures err { OnErr result (self.new ≡ self.old) }
     {
-        put_session(&mut self.rows, session)
+        self.rows.put(session)
     }
 
     /// Begins a new session of the client.
@@ -76,7 +76,7 @@ impl Sessions {
         ensures ok { IfOk result (λ h. sessions.greeted h self.new ≡ sessions.hello self.old client life rows) }
         ensures err { OnErr result (self.new ≡ self.old) }
     {
-        let judgement = judge(find_session(&self.rows, client), life, rows);
+        let judgement = judge(self.rows.get(client), life, rows);
         if judgement.begins {
             self.begin(client, life)?;
             return Ok(judgement.hello);
@@ -102,7 +102,7 @@ impl Sessions {
     fn take_at(&self, client: ClientId, life: Life, number: u64) -> Taken<&Body>
         ensures { sessions.taken_copied result ≡ sessions.take_at (sessions.session_of self.now client) life number }
     {
-        match find_session(&self.rows, client) {
+        match self.rows.get(client) {
             None => Taken::NoSession,
             Some(session) => take_life(session, life, number),
         }
@@ -115,12 +115,12 @@ impl Sessions {
         ensures ok { OnOk result (self.new ≡ sessions.store self.old client number reply.now) }
         ensures err { OnErr result (self.new ≡ self.old) }
     {
-        let Some(index) = index_of(&self.rows, client) else {
+        let Some(place) = self.rows.place(client) else {
             return Ok(());
         };
-        let live = is_live(&self.rows[index]);
+        let live = is_live(self.rows.at(place));
         let reply = reply.copy()?;
-        set_state(&mut self.rows, index, kept_state(live, number, reply));
+        self.rows.set_state(place, kept_state(live, number, reply));
         Ok(())
     }
 
@@ -146,10 +146,10 @@ impl Sessions {
     pub fn end(&mut self, client: ClientId)
         ensures { self.new ≡ sessions.end self.old client }
     {
-        let Some(index) = index_of(&self.rows, client) else {
+        let Some(place) = self.rows.place(client) else {
             return;
         };
-        set_state(&mut self.rows, index, SessionState::Ended);
+        self.rows.set_state(place, SessionState::Ended);
     }
 
     /// The life of the client's session, living or ended, or `None` if it had none in this epoch. It does not allocate.
@@ -157,7 +157,7 @@ impl Sessions {
         ensures life { result ≡ sessions.life_of self.now client }
         ensures once { are_once same_session self.now.rows ≡ true }
     {
-        let session = find_session(&self.rows, client)?;
+        let session = self.rows.get(client)?;
         Some(session.life)
     }
 
@@ -165,7 +165,7 @@ impl Sessions {
     pub fn knows(&self, client: ClientId, life: Life) -> bool
         ensures { result ≡ sessions.knows self.now client life }
     {
-        match find_session(&self.rows, client) {
+        match self.rows.get(client) {
             None => false,
             Some(session) => knows_life(session, life),
         }
@@ -175,7 +175,7 @@ impl Sessions {
     pub fn serves(&self, client: ClientId, life: Life) -> bool
         ensures { result ≡ serves_at life (sessions.session_of self.now client) }
     {
-        match find_session(&self.rows, client) {
+        match self.rows.get(client) {
             None => false,
             Some(session) => serves_life(session, life),
         }

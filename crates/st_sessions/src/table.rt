@@ -1,53 +1,86 @@
-// The sessions, at most one of each client.
-ghost use Rattle.std.specs.Prelude.{◌≡◌, ◌<◌, Some, OnOk, OnErr, find, length, set, slice_get};
+// The sessions in the order in which their clients greeted first.
+ghost use Rattle.std.specs.Prelude.{◌≡◌, ◌<◌, Some, [], OnOk, OnErr, find, length, set, slice_get};
 ghost use Rattle.std.specs.List.{position};
 ghost use Rattle.std.specs.Option.{option_copied};
 ghost use Rattle.st_rules.specs.declared.sessions.Session.{Session};
 ghost use Rattle.st_rules.specs.Keys as keys;
 ghost use Rattle.st_rules.specs.Sessions as sessions;
 
+use crate::seats::{put_session, seat_of, set_state};
 use st_base::ClientId;
 use st_rules::{Session, SessionState};
-use std::alloc::AllocError;
+use std::alloc::{AllocError, Global};
+use std::marker::Model;
 
-/// Whether a session is the client's.
-fn is_of(session: &Session, client: ClientId) -> bool
-    ensures { result ≡ sessions.is_session_of client session.now }
-{
-    session.client.0 == client.0
+/// Sessions in the order in which their clients greeted first, and a vector that has at each client's number where its
+/// session stands, if it has one. So a session is found without a search. Contracts see the list of the sessions.
+#[derive(Drop)]
+pub struct SessionTable {
+    rows: Vec<Session>,
+    seats: Vec<Option<usize>>,
 }
 
-/// The client's session, if it has one.
-pub fn find_session(rows: &[Session], client: ClientId) -> Option<&Session>
-    ensures { option_copied result ≡ find (λ s. sessions.is_session_of client s) rows.now }
-{
-    rows.iter().find(|session| is_of(session, client))
+impl Model for SessionTable {
+    ghost use Rattle.std.specs.Prelude.{List};
+    ghost use Rattle.st_rules.specs.declared.sessions.Session.{Session};
+    ghost use Rattle.st_sessions.specs.Seats.{AreSeated};
+
+    ghost Value = { List Session };
+
+    ghost view = { λ t. t.rows.items };
+
+    ghost invariant = { λ t. AreSeated t.rows.items t.seats.items };
 }
 
-/// Where the client's session stands, if it has one.
-pub fn index_of(rows: &[Session], client: ClientId) -> Option<usize>
-    ensures { result ≡ position (sessions.is_session_of client) rows.now }
-{
-    rows.iter().position(|session| is_of(session, client))
-}
-
-/// Puts a session in place of its client's, or last.
-pub fn put_session(rows: &mut Vec<Session>, session: Session) -> Result<(), AllocError>
-    ensures ok { OnOk result (rows.new.items ≡ keys.put (sessions.is_session_of session.client) session rows.old.items) }
-    ensures err { OnErr result (rows.new.items ≡ rows.old.items) }
-{
-    match index_of(rows.as_slice(), session.client) {
-        None => rows.push(session)?,
-        Some(index) => rows[index] = session,
+impl SessionTable {
+    /// No sessions. It does not allocate.
+    pub fn new(alloc: Global) -> SessionTable
+        ensures { result ≡ [] }
+    {
+        SessionTable {
+            rows: Vec::new(alloc),
+            seats: Vec::new(alloc),
+        }
     }
-    Ok(())
-}
 
-/// Gives the session at this index another state.
-pub fn set_state(rows: &mut Vec<Session>, index: usize, state: SessionState)
-    requires { index < length rows.old.items }
-    ensures { (s : Session) → slice_get rows.old.items index ≡ Some s → rows.new.items ≡ set rows.old.items index (record s { state = state }) }
-{
-    let session = &mut rows[index];
-    session.state = state;
+    /// Where the client's session stands, if it has one.
+    pub fn place(&self, client: ClientId) -> Option<usize>
+        ensures { result ≡ position (sessions.is_session_of client) self.now }
+    {
+        seat_of(&self.seats, client)
+    }
+
+    /// The session at a place.
+    pub fn at(&self, place: usize) -> &Session
+        requires { place < length self.now }
+        ensures { slice_get self.now place ≡ Some result.now }
+    {
+        &self.rows[place]
+    }
+
+    /// The client's session, if it has one.
+    pub fn get(&self, client: ClientId) -> Option<&Session>
+        ensures { option_copied result ≡ find (λ s. sessions.is_session_of client s) self.now }
+    {
+        match self.place(client) {
+            None => None,
+            Some(place) => Some(self.at(place)),
+        }
+    }
+
+    /// Puts a session in place of its client's, or last. If the call runs out of memory, nothing changes.
+    pub fn put(&mut self, session: Session) -> Result<(), AllocError>
+        ensures ok { OnOk result (self.new ≡ keys.put (sessions.is_session_of session.client) session self.old) }
+        ensures err { OnErr result (self.new ≡ self.old) }
+    {
+        put_session(&mut self.rows, &mut self.seats, session)
+    }
+
+    /// Gives the session at a place another state.
+    pub fn set_state(&mut self, place: usize, state: SessionState)
+        requires { place < length self.old }
+        ensures { (s : Session) → slice_get self.old place ≡ Some s → self.new ≡ set self.old place (record s { state = state }) }
+    {
+        set_state(&mut self.rows, place, state);
+    }
 }

@@ -10,18 +10,18 @@ unfolding end
 returns-in_default c =
     rw (← c.self.view_is)
     (sym (ap (λ (rows : List Session). record { epoch = c.self.inside.epoch; rows = rows })
-    (ends_nothing c.args.client c.self.inside.rows.items (sym c.in_default.is ∙ (rw c.deref.ensures.value at c.index_of.ensures)))))
+    (ends_nothing c.args.client c.self.inside.rows (sym c.in_default.is ∙ c.place.ensures))))
 
 pub invariant_of-self : goal.invariant_of-self
 invariant_of-self c =
-    ap (are_once same_session) (ends c.args.client c.self.inside.rows.items c.set_state.new.rows.items c.in-Some.index c.self.invariant
-    (sym c.in-Some.is ∙ (rw c.deref.ensures.value at c.index_of.ensures)) c.set_state.ensures)
-    ∙ end_once c.args.client c.self.inside.rows.items ∙ c.self.invariant
+    ap (are_once same_session) (ends c.args.client c.self.inside.rows c.set_state.new.self c.in-Some.place c.self.invariant
+    (sym c.in-Some.is ∙ c.place.ensures) c.set_state.ensures)
+    ∙ end_once c.args.client c.self.inside.rows ∙ c.self.invariant
 
 pub returns : goal.returns
 unfolding end
 returns c =
     rw (← c.self.view_is)
     (ap (λ (rows : List Session). record { epoch = c.self.inside.epoch; rows = rows })
-    (ends c.args.client c.self.inside.rows.items c.set_state.new.rows.items c.in-Some.index c.self.invariant
-    (sym c.in-Some.is ∙ (rw c.deref.ensures.value at c.index_of.ensures)) c.set_state.ensures))
+    (ends c.args.client c.self.inside.rows c.set_state.new.self c.in-Some.place c.self.invariant
+    (sym c.in-Some.is ∙ c.place.ensures) c.set_state.ensures))

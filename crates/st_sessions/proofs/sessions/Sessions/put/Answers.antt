@@ -14,5 +14,5 @@ stays_once (Err e) s old new h p q = ap (are_once same_session) q ∙ h
 
 pub invariant_of-self : goal.invariant_of-self
 invariant_of-self c =
-    stays_once c.put_session.result c.args.session c.self.inside.rows.items c.put_session.new.rows.items
-    c.self.invariant c.put_session.ensures.ok c.put_session.ensures.err
+    stays_once c.put.result c.args.session c.self.inside.rows c.put.new.self
+    c.self.invariant c.put.ensures.ok c.put.ensures.err
