@@ -144,13 +144,22 @@ fn agree(sessions: &Sessions, rows: &[Row], client: u16, life: u64) -> bool {
         && sessions.knows(id, Life(life)) == (serves || row.life > life)
 }
 
+/// The number of a client: each from 0 to 17, 40,000 or the greatest one.
+fn client_of(draws: &mut Draws) -> u16 {
+    match draws.draw(20) as u16 {
+        18 => 40_000,
+        19 => u16::MAX,
+        client => client,
+    }
+}
+
 /// One call on both; whether the answers are the same.
 fn same(
     sessions: &mut Sessions,
     rows: &mut Vec<Row>,
     draws: &mut Draws,
 ) -> Result<bool, AllocError> {
-    let client = 1 + draws.draw(5) as u16;
+    let client = client_of(draws);
     let id = ClientId(client);
     let life = 1 + draws.draw(4);
     let number = draws.draw(5);
@@ -199,7 +208,7 @@ fn sessions_are_plain_rows(rt: HostRuntime) -> Result<(), Fail> {
     for _ in 0..10_000 {
         let agreed = same(&mut sessions, &mut rows, &mut draws)?;
         assert!(rt; agreed);
-        let client = 1 + draws.draw(5) as u16;
+        let client = client_of(&mut draws);
         let life = 1 + draws.draw(4);
         let told = agree(&sessions, &rows, client, life);
         assert!(rt; told);
