@@ -9,3 +9,4 @@ pub mod Laid
 pub mod Taking
 pub mod Apart
 pub mod Added
+pub mod FreeRuns

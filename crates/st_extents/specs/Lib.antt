@@ -1,3 +1,4 @@
+pub mod FreeRuns
 pub mod Layout
 pub mod Ownership
 pub mod Places

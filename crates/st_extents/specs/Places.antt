@@ -1,5 +1,5 @@
 -- The places of a server's blocks, and the pages that are mapped to them.
-use Rattle.std.specs.Prelude.{ℕ, zero, suc, if◌then◌else◌, ◌≡◌, ◌≤◌, ◌<◌, ◌+◌, ◌*◌, ◌++◌, Bool, true, not, List, [], ◌∷◌, filter, length, get_or, ⊤}
+use Rattle.std.specs.Prelude.{ℕ, ◌≡◌, ◌<◌, ◌+◌, ◌*◌, ◌++◌, Bool, true, List, [], ◌∷◌, length, get_or, ⊤}
 use Rattle.std.specs.List.{IsDistinct, AllByRecursion, list_any}
 use Rattle.st_base.specs.declared.disk.BlockAt.{BlockAt}
 use Rattle.st_rules.specs.declared.extents.Extent.{Extent}
@@ -11,22 +11,6 @@ use Rattle.st_extents.specs.Ownership.{of_one_page, on_one_block}
 use Rattle.st_extents.specs.Runs.{mapped_to}
 use Rattle.st_extents.specs.declared.run_map.RunKey.{RunKey}
 use Rattle.st_extents.specs.declared.run_map.Run.{Run}
-
--- how many of so many places, from one on, are not taken
-unfoldable pub open_in : List Bool → ℕ → ℕ → ℕ
-open_in taken n zero = 0
-open_in taken n (suc k) = (if get_or taken n true then 0 else 1) + open_in taken (n + 1) k
-
--- the counts are those of the groups of 128 places, of which there are as many as it takes
-pub record AreGroups (taken : List Bool) (groups : List ℕ) : Type 0 where
-  pub each : (g : ℕ) → g < length groups → get_or groups g 0 ≡ open_in taken (g * 128) 128
-  pub enough : length taken < length groups * 128
-  pub few : length groups * 128 ≤ length taken + 128
-
--- the places that are not taken are counted, and those of each group
-pub record IsCounted (taken : List Bool) (counts : List ℕ) (free : ℕ) : Type 0 where
-  pub counted : free ≡ length (filter not taken)
-  pub groups : AreGroups taken counts
 
 -- a block's number among the blocks of all disks, where a disk has at most 2^32 blocks
 abbrev pub rank : BlockAt → ℕ

@@ -2,6 +2,7 @@
 #![tactic(auto)]
 
 mod extents;
+mod free_runs;
 mod layout;
 mod mapping;
 mod refusal;

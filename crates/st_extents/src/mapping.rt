@@ -77,7 +77,8 @@ impl Model for Mapping {
 impl Mapping {
     /// Nothing is mapped to these blocks.
     pub fn new(alloc: Global, own: Vec<BlockAt>) -> Result<Mapping, AllocError>
-        requires { AreInOrder own.items }
+        requires order { AreInOrder own.items }
+        requires few { length own.items < 2 ^ 32 }
         ensures own { IfOk result (λ m. m.own ≡ own.items) }
         ensures rows { IfOk result (λ m. m.rows ≡ []) }
         ensures births { IfOk result (λ m. m.births ≡ 0) }

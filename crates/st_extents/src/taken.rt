@@ -1,137 +1,41 @@
-ghost use Rattle.std.specs.Prelude.{◌≡◌, ◌≤◌, ◌<◌, ◌+◌, ◌-◌, ◌*◌, ℕ, Bool, true, false, not, replicate, set, get_or, filter, if◌then◌else◌, length, IfOk};
-ghost use Rattle.st_extents.specs.Places.{AreGroups, open_in};
+ghost use Rattle.std.specs.Prelude.{◌≡◌, ◌≤◌, ◌<◌, ◌^◌, ℕ, Bool, true, false, not, replicate, set, get_or, filter, length, IfOk};
 
+use crate::free_runs::{FreeRun, all_free, ends_above, first_free, give, position, take_first};
 use std::alloc::{AllocError, Global};
+use std::collections::VecDeque;
 use std::marker::Model;
 
-/// How many places stand in a group.
-const GROUP: usize = 128;
-
-/// Which of some places are taken, and how many are not taken in each group of 128. Contracts see one truth value for each place.
+/// Which of some places are taken. Contracts see one truth value for each place. The free places stand as runs, so the first one
+/// is at hand, and giving one back looks at as many runs as it takes to halve their number until one is left.
 #[derive(Drop)]
 pub struct Taken {
-    places: Vec<bool>,
-    groups: Vec<u32>,
+    places: u32,
+    runs: VecDeque<FreeRun>,
     free: usize,
 }
 
 impl Model for Taken {
     ghost use Rattle.std.specs.Prelude.{List, Bool};
-    ghost use Rattle.st_extents.specs.Places.{IsCounted};
+    ghost use Rattle.std.specs.VecDeque.{deque_capacity};
+    ghost use Rattle.st_extents.specs.FreeRuns.{IsFreeTable, taken_from};
 
     ghost Value = { List Bool };
 
-    ghost view = { λ t. t.places.items };
+    ghost view = { λ t. taken_from t.runs.items 0 t.places };
 
-    ghost invariant = { λ t. IsCounted t.places.items t.groups.items t.free };
-}
-
-/// Writes one place.
-fn write(places: &mut Vec<bool>, place: usize, taken: bool)
-    requires { place < length places.old.items }
-    ensures { places.new.items ≡ set places.old.items place taken }
-{
-    places[place] = taken;
-}
-
-/// The first place from `low` on that is not taken, or the number of places.
-fn first_from(places: &[bool], low: usize) -> usize
-    requires lower { (j : ℕ) → j < low → get_or places.now j false ≡ true }
-    requires within { low ≤ length places.now }
-    ensures before { (j : ℕ) → j < result → get_or places.now j false ≡ true }
-    ensures within { result ≤ length places.now }
-    ensures open { result < length places.now → get_or places.now result true ≡ false }
-{
-    for place in low..places.len() {
-        if !places[place] {
-            return place;
-        }
-    }
-    places.len()
-}
-
-/// Whether there is this place, and it is not taken.
-fn is_open(places: &[bool], place: usize) -> bool
-    ensures { result ≡ not (get_or places.now place true) }
-{
-    if place < places.len() {
-        !places[place]
-    } else {
-        false
-    }
-}
-
-/// One, where it is so.
-fn one_if(so: bool) -> u32
-    ensures { result ≡ (if so then 1 else 0) }
-{
-    if so { 1 } else { 0 }
-}
-
-/// How many of the 128 places from this one on are not taken.
-fn open_from(places: &[bool], from: usize) -> u32
-    requires { from ≤ length places.now }
-    ensures { result ≡ open_in places.now from 128 }
-{
-    let mut count = 0;
-    for i in 0..GROUP {
-        count += one_if(is_open(places, from + i));
-    }
-    count
-}
-
-/// How many places are not taken in each group of 128.
-fn group(alloc: Global, places: &[bool]) -> Result<Vec<u32>, AllocError>
-    ensures { IfOk result (λ v. AreGroups places.now v.items) }
-{
-    let mut groups = Vec::new(alloc);
-    for g in 0..places.len() / GROUP + 1 {
-        groups.push(open_from(places, g * GROUP))?;
-    }
-    Ok(groups)
-}
-
-/// The first group with a place that is not taken, or how many there are.
-fn first_group(groups: &[u32]) -> usize
-    ensures within { result ≤ length groups.now }
-    ensures before { (g : ℕ) → g < result → get_or groups.now g 0 ≡ 0 }
-{
-    for (g, open) in groups.iter().enumerate() {
-        if *open != 0 {
-            return g;
-        }
-    }
-    groups.len()
-}
-
-/// One place less is open in a group.
-fn count_down(groups: &mut Vec<u32>, g: usize)
-    requires within { g < length groups.old.items }
-    requires some { 1 ≤ get_or groups.old.items g 0 }
-    ensures { groups.new.items ≡ set groups.old.items g (get_or groups.old.items g 0 - 1) }
-{
-    groups[g] -= 1;
-}
-
-/// One place more is open in a group.
-fn count_up(groups: &mut Vec<u32>, g: usize)
-    requires within { g < length groups.old.items }
-    requires few { get_or groups.old.items g 0 ≤ 128 }
-    ensures { groups.new.items ≡ set groups.old.items g (get_or groups.old.items g 0 + 1) }
-{
-    groups[g] += 1;
+    ghost invariant = { λ t. IsFreeTable t.places t.free (deque_capacity t.runs) t.runs.items };
 }
 
 impl Taken {
-    /// This number of places, of which none is taken.
+    /// This number of places, of which none is taken. It takes the memory that any of them may need to be given back.
     pub fn new(alloc: Global, places: usize) -> Result<Taken, AllocError>
+        requires { places < 2 ^ 32 }
         ensures { IfOk result (λ t. t ≡ replicate places false) }
     {
-        let open = vec![in alloc; false; places]?;
-        let groups = group(alloc, open.as_slice())?;
+        let count = places as u32;
         Ok(Taken {
-            places: open,
-            groups,
+            places: count,
+            runs: all_free(alloc, count)?,
             free: places,
         })
     }
@@ -144,21 +48,13 @@ impl Taken {
         self.free
     }
 
-    /// The first place that is not taken, or the number of places. It looks at the counts of the groups, and at one group.
+    /// The first place that is not taken, or the number of places.
     pub fn first(&self) -> usize
         ensures before { (j : ℕ) → j < result → get_or self.now j false ≡ true }
         ensures within { result ≤ length self.now }
         ensures open { result < length self.now → get_or self.now result true ≡ false }
     {
-        let g = first_group(self.groups.as_slice());
-        if g >= self.groups.len() {
-            return self.places.len();
-        }
-        let low = g * GROUP;
-        if low >= self.places.len() {
-            return self.places.len();
-        }
-        first_from(self.places.as_slice(), low)
+        first_free(&self.runs, self.places) as usize
     }
 
     /// Takes the first place that is not taken.
@@ -168,20 +64,20 @@ impl Taken {
         requires open { get_or self.old place true ≡ false }
         ensures { self.new ≡ set self.old place true }
     {
-        count_down(&mut self.groups, place / GROUP);
-        write(&mut self.places, place, true);
+        take_first(&mut self.runs, place as u32);
         self.free -= 1;
     }
 
-    /// Gives a place back.
+    /// Gives a place back. It takes no memory.
     pub fn give(&mut self, place: usize)
         requires within { place < length self.old }
         ensures { self.new ≡ set self.old place false }
     {
-        if self.places[place] {
-            count_up(&mut self.groups, place / GROUP);
-            write(&mut self.places, place, false);
-            self.free += 1;
+        let index = position(&self.runs, place as u32);
+        if ends_above(&self.runs, index, place as u32) {
+            return;
         }
+        give(&mut self.runs, index, place as u32);
+        self.free += 1;
     }
 }

@@ -3,8 +3,8 @@ use Rattle.st_extents.proofs.Apart.{own_in_order}
 use Rattle.st_extents.proofs.Owned.{none_sound, none_owned}
 use Rattle.st_extents.proofs.extents.Extents.new.Goals as goal
 
-pub new-requires : goal.new-requires
-new-requires c = rw c.in_ok-own.ensures.blocks (own_in_order _ (omega (arith, c.requires.few_blocks)))
+pub new-requires-clause-order : goal.new-requires-clause-order
+new-requires-clause-order c = rw c.in_ok-own.ensures.blocks (own_in_order _ (omega (arith, c.requires.few_blocks)))
 
 pub invariant_of-result : goal.invariant_of-result
 invariant_of-result c = record {

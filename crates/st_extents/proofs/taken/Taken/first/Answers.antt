@@ -1,29 +1,29 @@
-use Rattle.std.proofs.Common.{◌≡◌, ◌<◌, ◌≤◌, ◌*◌, ℕ, false, true, arith, get_or, length, ◌∙◌}
-use Rattle.st_extents.proofs.Taking.{groups_taken, told_at}
+use Rattle.std.proofs.Common.{◌≡◌, ◌<◌, true, false, ap, arith, ◌∙◌}
+use Rattle.std.specs.Prelude.{not}
+use Rattle.st_extents.specs.FreeRuns.{first_of, is_free}
+use Rattle.st_extents.proofs.FreeRuns.{first_before, first_there, first_within, taken_long, told_place}
 use Rattle.st_extents.proofs.taken.Taken.first.Goals as goal
 
-pub returns-then-g-len-clause-before : goal.returns-then-g-len-clause-before
-returns-then-g-len-clause-before c = λ j l.
-    let none : (h : ℕ) → h < c.first_group-g.result → get_or c.self.inside.groups.items h 0 ≡ 0 = rw c.as_slice.ensures.value at c.first_group-g.ensures.before in
-    let all : c.first_group-g.result ≤ length c.self.inside.groups.items = rw c.as_slice.ensures.value at c.first_group-g.ensures.within in
-    let inside : j < length c.self.inside.places.items = omega (arith, l, c.len-then-g-len.ensures, c.self.inside.places.ok.0) in
-    let end : j < c.first_group-g.result * 128 = omega (arith, inside, c.self.invariant.groups.enough, c.if-g-len.true, c.len.ensures, c.self.inside.groups.ok.0) in
+pub returns-clause-before : goal.returns-clause-before
+returns-clause-before c = λ j l.
+    let rs = c.self.inside.runs.items in
+    let n = c.self.inside.places in
+    let e : c.first_free.result ≡ first_of n rs = c.first_free.ensures in
     rw (← c.self.view_is)
-    (told_at c.self.inside.places.items j false true inside ∙ groups_taken c.self.inside.places.items c.self.inside.groups.items c.self.invariant.groups c.first_group-g.result all none j end)
+    (told_place rs n j false (omega (arith, l, e, first_within n rs c.self.invariant.below)) ∙ ap not (first_before n rs j c.self.invariant.below (omega (arith, l, e))))
 
-pub returns-then-low-len-clause-before : goal.returns-then-low-len-clause-before
-returns-then-low-len-clause-before c = λ j l.
-    let none : (h : ℕ) → h < c.first_group-g.result → get_or c.self.inside.groups.items h 0 ≡ 0 = rw c.as_slice.ensures.value at c.first_group-g.ensures.before in
-    let all : c.first_group-g.result ≤ length c.self.inside.groups.items = rw c.as_slice.ensures.value at c.first_group-g.ensures.within in
-    let inside : j < length c.self.inside.places.items = omega (arith, l, c.len-then-low-len.ensures, c.self.inside.places.ok.0) in
-    let end : j < c.first_group-g.result * 128 = omega (arith, l, c.len-then-low-len.ensures, c.len-2.ensures, c.if-low-len.true) in
+pub returns-clause-within : goal.returns-clause-within
+returns-clause-within c =
+    let rs = c.self.inside.runs.items in
+    let n = c.self.inside.places in
+    let e : c.first_free.result ≡ first_of n rs = c.first_free.ensures in
+    rw (← c.self.view_is) (omega (arith, e, first_within n rs c.self.invariant.below, taken_long rs 0 n))
+
+pub returns-clause-open : goal.returns-clause-open
+returns-clause-open c = λ l.
+    let rs = c.self.inside.runs.items in
+    let n = c.self.inside.places in
+    let e : c.first_free.result ≡ first_of n rs = c.first_free.ensures in
+    let within : c.first_free.result < n = omega (arith, (rw (← c.self.view_is) at l), taken_long rs 0 n) in
     rw (← c.self.view_is)
-    (told_at c.self.inside.places.items j false true inside ∙ groups_taken c.self.inside.places.items c.self.inside.groups.items c.self.invariant.groups c.first_group-g.result all none j end)
-
-pub first_from-requires-clause-lower : goal.first_from-requires-clause-lower
-first_from-requires-clause-lower c = λ j l.
-    let none : (h : ℕ) → h < c.first_group-g.result → get_or c.self.inside.groups.items h 0 ≡ 0 = rw c.as_slice.ensures.value at c.first_group-g.ensures.before in
-    let all : c.first_group-g.result ≤ length c.self.inside.groups.items = rw c.as_slice.ensures.value at c.first_group-g.ensures.within in
-    let inside : j < length c.self.inside.places.items = omega (arith, l, c.len-2.ensures, c.if-low-len.false, c.self.inside.places.ok.0) in
-    rw c.as_slice-2.ensures.value
-    (told_at c.self.inside.places.items j false true inside ∙ groups_taken c.self.inside.places.items c.self.inside.groups.items c.self.invariant.groups c.first_group-g.result all none j l)
+    (told_place rs n c.first_free.result true within ∙ ap (λ p. not (is_free rs p)) e ∙ ap not (first_there n rs c.self.invariant.below (omega (arith, within, e))))
