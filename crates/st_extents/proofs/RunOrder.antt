@@ -13,12 +13,11 @@ use Rattle.st_base.specs.declared.ids.PageNo.{PageNo}
 use Rattle.st_rules.specs.declared.extents.Extent.{Extent}
 use Rattle.st_rules.specs.Keys.{same_file, same_page}
 use Rattle.st_rules.specs.Extents.{is_extent_of}
-use Rattle.st_extents.specs.declared.run_map.RunKey.{RunKey}
 use Rattle.st_extents.specs.declared.run_map.Run.{Run}
-use Rattle.st_extents.specs.Runs.{file_of, goes_on, has_birth, has_page, reaches, run_order, same_start, share_page}
+use Rattle.st_extents.specs.Runs.{RunKey, file_of, goes_on, has_birth, has_page, reaches, run_order, same_start, share_page}
 
 pub order_total : IsTotalOrder run_order
-order_total = then_total (on_total (λ (k : RunKey). k.server) nat_cmp_total) (then_total (on_total (λ (k : RunKey). k.ino) nat_cmp_total) (on_total (λ (k : RunKey). k.page) nat_cmp_total))
+order_total = then_total (then_total (on_total (λ (k : RunKey). k.0.server.0) nat_cmp_total) (on_total (λ (k : RunKey). k.0.ino) nat_cmp_total)) (on_total (λ (k : RunKey). k.1.0) nat_cmp_total)
 
 then_equal : (o p : Ordering) → is_eq (ordering_then o p) ≡ true → (is_eq o ≡ true) × (is_eq p ≡ true)
 then_equal Less p h = absurd (true≢false (sym h))
@@ -31,9 +30,9 @@ number_equal a b h = exact_unsigned a b ((Equal-is (nat_cmp a b)).0 h)
 -- one key
 pub same_true : (a b : RunKey) → same_start a b ≡ true → a ≡ b
 same_true a b h =
-    let p = then_equal (nat_cmp a.server b.server) (ordering_then (nat_cmp a.ino b.ino) (nat_cmp a.page b.page)) h in
-    let q = then_equal (nat_cmp a.ino b.ino) (nat_cmp a.page b.page) p.1 in
-    (λ i. record { server = number_equal a.server b.server p.0 i; ino = number_equal a.ino b.ino q.0 i; page = number_equal a.page b.page q.1 i })
+    let p = then_equal (ordering_then (nat_cmp a.0.server.0 b.0.server.0) (nat_cmp a.0.ino b.0.ino)) (nat_cmp a.1.0 b.1.0) h in
+    let q = then_equal (nat_cmp a.0.server.0 b.0.server.0) (nat_cmp a.0.ino b.0.ino) p.0 in
+    (λ i. (record { server = record { 0 = number_equal a.0.server.0 b.0.server.0 q.0 i }; ino = number_equal a.0.ino b.0.ino q.1 i }, record { 0 = number_equal a.1.0 b.1.0 p.1 i }))
 
 pub same_self : (a : RunKey) → same_start a a ≡ true
 same_self a = ap is_eq (tied_itself order_total a)
@@ -68,22 +67,30 @@ both_up_to a b o p h k =
     (λ e. ⊎_elim (λ m. absurd (omega (arith, e.0, m))) (λ m. (m.0, (e.1, m.1))) (then_up_to b a p k))
     (then_up_to a b o h)
 
+-- three orders one after another
+then_then : (o p q : Ordering) → ordering_then (ordering_then o p) q ≡ ordering_then o (ordering_then p q)
+then_then Less p q = refl
+then_then Equal p q = refl
+then_then Greater p q = refl
+
 -- a key between two of one file is of that file
-pub in_file : (s i p : ℕ) (q : RunKey) → is_gt (run_order (record { server = s; ino = i; page = 0 }) q) ≡ false → is_gt (run_order q (record { server = s; ino = i; page = p })) ≡ false → (q.server ≡ s) × ((q.ino ≡ i) × (q.page ≤ p))
-in_file s i p q h k =
-    let a = both_up_to s q.server (ordering_then (nat_cmp i q.ino) (nat_cmp 0 q.page)) (ordering_then (nat_cmp q.ino i) (nat_cmp q.page p)) h k in
-    let b = both_up_to i q.ino (nat_cmp 0 q.page) (nat_cmp q.page p) a.1.0 a.1.1 in
-    (a.0, (b.0, le_from_not_gt q.page p b.1.1))
+pub in_file : (f : FileId) (p : ℕ) (q : RunKey) → is_gt (run_order (f, record { 0 = 0 }) q) ≡ false → is_gt (run_order q (f, record { 0 = p })) ≡ false → (q.0.server.0 ≡ f.server.0) × ((q.0.ino ≡ f.ino) × (q.1.0 ≤ p))
+in_file f p q h k =
+    let low = sym (ap is_gt (then_then (nat_cmp f.server.0 q.0.server.0) (nat_cmp f.ino q.0.ino) (nat_cmp 0 q.1.0))) ∙ h in
+    let high = sym (ap is_gt (then_then (nat_cmp q.0.server.0 f.server.0) (nat_cmp q.0.ino f.ino) (nat_cmp q.1.0 p))) ∙ k in
+    let a = both_up_to f.server.0 q.0.server.0 (ordering_then (nat_cmp f.ino q.0.ino) (nat_cmp 0 q.1.0)) (ordering_then (nat_cmp q.0.ino f.ino) (nat_cmp q.1.0 p)) low high in
+    let b = both_up_to f.ino q.0.ino (nat_cmp 0 q.1.0) (nat_cmp q.1.0 p) a.1.0 a.1.1 in
+    (a.0, (b.0, le_from_not_gt q.1.0 p b.1.1))
 
-one_file : (a b : RunKey) → file_of a ≡ file_of b → run_order a b ≡ nat_cmp a.page b.page
+one_file : (a b : RunKey) → file_of a ≡ file_of b → run_order a b ≡ nat_cmp a.1.0 b.1.0
 one_file a b e =
-    (λ i. ordering_then (cmp_equal a.server b.server (ap (λ (f : FileId). f.server.0) e) i) (ordering_then (cmp_equal a.ino b.ino (ap (λ (f : FileId). f.ino) e) i) (nat_cmp a.page b.page)))
+    (λ i. ordering_then (ordering_then (cmp_equal a.0.server.0 b.0.server.0 (ap (λ (f : FileId). f.server.0) e) i) (cmp_equal a.0.ino b.0.ino (ap (λ (f : FileId). f.ino) e) i)) (nat_cmp a.1.0 b.1.0))
 
-pub up_to : (a b : RunKey) → file_of a ≡ file_of b → a.page ≤ b.page → is_gt (run_order a b) ≡ false
-up_to a b e l = ap is_gt (one_file a b e) ∙ not_greater a.page b.page l
+pub up_to : (a b : RunKey) → file_of a ≡ file_of b → a.1.0 ≤ b.1.0 → is_gt (run_order a b) ≡ false
+up_to a b e l = ap is_gt (one_file a b e) ∙ not_greater a.1.0 b.1.0 l
 
-pub not_below : (a b : RunKey) → file_of a ≡ file_of b → is_lt (run_order a b) ≡ false → b.page ≤ a.page
-not_below a b e h = ge_from_not_lt a.page b.page (sym (ap is_lt (one_file a b e)) ∙ h)
+pub not_below : (a b : RunKey) → file_of a ≡ file_of b → is_lt (run_order a b) ≡ false → b.1.0 ≤ a.1.0
+not_below a b e h = ge_from_not_lt a.1.0 b.1.0 (sym (ap is_lt (one_file a b e)) ∙ h)
 
 -- Tests as facts.
 
@@ -111,45 +118,45 @@ birth_in b e h =
 pub in_birth : (b : ℕ) (e : RunKey × Run) → e.1.birth ≤ b → b < e.1.birth + e.1.length → has_birth b e ≡ true
 in_birth b e l m = and_from (nat_le e.1.birth b) (nat_lt b (e.1.birth + e.1.length)) (le-leb e.1.birth b l) (lt-ltb b (e.1.birth + e.1.length) m)
 
-pub page_in : (f : FileId) (p : PageNo) (e : RunKey × Run) → has_page f p e ≡ true → (file_of e.0 ≡ f) × ((e.0.page ≤ p.0) × (p.0 < e.0.page + e.1.length))
+pub page_in : (f : FileId) (p : PageNo) (e : RunKey × Run) → has_page f p e ≡ true → (file_of e.0 ≡ f) × ((e.0.1.0 ≤ p.0) × (p.0 < e.0.1.0 + e.1.length))
 page_in f p e h =
-    let q = and_parts (same_file (file_of e.0) f) (nat_le e.0.page p.0 && nat_lt p.0 (e.0.page + e.1.length)) h in
-    let r = and_parts (nat_le e.0.page p.0) (nat_lt p.0 (e.0.page + e.1.length)) q.1 in
-    (file_is (file_of e.0) f q.0, (leb-true e.0.page p.0 r.0, ltb-true p.0 (e.0.page + e.1.length) r.1))
+    let q = and_parts (same_file (file_of e.0) f) (nat_le e.0.1.0 p.0 && nat_lt p.0 (e.0.1.0 + e.1.length)) h in
+    let r = and_parts (nat_le e.0.1.0 p.0) (nat_lt p.0 (e.0.1.0 + e.1.length)) q.1 in
+    (file_is (file_of e.0) f q.0, (leb-true e.0.1.0 p.0 r.0, ltb-true p.0 (e.0.1.0 + e.1.length) r.1))
 
-pub in_page : (f : FileId) (p : PageNo) (e : RunKey × Run) → file_of e.0 ≡ f → e.0.page ≤ p.0 → p.0 < e.0.page + e.1.length → has_page f p e ≡ true
+pub in_page : (f : FileId) (p : PageNo) (e : RunKey × Run) → file_of e.0 ≡ f → e.0.1.0 ≤ p.0 → p.0 < e.0.1.0 + e.1.length → has_page f p e ≡ true
 in_page f p e a l m =
-    and_from (same_file (file_of e.0) f) (nat_le e.0.page p.0 && nat_lt p.0 (e.0.page + e.1.length)) (is_file (file_of e.0) f a)
-    (and_from (nat_le e.0.page p.0) (nat_lt p.0 (e.0.page + e.1.length)) (le-leb e.0.page p.0 l) (lt-ltb p.0 (e.0.page + e.1.length) m))
+    and_from (same_file (file_of e.0) f) (nat_le e.0.1.0 p.0 && nat_lt p.0 (e.0.1.0 + e.1.length)) (is_file (file_of e.0) f a)
+    (and_from (nat_le e.0.1.0 p.0) (nat_lt p.0 (e.0.1.0 + e.1.length)) (le-leb e.0.1.0 p.0 l) (lt-ltb p.0 (e.0.1.0 + e.1.length) m))
 
-pub shared : (a b : RunKey × Run) → share_page a b ≡ true → (file_of a.0 ≡ file_of b.0) × ((a.0.page < b.0.page + b.1.length) × (b.0.page < a.0.page + a.1.length))
+pub shared : (a b : RunKey × Run) → share_page a b ≡ true → (file_of a.0 ≡ file_of b.0) × ((a.0.1.0 < b.0.1.0 + b.1.length) × (b.0.1.0 < a.0.1.0 + a.1.length))
 shared a b h =
-    let q = and_parts (same_file (file_of a.0) (file_of b.0)) (nat_lt a.0.page (b.0.page + b.1.length) && nat_lt b.0.page (a.0.page + a.1.length)) h in
-    let r = and_parts (nat_lt a.0.page (b.0.page + b.1.length)) (nat_lt b.0.page (a.0.page + a.1.length)) q.1 in
-    (file_is (file_of a.0) (file_of b.0) q.0, (ltb-true a.0.page (b.0.page + b.1.length) r.0, ltb-true b.0.page (a.0.page + a.1.length) r.1))
+    let q = and_parts (same_file (file_of a.0) (file_of b.0)) (nat_lt a.0.1.0 (b.0.1.0 + b.1.length) && nat_lt b.0.1.0 (a.0.1.0 + a.1.length)) h in
+    let r = and_parts (nat_lt a.0.1.0 (b.0.1.0 + b.1.length)) (nat_lt b.0.1.0 (a.0.1.0 + a.1.length)) q.1 in
+    (file_is (file_of a.0) (file_of b.0) q.0, (ltb-true a.0.1.0 (b.0.1.0 + b.1.length) r.0, ltb-true b.0.1.0 (a.0.1.0 + a.1.length) r.1))
 
-pub share : (a b : RunKey × Run) → file_of a.0 ≡ file_of b.0 → a.0.page < b.0.page + b.1.length → b.0.page < a.0.page + a.1.length → share_page a b ≡ true
+pub share : (a b : RunKey × Run) → file_of a.0 ≡ file_of b.0 → a.0.1.0 < b.0.1.0 + b.1.length → b.0.1.0 < a.0.1.0 + a.1.length → share_page a b ≡ true
 share a b e l m =
-    and_from (same_file (file_of a.0) (file_of b.0)) (nat_lt a.0.page (b.0.page + b.1.length) && nat_lt b.0.page (a.0.page + a.1.length)) (is_file (file_of a.0) (file_of b.0) e)
-    (and_from (nat_lt a.0.page (b.0.page + b.1.length)) (nat_lt b.0.page (a.0.page + a.1.length)) (lt-ltb a.0.page (b.0.page + b.1.length) l) (lt-ltb b.0.page (a.0.page + a.1.length) m))
+    and_from (same_file (file_of a.0) (file_of b.0)) (nat_lt a.0.1.0 (b.0.1.0 + b.1.length) && nat_lt b.0.1.0 (a.0.1.0 + a.1.length)) (is_file (file_of a.0) (file_of b.0) e)
+    (and_from (nat_lt a.0.1.0 (b.0.1.0 + b.1.length)) (nat_lt b.0.1.0 (a.0.1.0 + a.1.length)) (lt-ltb a.0.1.0 (b.0.1.0 + b.1.length) l) (lt-ltb b.0.1.0 (a.0.1.0 + a.1.length) m))
 
 -- what it is that a run goes on
 pub record GoesOn (a b : RunKey × Run) : Type 0 where
   pub file : file_of a.0 ≡ file_of b.0
-  pub page : a.0.page + a.1.length ≡ b.0.page
+  pub page : a.0.1.0 + a.1.length ≡ b.0.1.0
   pub disk : a.1.at.disk.0 ≡ b.1.at.disk.0
   pub block : a.1.at.block + a.1.length ≡ b.1.at.block
   pub birth : a.1.birth + a.1.length ≡ b.1.birth
 
 pub goes : (a b : RunKey × Run) → goes_on a b ≡ true → GoesOn a b
 goes a b h =
-    let p = and_parts (same_file (file_of a.0) (file_of b.0)) ((a.0.page + a.1.length == b.0.page) && (reaches a.1.at a.1.length b.1.at && (a.1.birth + a.1.length == b.1.birth))) h in
-    let q = and_parts (a.0.page + a.1.length == b.0.page) (reaches a.1.at a.1.length b.1.at && (a.1.birth + a.1.length == b.1.birth)) p.1 in
+    let p = and_parts (same_file (file_of a.0) (file_of b.0)) ((a.0.1.0 + a.1.length == b.0.1.0) && (reaches a.1.at a.1.length b.1.at && (a.1.birth + a.1.length == b.1.birth))) h in
+    let q = and_parts (a.0.1.0 + a.1.length == b.0.1.0) (reaches a.1.at a.1.length b.1.at && (a.1.birth + a.1.length == b.1.birth)) p.1 in
     let r = and_parts (reaches a.1.at a.1.length b.1.at) (a.1.birth + a.1.length == b.1.birth) q.1 in
     let s = and_parts (a.1.at.disk.0 == b.1.at.disk.0) (a.1.at.block + a.1.length == b.1.at.block) r.0 in
     record {
       file = file_is (file_of a.0) (file_of b.0) p.0;
-      page = eqb-true (a.0.page + a.1.length) b.0.page q.0;
+      page = eqb-true (a.0.1.0 + a.1.length) b.0.1.0 q.0;
       disk = eqb-true a.1.at.disk.0 b.1.at.disk.0 s.0;
       block = eqb-true (a.1.at.block + a.1.length) b.1.at.block s.1;
       birth = eqb-true (a.1.birth + a.1.length) b.1.birth r.1;
@@ -157,22 +164,22 @@ goes a b h =
 
 pub on : (a b : RunKey × Run) → GoesOn a b → goes_on a b ≡ true
 on a b g =
-    and_from (same_file (file_of a.0) (file_of b.0)) ((a.0.page + a.1.length == b.0.page) && (reaches a.1.at a.1.length b.1.at && (a.1.birth + a.1.length == b.1.birth))) (is_file (file_of a.0) (file_of b.0) g.file)
-    (and_from (a.0.page + a.1.length == b.0.page) (reaches a.1.at a.1.length b.1.at && (a.1.birth + a.1.length == b.1.birth)) (eq-eqb (a.0.page + a.1.length) b.0.page g.page)
+    and_from (same_file (file_of a.0) (file_of b.0)) ((a.0.1.0 + a.1.length == b.0.1.0) && (reaches a.1.at a.1.length b.1.at && (a.1.birth + a.1.length == b.1.birth))) (is_file (file_of a.0) (file_of b.0) g.file)
+    (and_from (a.0.1.0 + a.1.length == b.0.1.0) (reaches a.1.at a.1.length b.1.at && (a.1.birth + a.1.length == b.1.birth)) (eq-eqb (a.0.1.0 + a.1.length) b.0.1.0 g.page)
     (and_from (reaches a.1.at a.1.length b.1.at) (a.1.birth + a.1.length == b.1.birth)
     (and_from (a.1.at.disk.0 == b.1.at.disk.0) (a.1.at.block + a.1.length == b.1.at.block) (eq-eqb a.1.at.disk.0 b.1.at.disk.0 g.disk) (eq-eqb (a.1.at.block + a.1.length) b.1.at.block g.block))
     (eq-eqb (a.1.birth + a.1.length) b.1.birth g.birth)))
 
 -- Keys of one file up to a page.
-module _ (f : FileId) (p : ℕ) (a b : RunKey) (first : a ≡ record { server = f.server.0; ino = f.ino; page = 0 }) (last : b ≡ record { server = f.server.0; ino = f.ino; page = p }) where
-  pub between : (k : RunKey) → file_of k ≡ f → k.page ≤ p → (is_gt (run_order a k) ≡ false) × (is_gt (run_order k b) ≡ false)
+module _ (f : FileId) (p : ℕ) (a b : RunKey) (first : a ≡ (f, record { 0 = 0 })) (last : b ≡ (f, record { 0 = p })) where
+  pub between : (k : RunKey) → file_of k ≡ f → k.1.0 ≤ p → (is_gt (run_order a k) ≡ false) × (is_gt (run_order k b) ≡ false)
   between k e l = (
-    ap (λ s. is_gt (run_order s k)) first ∙ up_to (record { server = f.server.0; ino = f.ino; page = 0 }) k (sym e) (omega arith),
-    ap (λ s. is_gt (run_order k s)) last ∙ up_to k (record { server = f.server.0; ino = f.ino; page = p }) e l,
+    ap (λ s. is_gt (run_order s k)) first ∙ up_to (f, record { 0 = 0 }) k (sym e) (omega arith),
+    ap (λ s. is_gt (run_order k s)) last ∙ up_to k (f, record { 0 = p }) e l,
   )
 
-  pub last_between : (e k : RunKey) → is_gt (run_order a e) ≡ false → is_gt (run_order e b) ≡ false → is_lt (run_order e k) ≡ false → file_of k ≡ f → k.page ≤ e.page
+  pub last_between : (e k : RunKey) → is_gt (run_order a e) ≡ false → is_gt (run_order e b) ≡ false → is_lt (run_order e k) ≡ false → file_of k ≡ f → k.1.0 ≤ e.1.0
   last_between e k g h n s =
-      let q = in_file f.server.0 f.ino p e (sym (ap (λ s. is_gt (run_order s e)) first) ∙ g) (sym (ap (λ s. is_gt (run_order e s)) last) ∙ h) in
+      let q = in_file f p e (sym (ap (λ s. is_gt (run_order s e)) first) ∙ g) (sym (ap (λ s. is_gt (run_order e s)) last) ∙ h) in
       let file : file_of e ≡ f = (λ i. record { server = record { 0 = q.0 i }; ino = q.1.0 i }) in
       not_below e k (file ∙ sym s) n

@@ -13,9 +13,8 @@ use Rattle.st_rules.specs.Keys.{page_no}
 use Rattle.st_rules.specs.Extents.{is_extent_of}
 use Rattle.st_tables.specs.Tables.{kept, listed}
 use Rattle.st_tables.proofs.Listed.{listed_filter, listed_more, listed_push, same_listed}
-use Rattle.st_extents.specs.declared.run_map.RunKey.{RunKey}
 use Rattle.st_extents.specs.declared.run_map.Run.{Run}
-use Rattle.st_extents.specs.Runs.{AreKept, extent_in, extent_under, file_of, goes_on, has_birth, key_of, longer, one_page, rows_of, run_at, run_order, same_start, share_page, shorter}
+use Rattle.st_extents.specs.Runs.{RunKey, AreKept, extent_in, extent_under, file_of, goes_on, has_birth, key_of, longer, one_page, rows_of, run_at, run_order, same_start, share_page, shorter}
 use Rattle.st_extents.proofs.RunOrder.{GoesOn, birth_in, goes, in_birth, in_page, of_page, same_self, same_true, share, shared}
 use Rattle.st_extents.proofs.RunsFound.{free_page, one_birth, one_run, under_cases, under_is, under_none}
 
@@ -26,7 +25,7 @@ turned a b h = let s = shared a b h in share b a (sym s.0) s.1.1 s.1.0
 pub record Fits (m : ℕ) (at : RunKey → Option Run) (k : RunKey) (w : Run) : Type 0 where
   pub some : 1 ≤ w.length
   pub given : (1 ≤ w.birth) × (w.birth + w.length ≤ m + 1)
-  pub fits : (k.page + w.length ≤ 1048576) × (w.at.block + w.length ≤ 4294967296)
+  pub fits : (k.1.0 + w.length ≤ 1048576) × (w.at.block + w.length ≤ 4294967296)
   pub born : (j : RunKey) (q : Run) (b : ℕ) → same_start k j ≡ false → at j ≡ Some q → has_birth b (j, q) ≡ true → has_birth b (k, w) ≡ true → ⊥
   pub once : (j : RunKey) (q : Run) → same_start k j ≡ false → at j ≡ Some q → share_page (j, q) (k, w) ≡ true → ⊥
   pub before : (j : RunKey) (q : Run) → same_start k j ≡ false → at j ≡ Some q → goes_on (j, q) (k, w) ≡ true → ⊥
@@ -74,7 +73,7 @@ module _ (es fs : List (RunKey × Run)) (k : RunKey) (o : Option Run) (change : 
           (λ a.
           let l : w.length ≡ q.length = ap (λ (y : Run). y.length) (is q a.1) in
           let b : w.at.block ≡ q.at.block = ap (λ (y : Run). y.at.block) (is q a.1) in
-          let p : k.page ≡ j.page = ap (λ (y : RunKey). y.page) a.0 in
+          let p : k.1.0 ≡ j.1.0 = ap (λ (y : RunKey). y.1.0) a.0 in
           (omega (arith, l, p, F.fits.0), omega (arith, l, b, F.fits.1)))
           (λ a. T.fits j q a.1) (from j q h);
       born = λ j l q r b g h x y. ⊎_elim
@@ -144,7 +143,7 @@ module _ (es fs : List (RunKey × Run)) (k : RunKey) (o : Option Run) (change : 
 
 -- A page is mapped.
 module _ (es : List (RunKey × Run)) (sorted : IsStrictlySortedBy run_order (keys_of es)) (n : ℕ) (T : AreKept n (run_at es)) (f : FileId) (p : PageNo) (at : BlockAt) (low : p.0 < 1048576) (small : at.block < 4294967296) (fresh : is_some (find (is_extent_of f p) (rows_of n es)) ≡ false) where
-  free : (j : RunKey) (q : Run) → run_at es j ≡ Some q → file_of j ≡ f → j.page ≤ p.0 → p.0 < j.page + q.length → ⊥
+  free : (j : RunKey) (q : Run) → run_at es j ≡ Some q → file_of j ≡ f → j.1.0 ≤ p.0 → p.0 < j.1.0 + q.length → ⊥
   free j q g file l m = true≢false (sym (in_page f p (j, q) file l m) ∙ free_page es sorted n T f p fresh j q g)
 
   -- no run begins at the page
@@ -205,7 +204,7 @@ module _ (es : List (RunKey × Run)) (sorted : IsStrictlySortedBy run_order (key
     fits_longer = record {
       some = omega arith;
       given = ((T.given k r h).0, (let a : r.birth + r.length ≡ n + 1 = z.birth in omega (arith, a)));
-      fits = ((let a : k.page + r.length ≡ p.0 = z.page in omega (arith, a, low)), (let a : r.at.block + r.length ≡ at.block = z.block in omega (arith, a, small)));
+      fits = ((let a : k.1.0 + r.length ≡ p.0 = z.page in omega (arith, a, low)), (let a : r.at.block + r.length ≡ at.block = z.block in omega (arith, a, small)));
       born = λ j q b d g x y.
           let a = birth_in b (j, q) x in
           let c = birth_in b (k, longer r) y in
@@ -214,11 +213,11 @@ module _ (es : List (RunKey × Run)) (sorted : IsStrictlySortedBy run_order (key
           apart j d (T.born j k q r b g h x (in_birth b (k, r) c.0 (omega (arith, a.1, l, e))));
       once = λ j q d g x.
           let s = shared (j, q) (k, longer r) x in
-          let e : k.page + r.length ≡ p.0 = z.page in
+          let e : k.1.0 + r.length ≡ p.0 = z.page in
           ⊎_elim
           (λ l. apart j d (T.once j k q r g h (share (j, q) (k, r) s.0 l s.1.1)))
           (λ l. let m = T.some j q g in free j q g (s.0 ∙ z.file) (omega (arith, e, s.1.0)) (omega (arith, e, l, m)))
-          (cases_lt j.page (k.page + r.length));
+          (cases_lt j.1.0 (k.1.0 + r.length));
       before = λ j q d g x. true≢false (sym x ∙ T.joined j k q r g h);
       behind = λ j q d g x.
           let y = goes (k, longer r) (j, q) x in
@@ -257,9 +256,9 @@ module _ (es : List (RunKey × Run)) (sorted : IsStrictlySortedBy run_order (key
           same : extent_in (n + 1 - r.birth) (k, longer r) ≡ record { file = f; page = p; at = at; birth = n + 1 }
           same =
               let e : r.birth + r.length ≡ n + 1 = z.birth in
-              let g : k.page + r.length ≡ p.0 = z.page in
+              let g : k.1.0 + r.length ≡ p.0 = z.page in
               let d : r.at.block + r.length ≡ at.block = z.block in
-              let a : k.page + (n + 1 - r.birth) ≡ p.0 = omega (arith, e, g) in
+              let a : k.1.0 + (n + 1 - r.birth) ≡ p.0 = omega (arith, e, g) in
               let b : r.at.block + (n + 1 - r.birth) ≡ at.block = omega (arith, e, d) in
               let c : r.birth + (n + 1 - r.birth) ≡ n + 1 = omega (arith, e) in
               (λ i. record { file = z.file i; page = record { 0 = a i }; at = record { disk = record { 0 = z.disk i }; block = b i }; birth = c i })
@@ -285,7 +284,7 @@ module _ (es : List (RunKey × Run)) (sorted : IsStrictlySortedBy run_order (key
         before = λ j q d g x. true≢false (sym x ∙ T.joined j k q r g h);
         behind = λ j q d g x.
             let y = goes (k, record r { length = r.length - 1 }) (j, q) x in
-            let a : k.page + (r.length - 1) ≡ j.page = y.page in
+            let a : k.1.0 + (r.length - 1) ≡ j.1.0 = y.page in
             let t = T.some j q g in
             apart j d (T.once j k q r g h (share (j, q) (k, r) (sym y.file) (omega (arith, a, s)) (omega (arith, a, t))));
       }
@@ -365,23 +364,23 @@ module _ (es : List (RunKey × Run)) (sorted : IsStrictlySortedBy run_order (key
         let e : r.birth + (r.length - 1) - r.birth ≡ r.length - 1 = omega arith in
         under_is es sorted n T k r (r.birth + (r.length - 1)) h (in_birth (r.birth + (r.length - 1)) (k, r) (omega arith) (omega (arith, l))) ∙ ap (λ j. Some (extent_in j (k, r))) e
 
-    keep_by : (o : Option Extent) → ((x : Extent) → o ≡ Some x → is_extent_of (file_of k) (page_no (k.page + (r.length - 1))) x ≡ false) → o ≡ kept (λ x. not (is_extent_of (file_of k) (page_no (k.page + (r.length - 1))) x)) o
+    keep_by : (o : Option Extent) → ((x : Extent) → o ≡ Some x → is_extent_of (file_of k) (page_no (k.1.0 + (r.length - 1))) x ≡ false) → o ≡ kept (λ x. not (is_extent_of (file_of k) (page_no (k.1.0 + (r.length - 1))) x)) o
     keep_by None g = refl
     keep_by (Some x) g = rw (g x refl) refl
 
     -- the page is unmapped
-    pub popped : rows_of n fs ≡ filter (λ x. not (is_extent_of (file_of k) (page_no (k.page + (r.length - 1))) x)) (rows_of n es)
+    pub popped : rows_of n fs ≡ filter (λ x. not (is_extent_of (file_of k) (page_no (k.1.0 + (r.length - 1))) x)) (rows_of n es)
     popped =
         let l = T.some k r h in
-        listed_filter (λ x. not (is_extent_of (file_of k) (page_no (k.page + (r.length - 1))) x)) (n + 1) (extent_under es) (extent_under fs)
+        listed_filter (λ x. not (is_extent_of (file_of k) (page_no (k.1.0 + (r.length - 1))) x)) (n + 1) (extent_under es) (extent_under fs)
         (λ b m. ⊎_elim
-        (λ e. ap (extent_under fs) e ∙ under_last ∙ sym (ap (kept (λ x. not (is_extent_of (file_of k) (page_no (k.page + (r.length - 1))) x))) (ap (extent_under es) e ∙ under_page) ∙ gone_here))
+        (λ e. ap (extent_under fs) e ∙ under_last ∙ sym (ap (kept (λ x. not (is_extent_of (file_of k) (page_no (k.1.0 + (r.length - 1))) x))) (ap (extent_under es) e ∙ under_page) ∙ gone_here))
         (λ e. under_others n kept_shorter b e ∙ keep_by (extent_under es b) (λ x g.
-        ⊎_elim (λ t. absurd (e (one_birth es sorted n T k r (r.length - 1) b x h (omega (arith, l)) g t))) (λ t. t) (cases_Bool (is_extent_of (file_of k) (page_no (k.page + (r.length - 1))) x))))
+        ⊎_elim (λ t. absurd (e (one_birth es sorted n T k r (r.length - 1) b x h (omega (arith, l)) g t))) (λ t. t) (cases_Bool (is_extent_of (file_of k) (page_no (k.1.0 + (r.length - 1))) x))))
         (cases_eq b (r.birth + (r.length - 1))))
       where
-        gone_here : kept (λ x. not (is_extent_of (file_of k) (page_no (k.page + (r.length - 1))) x)) (Some last_of) ≡ None
-        gone_here = rw (of_page (file_of k) (page_no (k.page + (r.length - 1))) last_of refl refl) refl
+        gone_here : kept (λ x. not (is_extent_of (file_of k) (page_no (k.1.0 + (r.length - 1))) x)) (Some last_of) ≡ None
+        gone_here = rw (of_page (file_of k) (page_no (k.1.0 + (r.length - 1))) last_of refl refl) refl
 
     -- one page less is mapped
     pub popped_length : length (rows_of n es) ≡ suc (length (rows_of n fs))

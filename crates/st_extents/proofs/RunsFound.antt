@@ -15,9 +15,8 @@ use Rattle.st_rules.specs.Keys.{page_no, same_file}
 use Rattle.std.specs.List.{list_any}
 use Rattle.st_rules.specs.Extents.{is_at_or_behind, is_extent_of}
 use Rattle.st_tables.proofs.Listed.{listed_find, passing}
-use Rattle.st_extents.specs.declared.run_map.RunKey.{RunKey}
 use Rattle.st_extents.specs.declared.run_map.Run.{Run}
-use Rattle.st_extents.specs.Runs.{AreKept, AreRunsOf, extent_in, extent_under, file_of, has_birth, has_page, rows_of, run_at, run_order, same_start}
+use Rattle.st_extents.specs.Runs.{RunKey, AreKept, AreRunsOf, extent_in, extent_under, file_of, has_birth, has_page, rows_of, run_at, run_order, same_start}
 use Rattle.st_extents.proofs.RunOrder.{birth_in, file_is, in_birth, in_page, of_page, order_total, page_in, page_of, same_true, share}
 use Rattle.st_extents.proofs.Owned.{found_is_any}
 
@@ -107,28 +106,28 @@ module _ (es : List (RunKey × Run)) (sorted : IsStrictlySortedBy run_order (key
     one_run j k q r g h e = let z : Some q ≡ Some r = sym g ∙ ap (run_at es) e ∙ h in cc
 
     -- a page of a run has one birth
-    pub one_birth : (k : RunKey) (r : Run) (i b : ℕ) (x : Extent) → run_at es k ≡ Some r → i < r.length → extent_under es b ≡ Some x → is_extent_of (file_of k) (page_no (k.page + i)) x ≡ true → b ≡ r.birth + i
+    pub one_birth : (k : RunKey) (r : Run) (i b : ℕ) (x : Extent) → run_at es k ≡ Some r → i < r.length → extent_under es b ≡ Some x → is_extent_of (file_of k) (page_no (k.1.0 + i)) x ≡ true → b ≡ r.birth + i
     one_birth k r i b x h l g t =
         let s = under_some b x g in
-        let f = page_of (file_of k) (page_no (k.page + i)) x t in
+        let f = page_of (file_of k) (page_no (k.1.0 + i)) x t in
         let e = s.1.1.1.1 in
         let in_q = birth_in b (s.0, s.1.0) s.1.1.1.0 in
-        let page : s.0.page + (b - s.1.0.birth) ≡ k.page + i = sym (ap (λ (y : Extent). y.page.0) e) ∙ f.1 in
+        let page : s.0.1.0 + (b - s.1.0.birth) ≡ k.1.0 + i = sym (ap (λ (y : Extent). y.page.0) e) ∙ f.1 in
         let file : file_of s.0 ≡ file_of k = sym (ap (λ (y : Extent). y.file) e) ∙ f.0 in
         let z : s.0 ≡ k = kept.once s.0 k s.1.0 r s.1.1.0 h (share (s.0, s.1.0) (k, r) file (omega (arith, page, l)) (omega (arith, page, in_q.0, in_q.1))) in
         let w : s.1.0 ≡ r = one_run s.0 k s.1.0 r s.1.1.0 h z in
-        let at : s.0.page ≡ k.page = ap (λ (y : RunKey). y.page) z in
+        let at : s.0.1.0 ≡ k.1.0 = ap (λ (y : RunKey). y.1.0) z in
         let since : s.1.0.birth ≡ r.birth = ap (λ (y : Run). y.birth) w in
         omega (arith, page, at, since, in_q.0)
 
     -- each page of a run is mapped
-    pub told : (k : RunKey) (r : Run) (i : ℕ) → run_at es k ≡ Some r → i < r.length → find (is_extent_of (file_of k) (page_no (k.page + i))) (rows_of n es) ≡ Some (extent_in i (k, r))
+    pub told : (k : RunKey) (r : Run) (i : ℕ) → run_at es k ≡ Some r → i < r.length → find (is_extent_of (file_of k) (page_no (k.1.0 + i))) (rows_of n es) ≡ Some (extent_in i (k, r))
     told k r i h l =
         let g = kept.given k r h in
         let there : r.birth + i - r.birth ≡ i = omega arith in
-        listed_find (is_extent_of (file_of k) (page_no (k.page + i))) (extent_in i (k, r)) (r.birth + i) (n + 1) (extent_under es) (omega (arith, g.1, l))
+        listed_find (is_extent_of (file_of k) (page_no (k.1.0 + i))) (extent_in i (k, r)) (r.birth + i) (n + 1) (extent_under es) (omega (arith, g.1, l))
         (under_is k r (r.birth + i) h (in_birth (r.birth + i) (k, r) (omega arith) (omega (arith, l))) ∙ ap (λ j. Some (extent_in j (k, r))) there)
-        (of_page (file_of k) (page_no (k.page + i)) (extent_in i (k, r)) refl refl)
+        (of_page (file_of k) (page_no (k.1.0 + i)) (extent_in i (k, r)) refl refl)
         (λ j x a t. one_birth k r i j x h l a t)
 
     -- each mapped page is in a run
@@ -139,18 +138,18 @@ module _ (es : List (RunKey × Run)) (sorted : IsStrictlySortedBy run_order (key
         let g = page_of f p m.1.0 m.1.1.1.1 in
         let e = s.1.1.1.1 in
         let in_r = birth_in m.0 (s.0, s.1.0) s.1.1.1.0 in
-        let page : s.0.page + (m.0 - s.1.0.birth) ≡ p.0 = sym (ap (λ (y : Extent). y.page.0) e) ∙ g.1 in
+        let page : s.0.1.0 + (m.0 - s.1.0.birth) ≡ p.0 = sym (ap (λ (y : Extent). y.page.0) e) ∙ g.1 in
         (s.0, (s.1.0, (s.1.1.0, in_page f p (s.0, s.1.0) (sym (ap (λ (y : Extent). y.file) e) ∙ g.0) (omega (arith, page)) (omega (arith, page, in_r.0, in_r.1)))))
 
     pub are_runs : AreRunsOf (rows_of n es) (run_at es)
     are_runs = record { told = told; all = all; some = kept.some; once = kept.once; joined = kept.joined }
 
     -- a page that a run has
-    pub page_told : (f : FileId) (p : PageNo) (k : RunKey) (r : Run) → run_at es k ≡ Some r → has_page f p (k, r) ≡ true → find (is_extent_of f p) (rows_of n es) ≡ Some (extent_in (p.0 - k.page) (k, r))
+    pub page_told : (f : FileId) (p : PageNo) (k : RunKey) (r : Run) → run_at es k ≡ Some r → has_page f p (k, r) ≡ true → find (is_extent_of f p) (rows_of n es) ≡ Some (extent_in (p.0 - k.1.0) (k, r))
     page_told f p k r h t =
         let q = page_in f p (k, r) t in
-        let e : k.page + (p.0 - k.page) ≡ p.0 = omega (arith, q.1.0) in
-        (λ i. find (is_extent_of (sym q.0 i) (page_no (sym e i))) (rows_of n es)) ∙ told k r (p.0 - k.page) h (omega (arith, q.1.0, q.1.1))
+        let e : k.1.0 + (p.0 - k.1.0) ≡ p.0 = omega (arith, q.1.0) in
+        (λ i. find (is_extent_of (sym q.0 i) (page_no (sym e i))) (rows_of n es)) ∙ told k r (p.0 - k.1.0) h (omega (arith, q.1.0, q.1.1))
 
     -- a page that no run has
     pub page_free : (f : FileId) (p : PageNo) → ((k : RunKey) (r : Run) → run_at es k ≡ Some r → has_page f p (k, r) ≡ false) → find (is_extent_of f p) (rows_of n es) ≡ None
@@ -164,37 +163,37 @@ module _ (es : List (RunKey × Run)) (sorted : IsStrictlySortedBy run_order (key
         ⊎_elim (λ t. absurd (true≢false (sym (ap is_some (page_told f p k r h t)) ∙ e))) (λ t. t) (cases_Bool (has_page f p (k, r)))
 
     -- The last run that begins at the page or before it has the page, or no run has it.
-    module _ (f : FileId) (p : PageNo) (k : RunKey) (r : Run) (h : run_at es k ≡ Some r) (file : file_of k ≡ f) (up : k.page ≤ p.0) (last : (j : RunKey) → file_of j ≡ f → j.page ≤ p.0 → IsSome (run_at es j) → j.page ≤ k.page) where
+    module _ (f : FileId) (p : PageNo) (k : RunKey) (r : Run) (h : run_at es k ≡ Some r) (file : file_of k ≡ f) (up : k.1.0 ≤ p.0) (last : (j : RunKey) → file_of j ≡ f → j.1.0 ≤ p.0 → IsSome (run_at es j) → j.1.0 ≤ k.1.0) where
       some_at : (j : RunKey) (q : Run) → run_at es j ≡ Some q → IsSome (run_at es j)
       some_at j q g = ap is_some g
 
-      pub behind_free : k.page + r.length ≤ p.0 → (j : RunKey) (q : Run) → run_at es j ≡ Some q → has_page f p (j, q) ≡ false
+      pub behind_free : k.1.0 + r.length ≤ p.0 → (j : RunKey) (q : Run) → run_at es j ≡ Some q → has_page f p (j, q) ≡ false
       behind_free l j q g =
           ⊎_elim
           (λ t.
           let m = page_in f p (j, q) t in
           let some = kept.some k r h in
-          let near : j.page ≤ k.page = last j m.0 m.1.0 (some_at j q g) in
+          let near : j.1.0 ≤ k.1.0 = last j m.0 m.1.0 (some_at j q g) in
           let z : j ≡ k = kept.once j k q r g h (share (j, q) (k, r) (m.0 ∙ sym file) (omega (arith, near, some)) (omega (arith, up, m.1.1))) in
           let w : q ≡ r = one_run j k q r g h z in
-          let a : j.page ≡ k.page = ap (λ (y : RunKey). y.page) z in
+          let a : j.1.0 ≡ k.1.0 = ap (λ (y : RunKey). y.1.0) z in
           let b : q.length ≡ r.length = ap (λ (y : Run). y.length) w in
           absurd (omega (arith, m.1.1, l, a, b)))
           (λ t. t)
           (cases_Bool (has_page f p (j, q)))
 
       -- a mapped page is in that run
-      pub holds : is_some (find (is_extent_of f p) (rows_of n es)) ≡ true → p.0 < k.page + r.length
+      pub holds : is_some (find (is_extent_of f p) (rows_of n es)) ≡ true → p.0 < k.1.0 + r.length
       holds t =
-          ⊎_elim (λ l. l) (λ l. absurd (true≢false (sym t ∙ ap is_some (page_free f p (behind_free l))))) (cases_lt p.0 (k.page + r.length))
+          ⊎_elim (λ l. l) (λ l. absurd (true≢false (sym t ∙ ap is_some (page_free f p (behind_free l))))) (cases_lt p.0 (k.1.0 + r.length))
 
     -- no run begins at the page or before it
-    pub before_free : (f : FileId) (p : PageNo) → ((j : RunKey) → file_of j ≡ f → j.page ≤ p.0 → IsSome (run_at es j) → ⊥) → (j : RunKey) (q : Run) → run_at es j ≡ Some q → has_page f p (j, q) ≡ false
+    pub before_free : (f : FileId) (p : PageNo) → ((j : RunKey) → file_of j ≡ f → j.1.0 ≤ p.0 → IsSome (run_at es j) → ⊥) → (j : RunKey) (q : Run) → run_at es j ≡ Some q → has_page f p (j, q) ≡ false
     before_free f p last j q g =
         ⊎_elim (λ t. let m = page_in f p (j, q) t in absurd (last j m.0 m.1.0 (ap is_some g))) (λ t. t) (cases_Bool (has_page f p (j, q)))
 
     -- no page of the file is mapped from a page on, where no run goes so far
-    pub none_behind : (f : FileId) (p : PageNo) → ((j : RunKey) (q : Run) → run_at es j ≡ Some q → file_of j ≡ f → j.page + q.length ≤ p.0) → list_any (is_at_or_behind f p) (rows_of n es) ≡ false
+    pub none_behind : (f : FileId) (p : PageNo) → ((j : RunKey) (q : Run) → run_at es j ≡ Some q → file_of j ≡ f → j.1.0 + q.length ≤ p.0) → list_any (is_at_or_behind f p) (rows_of n es) ≡ false
     none_behind f p short = ⊎_elim
         (λ t.
         let m = passing (is_at_or_behind f p) (n + 1) (extent_under es) t in
@@ -202,7 +201,7 @@ module _ (es : List (RunKey × Run)) (sorted : IsStrictlySortedBy run_order (key
         let e = s.1.1.1.1 in
         let in_r = birth_in m.0 (s.0, s.1.0) s.1.1.1.0 in
         let g = and_parts (same_file m.1.0.file f) (nat_le p.0 m.1.0.page.0) m.1.1.1.1 in
-        let page : m.1.0.page.0 ≡ s.0.page + (m.0 - s.1.0.birth) = ap (λ (y : Extent). y.page.0) e in
+        let page : m.1.0.page.0 ≡ s.0.1.0 + (m.0 - s.1.0.birth) = ap (λ (y : Extent). y.page.0) e in
         let file : file_of s.0 ≡ f = sym (ap (λ (y : Extent). y.file) e) ∙ file_is m.1.0.file f g.0 in
         let up = leb-true p.0 m.1.0.page.0 g.1 in
         let l = short s.0 s.1.0 s.1.1.0 file in
@@ -211,27 +210,27 @@ module _ (es : List (RunKey × Run)) (sorted : IsStrictlySortedBy run_order (key
         (cases_Bool (list_any (is_at_or_behind f p) (rows_of n es)))
 
     -- the last run of a file ends last
-    pub ends_last : (f : FileId) (p : ℕ) (k : RunKey) (r : Run) → run_at es k ≡ Some r → file_of k ≡ f → ((j : RunKey) → file_of j ≡ f → j.page ≤ 4294967295 → IsSome (run_at es j) → j.page ≤ k.page) → k.page + r.length ≤ p → (j : RunKey) (q : Run) → run_at es j ≡ Some q → file_of j ≡ f → j.page + q.length ≤ p
+    pub ends_last : (f : FileId) (p : ℕ) (k : RunKey) (r : Run) → run_at es k ≡ Some r → file_of k ≡ f → ((j : RunKey) → file_of j ≡ f → j.1.0 ≤ 4294967295 → IsSome (run_at es j) → j.1.0 ≤ k.1.0) → k.1.0 + r.length ≤ p → (j : RunKey) (q : Run) → run_at es j ≡ Some q → file_of j ≡ f → j.1.0 + q.length ≤ p
     ends_last f p k r h file last l j q g e =
         let a = (kept.fits j q g).0 in
-        let near : j.page ≤ k.page = last j e (omega (arith, a)) (ap is_some g) in
+        let near : j.1.0 ≤ k.1.0 = last j e (omega (arith, a)) (ap is_some g) in
         let some = kept.some k r h in
         ⊎_elim
         (λ m.
         let z : j ≡ k = kept.once j k q r g h (share (j, q) (k, r) (e ∙ sym file) (omega (arith, near, some)) m) in
         let w : q ≡ r = one_run j k q r g h z in
-        let x : j.page ≡ k.page = ap (λ (y : RunKey). y.page) z in
+        let x : j.1.0 ≡ k.1.0 = ap (λ (y : RunKey). y.1.0) z in
         let y : q.length ≡ r.length = ap (λ (y : Run). y.length) w in
         omega (arith, x, y, l))
         (λ m. omega (arith, m, l))
-        (cases_lt k.page (j.page + q.length))
+        (cases_lt k.1.0 (j.1.0 + q.length))
 
     -- no run of the file: none ends behind the page
-    pub ends_never : (f : FileId) (p : ℕ) → ((j : RunKey) → file_of j ≡ f → j.page ≤ 4294967295 → IsSome (run_at es j) → ⊥) → (j : RunKey) (q : Run) → run_at es j ≡ Some q → file_of j ≡ f → j.page + q.length ≤ p
+    pub ends_never : (f : FileId) (p : ℕ) → ((j : RunKey) → file_of j ≡ f → j.1.0 ≤ 4294967295 → IsSome (run_at es j) → ⊥) → (j : RunKey) (q : Run) → run_at es j ≡ Some q → file_of j ≡ f → j.1.0 + q.length ≤ p
     ends_never f p last j q g e = let a = (kept.fits j q g).0 in absurd (last j e (omega (arith, a)) (ap is_some g))
 
     -- the last page of a run
-    pub last_told : (f : FileId) (k : RunKey) (r : Run) → run_at es k ≡ Some r → file_of k ≡ f → find (is_extent_of f (page_no (k.page + (r.length - 1)))) (rows_of n es) ≡ Some (extent_in (r.length - 1) (k, r))
+    pub last_told : (f : FileId) (k : RunKey) (r : Run) → run_at es k ≡ Some r → file_of k ≡ f → find (is_extent_of f (page_no (k.1.0 + (r.length - 1)))) (rows_of n es) ≡ Some (extent_in (r.length - 1) (k, r))
     last_told f k r h file =
         let s = kept.some k r h in
-        (λ i. find (is_extent_of (sym file i) (page_no (k.page + (r.length - 1)))) (rows_of n es)) ∙ told k r (r.length - 1) h (omega (arith, s))
+        (λ i. find (is_extent_of (sym file i) (page_no (k.1.0 + (r.length - 1)))) (rows_of n es)) ∙ told k r (r.length - 1) h (omega (arith, s))

@@ -12,9 +12,8 @@ use Rattle.st_rules.specs.declared.extents.Extent.{Extent}
 use Rattle.st_rules.specs.Keys.{page_no}
 use Rattle.st_rules.specs.Extents.{is_extent_of}
 use Rattle.st_tables.specs.Tables.{listed}
-use Rattle.st_extents.specs.declared.run_map.RunKey.{RunKey}
 use Rattle.st_extents.specs.declared.run_map.Run.{Run}
-use Rattle.st_extents.specs.Runs.{AreKept, IsRunTable, extent_in, extent_under, file_of, goes_on, grown, grown_by, longer, one_page, rows_of, run_at, run_order, same_start, shorter}
+use Rattle.st_extents.specs.Runs.{RunKey, AreKept, IsRunTable, extent_in, extent_under, file_of, goes_on, grown, grown_by, longer, one_page, rows_of, run_at, run_order, same_start, shorter}
 use Rattle.st_extents.proofs.RunOrder.{goes, in_page, share}
 use Rattle.st_extents.proofs.RunsFound.{before_free, free_page, holds, page_free, page_told}
 use Rattle.st_extents.proofs.RunsChanged.{kept_back, kept_longer, kept_new, kept_shorter, popped, popped_length, pushed_longer, pushed_new, taken_back, under_last}
@@ -75,34 +74,34 @@ module _ (es : List (RunKey × Run)) (sorted : IsStrictlySortedBy run_order (key
         (kept_longer es sorted n T f p at low small fresh x.0 x.1 h (goes x new t) fs after c, pushed_longer es sorted n T f p at low small fresh x.0 x.1 h (goes x new t) fs after c)
 
     -- no run goes on at the page but perhaps the last one before it
-    alone_by : (x : RunKey × Run) → run_at es x.0 ≡ Some x.1 → file_of x.0 ≡ f → x.0.page ≤ p.0 → ((k : RunKey) → file_of k ≡ f → k.page ≤ p.0 → IsSome (run_at es k) → k.page ≤ x.0.page) → goes_on x new ≡ false → (j : RunKey) (q : Run) → run_at es j ≡ Some q → goes_on (j, q) new ≡ false
+    alone_by : (x : RunKey × Run) → run_at es x.0 ≡ Some x.1 → file_of x.0 ≡ f → x.0.1.0 ≤ p.0 → ((k : RunKey) → file_of k ≡ f → k.1.0 ≤ p.0 → IsSome (run_at es k) → k.1.0 ≤ x.0.1.0) → goes_on x new ≡ false → (j : RunKey) (q : Run) → run_at es j ≡ Some q → goes_on (j, q) new ≡ false
     alone_by x h file up last apart j q g = ⊎_elim
         (λ t.
         let z = goes (j, q) new t in
-        let e : j.page + q.length ≡ p.0 = z.page in
-        let near : j.page ≤ x.0.page = last j z.file (omega (arith, e)) (ap is_some g) in
+        let e : j.1.0 + q.length ≡ p.0 = z.page in
+        let near : j.1.0 ≤ x.0.1.0 = last j z.file (omega (arith, e)) (ap is_some g) in
         let s = T.some x.0 x.1 h in
         let a = T.some j q g in
-        let free : p.0 < x.0.page + x.1.length → ⊥ = λ m. true≢false (sym (in_page f p x file up m) ∙ free_page es sorted n T f p fresh x.0 x.1 h) in
+        let free : p.0 < x.0.1.0 + x.1.length → ⊥ = λ m. true≢false (sym (in_page f p x file up m) ∙ free_page es sorted n T f p fresh x.0 x.1 h) in
         ⊎_elim (λ m. absurd (free m))
         (λ m.
         let y : j ≡ x.0 = T.once j x.0 q x.1 g h (share (j, q) x (z.file ∙ sym file) (omega (arith, near, s)) (omega (arith, e, m, s))) in
         let u : Some q ≡ Some x.1 = sym g ∙ ap (run_at es) y ∙ h in
         let v : q ≡ x.1 = cc in
         absurd (true≢false (sym t ∙ (λ i. goes_on (y i, v i) new) ∙ apart)))
-        (cases_lt p.0 (x.0.page + x.1.length)))
+        (cases_lt p.0 (x.0.1.0 + x.1.length)))
         (λ t. t)
         (cases_Bool (goes_on (j, q) new))
 
-    by_grown : (x : RunKey × Run) → run_at es x.0 ≡ Some x.1 → file_of x.0 ≡ f → x.0.page ≤ p.0 → ((k : RunKey) → file_of k ≡ f → k.page ≤ p.0 → IsSome (run_at es k) → k.page ≤ x.0.page) → (w : RunKey × Run) → w ≡ grown_by x new → ((q : RunKey) → run_at fs q ≡ cond (same_start w.0 q) (Some w.1) (run_at es q)) → IsPushed fs
+    by_grown : (x : RunKey × Run) → run_at es x.0 ≡ Some x.1 → file_of x.0 ≡ f → x.0.1.0 ≤ p.0 → ((k : RunKey) → file_of k ≡ f → k.1.0 ≤ p.0 → IsSome (run_at es k) → k.1.0 ≤ x.0.1.0) → (w : RunKey × Run) → w ≡ grown_by x new → ((q : RunKey) → run_at fs q ≡ cond (same_start w.0 q) (Some w.1) (run_at es q)) → IsPushed fs
     by_grown x h file up last w e change = ⊎_elim
         (λ t. by_longer x h t w (e ∙ cond-true (goes_on x new) (x.0, longer x.1) new t) change)
         (λ t. by_new (alone_by x h file up last t) w (e ∙ cond-false (goes_on x new) (x.0, longer x.1) new t) change)
         (cases_Bool (goes_on x new))
 
-    pub pushed_by : (o : Option (RunKey × Run)) → IfSome o (λ e. (run_at es e.0 ≡ Some e.1) × (file_of e.0 ≡ f) × (e.0.page ≤ p.0)) → ((k : RunKey) → file_of k ≡ f → k.page ≤ p.0 → IsSome (run_at es k) → IsSomeAnd o (λ e. k.page ≤ e.0.page)) → (w : RunKey × Run) → w ≡ grown o new → ((q : RunKey) → run_at fs q ≡ cond (same_start w.0 q) (Some w.1) (run_at es q)) → IsPushed fs
+    pub pushed_by : (o : Option (RunKey × Run)) → IfSome o (λ e. (run_at es e.0 ≡ Some e.1) × (file_of e.0 ≡ f) × (e.0.1.0 ≤ p.0)) → ((k : RunKey) → file_of k ≡ f → k.1.0 ≤ p.0 → IsSome (run_at es k) → IsSomeAnd o (λ e. k.1.0 ≤ e.0.1.0)) → (w : RunKey × Run) → w ≡ grown o new → ((q : RunKey) → run_at fs q ≡ cond (same_start w.0 q) (Some w.1) (run_at es q)) → IsPushed fs
     pushed_by None found last w e change =
-        by_new (λ j q g. ⊎_elim (λ t. let z = goes (j, q) new t in let a : j.page + q.length ≡ p.0 = z.page in absurd (last j z.file (omega (arith, a)) (ap is_some g))) (λ t. t) (cases_Bool (goes_on (j, q) new))) w e change
+        by_new (λ j q g. ⊎_elim (λ t. let z = goes (j, q) new t in let a : j.1.0 + q.length ≡ p.0 = z.page in absurd (last j z.file (omega (arith, a)) (ap is_some g))) (λ t. t) (cases_Bool (goes_on (j, q) new))) w e change
     pushed_by (Some x) found last w e change = by_grown x found.0 found.1 found.2 last w e change
 
 -- The page that was mapped last is taken back.
@@ -115,26 +114,26 @@ module _ (es : List (RunKey × Run)) (sorted : IsStrictlySortedBy run_order (key
   mapped = some_by (find (is_extent_of f p) (rows_of n es)) newest
 
   -- a run begins at the page or before it
-  pub never_none : ((j : RunKey) → file_of j ≡ f → j.page ≤ p.0 → IsSome (run_at es j) → ⊥) → ⊥
+  pub never_none : ((j : RunKey) → file_of j ≡ f → j.1.0 ≤ p.0 → IsSome (run_at es j) → ⊥) → ⊥
   never_none last = true≢false (sym mapped ∙ ap is_some (page_free es sorted n T f p (before_free es sorted n T f p last)))
 
-  module _ (k : RunKey) (r : Run) (h : run_at es k ≡ Some r) (file : file_of k ≡ f) (up : k.page ≤ p.0) (last : (j : RunKey) → file_of j ≡ f → j.page ≤ p.0 → IsSome (run_at es j) → j.page ≤ k.page) where
-    inside : p.0 < k.page + r.length
+  module _ (k : RunKey) (r : Run) (h : run_at es k ≡ Some r) (file : file_of k ≡ f) (up : k.1.0 ≤ p.0) (last : (j : RunKey) → file_of j ≡ f → j.1.0 ≤ p.0 → IsSome (run_at es j) → j.1.0 ≤ k.1.0) where
+    inside : p.0 < k.1.0 + r.length
     inside = holds es sorted n T f p k r h file up last mapped
 
-    told_here : find (is_extent_of f p) (rows_of n es) ≡ Some (extent_in (p.0 - k.page) (k, r))
+    told_here : find (is_extent_of f p) (rows_of n es) ≡ Some (extent_in (p.0 - k.1.0) (k, r))
     told_here = page_told es sorted n T f p k r h (in_page f p (k, r) file up inside)
 
-    born_last : r.birth + (p.0 - k.page) ≡ n
+    born_last : r.birth + (p.0 - k.1.0) ≡ n
     born_last = subst (λ o. IsSomeAnd o (λ e. e.birth ≡ n)) told_here newest
 
     pub ends : r.birth + r.length ≡ n + 1
     ends = let a = inside in let b = born_last in let c = (T.given k r h).1 in omega (arith, a, b, c, up)
 
-    pub at_end : p.0 - k.page ≡ r.length - 1
+    pub at_end : p.0 - k.1.0 ≡ r.length - 1
     at_end = let a = inside in let b = born_last in let c = ends in omega (arith, a, b, c, up)
 
-    pub page_last : p.0 ≡ k.page + (r.length - 1)
+    pub page_last : p.0 ≡ k.1.0 + (r.length - 1)
     page_last = let a = at_end in let b = inside in omega (arith, a, b, up)
 
     pub told_last : find (is_extent_of f p) (rows_of n es) ≡ Some (extent_in (r.length - 1) (k, r))
@@ -170,7 +169,7 @@ module _ (es : List (RunKey × Run)) (sorted : IsStrictlySortedBy run_order (key
 -- The calls on a table.
 
 pub push_table : (es fs : List (RunKey × Run)) (n count : ℕ) (t : IsRunTable n count es) (f : FileId) (p : PageNo) (at : BlockAt) → n < 9223372036854775807 → p.0 < 1048576 → at.block < 4294967296 → is_some (find (is_extent_of f p) (rows_of n es)) ≡ false → IsStrictlySortedBy run_order (keys_of fs)
-    → (o : Option (RunKey × Run)) → IfSome o (λ e. (run_at es e.0 ≡ Some e.1) × (file_of e.0 ≡ f) × (e.0.page ≤ p.0)) → ((k : RunKey) → file_of k ≡ f → k.page ≤ p.0 → IsSome (run_at es k) → IsSomeAnd o (λ e. k.page ≤ e.0.page))
+    → (o : Option (RunKey × Run)) → IfSome o (λ e. (run_at es e.0 ≡ Some e.1) × (file_of e.0 ≡ f) × (e.0.1.0 ≤ p.0)) → ((k : RunKey) → file_of k ≡ f → k.1.0 ≤ p.0 → IsSome (run_at es k) → IsSomeAnd o (λ e. k.1.0 ≤ e.0.1.0))
     → (w : RunKey × Run) → w ≡ grown o (one_page f p at (n + 1)) → ((q : RunKey) → run_at fs q ≡ cond (same_start w.0 q) (Some w.1) (run_at es q))
     → IsRunTable (n + 1) (count + 1) fs × (rows_of (n + 1) fs ≡ rows_of n es ++ record { file = f; page = p; at = at; birth = n + 1 } ∷ [])
 push_table es fs n count t f p at few low small fresh after o found last w is change =
@@ -205,7 +204,7 @@ pub record IsBack (es fs : List (RunKey × Run)) (n count : ℕ) (f : FileId) (p
   pub kept : rows_of (n - 1) fs ≡ filter (λ x. not (is_extent_of f p x)) (rows_of n es)
   pub told : find (is_extent_of f p) (rows_of n es) ≡ Some (extent_in (r.length - 1) (k, r))
 
-pub back_table : (es fs : List (RunKey × Run)) (n count : ℕ) (t : IsRunTable n count es) (f : FileId) (p : PageNo) → IsSomeAnd (find (is_extent_of f p) (rows_of n es)) (λ e. e.birth ≡ n) → (k : RunKey) (r : Run) → run_at es k ≡ Some r → file_of k ≡ f → k.page ≤ p.0 → ((j : RunKey) → file_of j ≡ f → j.page ≤ p.0 → IsSome (run_at es j) → j.page ≤ k.page)
+pub back_table : (es fs : List (RunKey × Run)) (n count : ℕ) (t : IsRunTable n count es) (f : FileId) (p : PageNo) → IsSomeAnd (find (is_extent_of f p) (rows_of n es)) (λ e. e.birth ≡ n) → (k : RunKey) (r : Run) → run_at es k ≡ Some r → file_of k ≡ f → k.1.0 ≤ p.0 → ((j : RunKey) → file_of j ≡ f → j.1.0 ≤ p.0 → IsSome (run_at es j) → j.1.0 ≤ k.1.0)
     → IsStrictlySortedBy run_order (keys_of fs) → ((q : RunKey) → run_at fs q ≡ cond (same_start k q) (shorter r) (run_at es q)) → IsBack es fs n count f p k r
 back_table es fs n count t f p newest k r h file up last after change =
     let g = t.kept.given k r h in

@@ -8,8 +8,7 @@ use Rattle.st_base.specs.declared.ids.PageNo.{PageNo}
 use Rattle.st_rules.specs.Extents.{lies_at}
 use Rattle.st_rules.specs.Keys.{same_block}
 use Rattle.st_extents.specs.Ownership.{of_one_page, on_one_block}
-use Rattle.st_extents.specs.Runs.{mapped_to}
-use Rattle.st_extents.specs.declared.run_map.RunKey.{RunKey}
+use Rattle.st_extents.specs.Runs.{RunKey, mapped_to}
 use Rattle.st_extents.specs.declared.run_map.Run.{Run}
 
 -- a block's number among the blocks of all disks, where a disk has at most 2^32 blocks

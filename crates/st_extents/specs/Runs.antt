@@ -13,12 +13,15 @@ use Rattle.st_rules.specs.declared.extents.Extent.{Extent}
 use Rattle.st_rules.specs.Keys.{page_no, same_file}
 use Rattle.st_rules.specs.Extents.{is_extent_of}
 use Rattle.st_tables.specs.Tables.{listed}
-use Rattle.st_extents.specs.declared.run_map.RunKey.{RunKey}
 use Rattle.st_extents.specs.declared.run_map.Run.{Run}
 
--- keys in order: by the server, then by the inode, then by the first page
+-- where a run begins: its file and its first page
+abbrev pub RunKey : Type 0
+RunKey = FileId × PageNo
+
+-- keys in order: by the file's server, then by its inode, then by the first page
 abbrev pub run_order : RunKey → RunKey → Ordering
-run_order a b = ordering_then (nat_cmp a.server b.server) (ordering_then (nat_cmp a.ino b.ino) (nat_cmp a.page b.page))
+run_order a b = ordering_then (ordering_then (nat_cmp a.0.server.0 b.0.server.0) (nat_cmp a.0.ino b.0.ino)) (nat_cmp a.1.0 b.1.0)
 
 -- one key
 abbrev pub same_start : RunKey → RunKey → Bool
@@ -30,11 +33,11 @@ run_at es k = lookup (same_start k) es
 
 -- where a run of this file that begins at this page stands
 abbrev pub key_of : FileId → PageNo → RunKey
-key_of f p = record { server = f.server.0; ino = f.ino; page = p.0 }
+key_of f p = (f, p)
 
 -- the file of a run
 abbrev pub file_of : RunKey → FileId
-file_of k = record { server = record { 0 = k.server }; ino = k.ino }
+file_of k = k.0
 
 -- a page that is mapped to a block under a birth
 abbrev pub mapped_to : FileId → PageNo → BlockAt → ℕ → Extent
@@ -46,11 +49,11 @@ block_on at i = record { disk = at.disk; block = at.block + i }
 
 -- the extent of the page this many places after the run's first one
 abbrev pub extent_in : ℕ → RunKey × Run → Extent
-extent_in i e = mapped_to (file_of e.0) (page_no (e.0.page + i)) (block_on e.1.at i) (e.1.birth + i)
+extent_in i e = mapped_to (file_of e.0) (page_no (e.0.1.0 + i)) (block_on e.1.at i) (e.1.birth + i)
 
 -- the page is in the run
 abbrev pub has_page : FileId → PageNo → RunKey × Run → Bool
-has_page f p e = same_file (file_of e.0) f && (nat_le e.0.page p.0 && nat_lt p.0 (e.0.page + e.1.length))
+has_page f p e = same_file (file_of e.0) f && (nat_le e.0.1.0 p.0 && nat_lt p.0 (e.0.1.0 + e.1.length))
 
 -- the birth is in the run
 abbrev pub has_birth : ℕ → RunKey × Run → Bool
@@ -58,11 +61,11 @@ has_birth b e = nat_le e.1.birth b && nat_lt b (e.1.birth + e.1.length)
 
 -- the page behind a run's last one
 abbrev pub end_of : RunKey × Run → ℕ
-end_of e = e.0.page + e.1.length
+end_of e = e.0.1.0 + e.1.length
 
 -- two runs have a page in common
 abbrev pub share_page : RunKey × Run → RunKey × Run → Bool
-share_page a b = same_file (file_of a.0) (file_of b.0) && (nat_lt a.0.page (end_of b) && nat_lt b.0.page (end_of a))
+share_page a b = same_file (file_of a.0) (file_of b.0) && (nat_lt a.0.1.0 (end_of b) && nat_lt b.0.1.0 (end_of a))
 
 -- the block this many places further is the other one
 abbrev pub reaches : BlockAt → ℕ → BlockAt → Bool
@@ -70,13 +73,13 @@ reaches a n b = (a.disk.0 == b.disk.0) && (a.block + n == b.block)
 
 -- the second run goes on where the first one ends: in pages, in blocks and in births
 abbrev pub goes_on : RunKey × Run → RunKey × Run → Bool
-goes_on a b = same_file (file_of a.0) (file_of b.0) && ((end_of a == b.0.page) && (reaches a.1.at a.1.length b.1.at && (a.1.birth + a.1.length == b.1.birth)))
+goes_on a b = same_file (file_of a.0) (file_of b.0) && ((end_of a == b.0.1.0) && (reaches a.1.at a.1.length b.1.at && (a.1.birth + a.1.length == b.1.birth)))
 
 -- Runs, by where they begin, are those of the mapped pages: each page of a run is mapped to its block under its birth; each
 -- mapped page is in a run; a run has a page; no page is in two runs; and no run goes on where another one ends.
 pub record AreRunsOf (rows : List Extent) (at : RunKey → Option Run) : Type 0 where
   pub told : (k : RunKey) (r : Run) (i : ℕ) → at k ≡ Some r → i < r.length
-      → find (is_extent_of (file_of k) (page_no (k.page + i))) rows ≡ Some (extent_in i (k, r))
+      → find (is_extent_of (file_of k) (page_no (k.1.0 + i))) rows ≡ Some (extent_in i (k, r))
   pub all : (f : FileId) (p : PageNo) → is_some (find (is_extent_of f p) rows) ≡ true
       → (k : RunKey) × ((r : Run) × ((at k ≡ Some r) × (has_page f p (k, r) ≡ true)))
   pub some : (k : RunKey) (r : Run) → at k ≡ Some r → 1 ≤ r.length
@@ -95,7 +98,7 @@ rows_of births es = listed (births + 1) (extent_under es)
 pub record AreKept (births : ℕ) (at : RunKey → Option Run) : Type 0 where
   pub some : (k : RunKey) (r : Run) → at k ≡ Some r → 1 ≤ r.length
   pub given : (k : RunKey) (r : Run) → at k ≡ Some r → (1 ≤ r.birth) × (r.birth + r.length ≤ births + 1)
-  pub fits : (k : RunKey) (r : Run) → at k ≡ Some r → (k.page + r.length ≤ 1048576) × (r.at.block + r.length ≤ 4294967296)
+  pub fits : (k : RunKey) (r : Run) → at k ≡ Some r → (k.1.0 + r.length ≤ 1048576) × (r.at.block + r.length ≤ 4294967296)
   pub born : (j k : RunKey) (q r : Run) (b : ℕ) → at j ≡ Some q → at k ≡ Some r
       → has_birth b (j, q) ≡ true → has_birth b (k, r) ≡ true → j ≡ k
   pub once : (j k : RunKey) (q r : Run) → at j ≡ Some q → at k ≡ Some r → share_page (j, q) (k, r) ≡ true → j ≡ k
@@ -137,7 +140,7 @@ grown (Some e) new = grown_by e new
 
 -- the run begins at this page of the file or before it
 abbrev pub IsRunUpTo : List (RunKey × Run) → FileId → PageNo → RunKey × Run → Type 0
-IsRunUpTo es f p e = (run_at es e.0 ≡ Some e.1) × (file_of e.0 ≡ f) × (e.0.page ≤ p.0)
+IsRunUpTo es f p e = (run_at es e.0 ≡ Some e.1) × (file_of e.0 ≡ f) × (e.0.1.0 ≤ p.0)
 
 -- the extent stood last and is gone, and this is its block
 abbrev pub Unmaps : List Extent → List Extent → BlockAt → Extent → Type 0
@@ -145,4 +148,4 @@ Unmaps old new at e = (old ≡ new ++ e ∷ []) × (at ≡ e.at)
 
 -- no run of the file that begins at the page or before it begins behind this one
 abbrev pub IsLastUpTo : List (RunKey × Run) → FileId → PageNo → Option (RunKey × Run) → Type 0
-IsLastUpTo es f p o = (k : RunKey) → file_of k ≡ f → k.page ≤ p.0 → IsSome (run_at es k) → IsSomeAnd o (λ e. k.page ≤ e.0.page)
+IsLastUpTo es f p o = (k : RunKey) → file_of k ≡ f → k.1.0 ≤ p.0 → IsSome (run_at es k) → IsSomeAnd o (λ e. k.1.0 ≤ e.0.1.0)

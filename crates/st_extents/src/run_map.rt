@@ -1,21 +1,14 @@
 // Runs by where they begin.
 ghost use Rattle.std.specs.Prelude.{◌≡◌, ◌≤◌, IfSome, IsSome, OnOk, OnErr, Some, None, cond};
 ghost use Rattle.std.specs.BTreeMap.{IsOrdered};
-ghost use Rattle.st_extents.specs.Runs.{IsLastUpTo, IsRunUpTo, run_at, run_order, same_start, shorter};
-ghost use Rattle.st_extents.specs.declared.run_map.RunKey.{RunKey};
+ghost use Rattle.st_extents.specs.Runs.{IsLastUpTo, IsRunUpTo, RunKey, run_at, run_order, same_start, shorter};
 
 use st_base::{BlockAt, FileId, PageNo};
 use std::alloc::AllocError;
 use std::collections::BTreeMap;
 
-/// Where a run begins: the numbers of its file's server and inode, and its first page. Keys are ordered by these numbers, in
-/// this order.
-#[derive(Clone, Copy, Debug, PartialEq, Eq, PartialOrd, Ord)]
-pub struct RunKey {
-    pub server: u16,
-    pub ino: u32,
-    pub page: u32,
-}
+/// Where a run begins: its file and its first page.
+pub type RunKey = (FileId, PageNo);
 
 /// Pages of one file one after another, on blocks of one disk one after another, under births one after another: how many
 /// there are, and the block and the birth of the first one.
@@ -34,18 +27,7 @@ pub fn last_up_to(map: &RunMap, file: FileId, page: PageNo) -> Option<(RunKey, R
     ensures found { IfSome result (IsRunUpTo map.now.entries file page) }
     ensures last { IsLastUpTo map.now.entries file page result }
 {
-    let (server, ino) = (file.server.0, file.ino);
-    let first = RunKey {
-        server,
-        ino,
-        page: 0,
-    };
-    let last = RunKey {
-        server,
-        ino,
-        page: page.0,
-    };
-    match map.range(first..=last).next_back() {
+    match map.range((file, PageNo(0))..=(file, page)).next_back() {
         Some((key, run)) => Some((*key, *run)),
         None => None,
     }

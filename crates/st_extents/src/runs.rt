@@ -6,7 +6,7 @@ ghost use Rattle.st_rules.specs.declared.extents.Extent.{Extent};
 ghost use Rattle.st_extents.specs.Runs as runs;
 
 use crate::run_map::{Run, RunKey, RunMap, last_up_to, put, shorten};
-use st_base::{BlockAt, DiskId, FileId, PageNo, ServerId};
+use st_base::{BlockAt, FileId, PageNo};
 use st_rules::Extent;
 use std::alloc::{AllocError, Global};
 use std::collections::BTreeMap;
@@ -14,17 +14,14 @@ use std::marker::Model;
 
 /// The extent of the page this many places after a run's first one.
 fn extent_in(key: RunKey, run: Run, place: u32) -> Extent
-    requires page { key.page + place < 2 ^ 32 }
+    requires page { key.1.0 + place < 2 ^ 32 }
     requires block { run.at.block + place < 2 ^ 32 }
     requires birth { run.birth + place < 2 ^ 64 }
     ensures { result ≡ runs.extent_in place (key, run) }
 {
     Extent {
-        file: FileId {
-            server: ServerId(key.server),
-            ino: key.ino,
-        },
-        page: PageNo(key.page + place),
+        file: key.0,
+        page: PageNo(key.1.0 + place),
         at: BlockAt {
             disk: run.at.disk,
             block: run.at.block + place,
@@ -36,11 +33,11 @@ fn extent_in(key: RunKey, run: Run, place: u32) -> Extent
 /// The run with one page more, where the page goes on where it ends, else a run of that page.
 fn grown_by(key: RunKey, run: Run, new_key: RunKey, new: Run) -> (RunKey, Run)
     requires file { runs.file_of key ≡ runs.file_of new_key }
-    requires page { key.page + run.length < 2 ^ 32 - 1 }
+    requires page { key.1.0 + run.length < 2 ^ 32 - 1 }
     requires birth { run.birth + run.length < 2 ^ 64 }
     ensures { result ≡ runs.grown_by (key, run) (new_key, new) }
 {
-    if key.page + run.length == new_key.page
+    if key.1.0 + run.length == new_key.1.0
         && run.at.disk.0 == new.at.disk.0
         && run.at.block <= new.at.block
         && new.at.block - run.at.block == run.length
@@ -62,7 +59,7 @@ fn grown_by(key: RunKey, run: Run, new_key: RunKey, new: Run) -> (RunKey, Run)
 /// The same, where there may be no run before the page.
 fn grown(before: Option<(RunKey, Run)>, new_key: RunKey, new: Run) -> (RunKey, Run)
     requires file { IfSome before (λ e. runs.file_of e.0 ≡ runs.file_of new_key) }
-    requires page { IfSome before (λ e. e.0.page + e.1.length < 2 ^ 32 - 1) }
+    requires page { IfSome before (λ e. e.0.1.0 + e.1.length < 2 ^ 32 - 1) }
     requires birth { IfSome before (λ e. e.1.birth + e.1.length < 2 ^ 64) }
     ensures { result ≡ runs.grown before (new_key, new) }
 {
@@ -111,8 +108,8 @@ impl Runs {
         let Some((key, run)) = last_up_to(&self.map, file, page) else {
             return None;
         };
-        if page.0 - key.page < run.length {
-            Some(extent_in(key, run, page.0 - key.page))
+        if page.0 - key.1.0 < run.length {
+            Some(extent_in(key, run, page.0 - key.1.0))
         } else {
             None
         }
@@ -148,18 +145,13 @@ impl Runs {
         ensures births { OnOk result (self.new.births ≡ self.old.births + 1) }
         ensures err { OnErr result (self.new ≡ self.old) }
     {
-        let new_key = RunKey {
-            server: file.server.0,
-            ino: file.ino,
-            page: page.0,
-        };
         let new = Run {
             length: 1,
             at,
             birth: self.births + 1,
         };
         let before = last_up_to(&self.map, file, page);
-        let (key, run) = grown(before, new_key, new);
+        let (key, run) = grown(before, (file, page), new);
         put(&mut self.map, key, run)?;
         self.births += 1;
         self.count += 1;
@@ -180,7 +172,7 @@ impl Runs {
             return None;
         };
         let last = run.length - 1;
-        if key.page + last < page.0 {
+        if key.1.0 + last < page.0 {
             return None;
         }
         shorten(&mut self.map, key, run);

@@ -120,11 +120,7 @@ fn follows(before: Option<Row>, row: Row) -> bool {
 
 /// The run of one row.
 fn run_of(row: Row) -> (RunKey, Run) {
-    let key = RunKey {
-        server: 1,
-        ino: row.ino,
-        page: row.page,
-    };
+    let key = (file(row.ino), PageNo(row.page));
     let at = BlockAt {
         disk: DiskId((row.block / 6 % 8) as u16),
         block: row.block % 6,
@@ -167,6 +163,28 @@ fn same_runs(alloc: Global, extents: &Extents, rows: &[Row]) -> Result<bool, All
     Ok(rest.next().is_none())
 }
 
+/// Whether a block, by its number, lies on none of the runs.
+fn is_free(extents: &Extents, block: u32) -> bool {
+    !extents.runs().iter().any(|(_key, run)| {
+        let first = number(run.at);
+        first <= block && block < first.wrapping_add(run.length)
+    })
+}
+
+/// Whether the blocks on none of the runs are these, and are counted.
+fn same_free(extents: &Extents, blocks: &[u32]) -> bool {
+    let mut count = 0usize;
+    for block in 6..18u32 {
+        if is_free(extents, block) {
+            if blocks.get(count).copied() != Some(block) {
+                return false;
+            }
+            count = count.wrapping_add(1);
+        }
+    }
+    count == blocks.len() && extents.free() as usize == count
+}
+
 /// One call on both; whether the answers are the same.
 fn same(
     alloc: Global,
@@ -193,7 +211,7 @@ fn same(
     }
 }
 
-/// Whether both know the same of a page, and have the same counts and runs.
+/// Whether both know the same of a page, and have the same counts, free blocks and runs.
 fn agree(
     alloc: Global,
     extents: &Extents,
@@ -207,7 +225,7 @@ fn agree(
     let free = free_blocks(alloc, plain.rows.as_slice())?;
     Ok(
         told == mapped(plain.rows.as_slice(), ino, page)
-            && extents.free() as usize == free.len()
+            && same_free(extents, free.as_slice())
             && extents.mapped() as usize == plain.rows.len()
             && extents.next_birth() == plain.births.wrapping_add(1)
             && same_runs(alloc, extents, plain.rows.as_slice())?,

@@ -9,7 +9,7 @@ returns-in_default c =
     rw (← c.self.view_is)
     (sym (page_free c.self.inside.map.entries c.self.invariant.ordered c.self.inside.births c.self.invariant.kept c.args.file c.args.page
     (before_free c.self.inside.map.entries c.self.invariant.ordered c.self.inside.births c.self.invariant.kept c.args.file c.args.page
-    (λ j e l s. subst (λ o. IsSomeAnd o (λ e. j.page ≤ e.0.page)) c.in_default.is (c.last_up_to.ensures.last j e l s)))))
+    (λ j e l s. subst (λ o. IsSomeAnd o (λ e. j.1.0 ≤ e.0.1.0)) c.in_default.is (c.last_up_to.ensures.last j e l s)))))
 
 pub returns-then-page-key : goal.returns-then-page-key
 returns-then-page-key c =

@@ -16,7 +16,7 @@ returns-in_default-clause-none c =
     rw (← c.self.view_is)
     (none_behind c.self.inside.map.entries c.self.invariant.ordered c.self.inside.births c.self.invariant.kept c.args.file c.args.page
     (ends_never c.self.inside.map.entries c.self.invariant.ordered c.self.inside.births c.self.invariant.kept c.args.file c.args.page.0
-    (λ j e l s. subst (λ o. IsSomeAnd o (λ e. j.page ≤ e.0.page)) c.in_default.is (c.last_up_to.ensures.last j e l s))))
+    (λ j e l s. subst (λ o. IsSomeAnd o (λ e. j.1.0 ≤ e.0.1.0)) c.in_default.is (c.last_up_to.ensures.last j e l s))))
 
 pub returns-then-key-last-clause-none : goal.returns-then-key-last-clause-none
 returns-then-key-last-clause-none c =
@@ -43,7 +43,7 @@ returns-clause-rows c =
     rw (← c.self.view_is)
     (popped c.self.inside.map.entries c.self.invariant.ordered c.self.inside.births c.self.invariant.kept c.in-Some.key c.in-Some.run' c.in-Some.ensures.found.0
     c.shorten.new.map.entries c.shorten.ensures.ordered c.shorten.ensures.cut
-    ∙ ap (λ (f : FileId). filter (λ x. not (is_extent_of f (page_no (c.in-Some.key.page + (c.in-Some.run'.length - 1))) x)) (rows_of c.self.inside.births c.self.inside.map.entries)) c.in-Some.ensures.found.1
+    ∙ ap (λ (f : FileId). filter (λ x. not (is_extent_of f (page_no (c.in-Some.key.1.0 + (c.in-Some.run'.length - 1))) x)) (rows_of c.self.inside.births c.self.inside.map.entries)) c.in-Some.ensures.found.1
     ∙ ap (λ (e : Extent). filter (λ x. not (is_extent_of c.args.file e.page x)) (rows_of c.self.inside.births c.self.inside.map.entries)) (sym c.extent_in.ensures))
 
 pub returns-clause-fewer : goal.returns-clause-fewer

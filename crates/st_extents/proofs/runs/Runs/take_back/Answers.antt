@@ -10,7 +10,7 @@ use Rattle.st_extents.proofs.runs.Runs.take_back.Goals as goal
 pub unreachable-requires : goal.unreachable-requires
 unreachable-requires c =
     never_none c.self.inside.map.entries c.self.invariant.ordered c.self.inside.births c.self.invariant.kept c.args.file c.args.page (rw (← c.self.view_is) at c.requires)
-    (λ j e l s. subst (λ o. IsSomeAnd o (λ e. j.page ≤ e.0.page)) c.in_default.is (c.last_up_to.ensures.last j e l s))
+    (λ j e l s. subst (λ o. IsSomeAnd o (λ e. j.1.0 ≤ e.0.1.0)) c.in_default.is (c.last_up_to.ensures.last j e l s))
 
 pub invariant_of-self : goal.invariant_of-self
 invariant_of-self c =
