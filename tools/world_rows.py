@@ -116,7 +116,7 @@ FILES = {
 # the rows over which every promise is computed
 FIELDS = [
     "alone", "reads", "causes", "stays", "hard", "thefts", "dates", "waits", "conflicts",
-    "told", "logged", "once", "locked", "order", "emptied", "history", "losses", "held", "faults", "numbers", "cuts",
+    "told", "logged", "once", "locked", "order", "emptied", "history", "losses", "held", "faults", "numbers", "cuts", "given", "rising",
 ]
 SAFE = [
     ("schedules/theft", "theft_is_safe", "Every promise is kept in the row of the theft."),

@@ -34,7 +34,7 @@ use Rattle.st_laws_leases.specs.Sides.Law.{InEveryRun}
 use Rattle.st_laws_leases.specs.Sides.World.{AllStand}
 use Rattle.st_laws_leases.proofs.Sides.Runs.{throughout_events}
 use Rattle.st_laws_extents.proofs.CutRequests.Law.{Hold, first, followed, owed, same_all}
-use Rattle.st_laws_grants.specs.Grants.{GrantNumbersAreGivenOnce, GrantNumbersRise, agrees, gives_below, gives_rising, gives_once, grants_once, has_number, is_given_once, is_number_below, is_number_of, is_of_file, is_risen, rises}
+use Rattle.st_promises.specs.Grants.{GrantNumbersAreGivenOnce, GrantNumbersRise, agrees, gives_below, gives_rising, gives_once, grants_once, has_number, is_given_once, is_number_below, is_number_of, is_of_file, is_risen, rises}
 use Rattle.st_laws_grants.specs.Owners.{AllGiveOnce, GivesOnce, RiseFrom, Side, WasSent}
 use Rattle.st_laws_grants.proofs.Nets.{granted_owned}
 use Rattle.st_laws_grants.proofs.World.{goes_on}

@@ -5,7 +5,7 @@ use Rattle.st_base.specs.declared.mode.Mode.TheVariants as modes
 use Rattle.st_messages.specs.declared.message.Body.TheVariants as bodies
 use Rattle.st_messages.specs.declared.message.Message.{Message}
 use Rattle.st_rules.specs.Keys.{server_node}
-use Rattle.st_laws_grants.specs.Grants.{gives_once, gives_rising}
+use Rattle.st_promises.specs.Grants.{gives_once, gives_rising}
 
 -- the server of the examples
 abbrev pub one_server : ServerId

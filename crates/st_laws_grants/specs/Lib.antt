@@ -1,3 +1,2 @@
-pub mod Grants
 pub mod Examples
 pub mod Owners

@@ -2,7 +2,7 @@
 #![tactic(auto)]
 
 ghost use Rattle.st_laws_grants.specs.Examples.{WrongGrantsAreRefused};
-ghost use Rattle.st_laws_grants.specs.Grants.{GrantNumbersAreGivenOnce, GrantNumbersRise};
+ghost use Rattle.st_promises.specs.Grants.{GrantNumbersAreGivenOnce, GrantNumbersRise};
 ghost use Rattle.st_laws_leases.specs.Sides.Law.{InEveryRun};
 
 /// In every run grant numbers are given once: all grants that a server ever sent under one number are to one client, of one file.

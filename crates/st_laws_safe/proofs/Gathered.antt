@@ -8,6 +8,7 @@ use Rattle.st_laws_lines.proofs.Faults.{faults_law}
 use Rattle.st_laws_lines.proofs.Law.{counts_law}
 use Rattle.st_laws_reports.proofs.Losses.{losses_law}
 use Rattle.st_laws_cuts.proofs.Law as asked
+use Rattle.st_laws_grants.proofs.Law as grants
 
 pub every_run : EveryRunIsSafe
 every_run k clients servers disks blocks form es head events =
@@ -34,6 +35,8 @@ every_run k clients servers disks blocks form es head events =
       faults = faults_law k clients servers disks blocks form es head;
       counts = counts_law k clients servers disks blocks form es head;
       cuts = asked.law k clients servers disks blocks form es head events;
+      given = grants.law k clients servers disks blocks form es head events;
+      rising = grants.rising k clients servers disks blocks form es head events;
     }
 
 pub all_promised : IsAllPromised

@@ -33,6 +33,7 @@ use Rattle.st_rules.specs.World.{World, fresh_world}
 use Rattle.st_promises.specs.Counts.{TheCountsAreTrue, counts_open}
 use Rattle.st_promises.specs.CutAsks.{CutsAreAsked}
 use Rattle.st_promises.specs.Faults.{FaultsHaveACause}
+use Rattle.st_promises.specs.Grants.{GrantNumbersAreGivenOnce, GrantNumbersRise}
 use Rattle.st_promises.specs.Held.{DisksHoldWhatIsHard, held_open}
 use Rattle.st_promises.specs.Losses.{LossesAreTold, losses_open}
 
@@ -59,6 +60,8 @@ pub record IsSafe (xs : List Step) : Type 0 where
   pub faults : Throughout FaultsHaveACause [] xs
   pub counts : Throughout TheCountsAreTrue [] xs
   pub cuts : Throughout CutsAreAsked [] xs
+  pub given : Throughout GrantNumbersAreGivenOnce [] xs
+  pub rising : Throughout GrantNumbersRise [] xs
 
 -- a run from the world of a head
 abbrev pub IsSafeRun : World → List Event → Type 0

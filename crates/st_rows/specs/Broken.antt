@@ -54,6 +54,7 @@ use Rattle.st_rules.specs.Safety.{
 }
 use Rattle.st_promises.specs.CutAsks.{CutsAreAsked}
 use Rattle.st_promises.specs.Faults.{FaultsHaveACause}
+use Rattle.st_promises.specs.Grants.{GrantNumbersAreGivenOnce, GrantNumbersRise}
 use Rattle.st_promises.specs.Held.{DisksHoldWhatIsHard}
 use Rattle.st_promises.specs.Losses.{LossesAreTold}
 use Rattle.st_promises.specs.Numbers.{LinesGiveTheNextNumbers}
@@ -96,6 +97,8 @@ pub record IsKeptBut (ns : List ℕ) (past : List Step) (x : Step) : Type 0 wher
   pub faults : unless ns 19 (FaultsHaveACause past x)
   pub numbers : unless ns 20 (LinesGiveTheNextNumbers past x)
   pub cuts : unless ns 21 (CutsAreAsked past x)
+  pub given : unless ns 22 (GrantNumbersAreGivenOnce past x)
+  pub rising : unless ns 23 (GrantNumbersRise past x)
 
 -- A run in which a client writes a page, its lease is dated from a request that was sent at 400 and answered at 450, and an
 -- ask follows.
@@ -504,6 +507,25 @@ told_and_not_sent = seeing (sent 7 32769 1 1 1 1 400 bodies.Ack ∷ []) (still (
 unfoldable pub counted_and_not_told : Step
 counted_and_not_told = leaving one_theft (still (here reading))
 
+-- the server sends a grant: to which client, of which file, under which number
+abbrev pub granted : ℕ → ℕ → ℕ → Message
+granted to ino n = record { header = record { from = 32769; to = to; life = 1; epoch = 1; number = 1; stamp = 400 }; body = bodies.Granted ino (g n) modes.S }
+
+abbrev pub grants_once_more : ℕ → ℕ → ℕ → Step
+grants_once_more to ino n = seeing (sent 7 32769 to 1 1 1 400 (bodies.Granted ino (g n) modes.S) ∷ []) (leaving (with_message (granted to ino n)) (still (here reading)))
+
+unfoldable pub given_to_another_client : Step
+given_to_another_client = grants_once_more 2 2 4294967297
+
+unfoldable pub given_of_another_file : Step
+given_of_another_file = grants_once_more 1 3 4294967297
+
+unfoldable pub given_below : Step
+given_below = grants_once_more 2 2 4294967296
+
+unfoldable pub given_again : Step
+given_again = grants_once_more 1 2 4294967297
+
 unfoldable pub broken_open : ⊤
-unfolding safe_words_open prepared past here met past_met here_met lost_run past_lost here_lost past_cut stale_read beside_a_lock beside_a_held_lock dropped_without_a_crash dropped_by_another_command dropped_without_a_report hard_no_more hard_too_early stolen_early stolen_as_another_life dated_from_the_arrival replied_behind_a_timer grace_too_short grace_never_begun conflict_sent hard_and_pending hard_twice written_and_not_logged cut_and_not_logged written_under_another_number written_and_not_answered answered_twice written_without_a_lock written_under_a_lesser_grant cut_without_a_lock cut_and_not_asked cut_as_asked past_answered kept_after_the_end submitted_after_the_end read_after_the_end timer_unknown timer_without_a_suspect date_unknown grant_unknown loss_not_told loss_told_in_part told_and_not_lost hard_and_not_held fault_without_a_report full_without_operations told_and_not_sent counted_and_not_told
+unfolding safe_words_open prepared past here met past_met here_met lost_run past_lost here_lost past_cut stale_read beside_a_lock beside_a_held_lock dropped_without_a_crash dropped_by_another_command dropped_without_a_report hard_no_more hard_too_early stolen_early stolen_as_another_life dated_from_the_arrival replied_behind_a_timer grace_too_short grace_never_begun conflict_sent hard_and_pending hard_twice written_and_not_logged cut_and_not_logged written_under_another_number written_and_not_answered answered_twice written_without_a_lock written_under_a_lesser_grant cut_without_a_lock cut_and_not_asked cut_as_asked past_answered kept_after_the_end submitted_after_the_end read_after_the_end timer_unknown timer_without_a_suspect date_unknown grant_unknown loss_not_told loss_told_in_part told_and_not_lost hard_and_not_held fault_without_a_report full_without_operations told_and_not_sent counted_and_not_told given_to_another_client given_of_another_file given_below given_again
 broken_open = tt

@@ -26,6 +26,7 @@ use Rattle.st_rules.specs.Safety.{
 use Rattle.st_rules.specs.World.{World}
 use Rattle.st_promises.specs.CutAsks.{CutsAreAsked}
 use Rattle.st_promises.specs.Faults.{FaultsHaveACause}
+use Rattle.st_promises.specs.Grants.{GrantNumbersAreGivenOnce, GrantNumbersRise}
 use Rattle.st_promises.specs.Held.{DisksHoldWhatIsHard}
 use Rattle.st_promises.specs.Losses.{LossesAreTold}
 use Rattle.st_promises.specs.Numbers.{LinesGiveTheNextNumbers, numbers_open}
@@ -55,6 +56,8 @@ pub record AreKept (xs : List Step) : Type 0 where
   pub faults : Throughout FaultsHaveACause [] xs
   pub numbers : Throughout LinesGiveTheNextNumbers [] xs
   pub cuts : Throughout CutsAreAsked [] xs
+  pub given : Throughout GrantNumbersAreGivenOnce [] xs
+  pub rising : Throughout GrantNumbersRise [] xs
 
 -- a run from a world
 abbrev pub IsKeptRun : World → List Event → Type 0

@@ -2,9 +2,10 @@ ghost use Rattle.std.specs.Prelude.{◌∷◌, []};
 ghost use Rattle.st_promises.specs.Counts.{TheCountsAreTrue};
 ghost use Rattle.st_promises.specs.CutAsks.{CutsAreAsked};
 ghost use Rattle.st_promises.specs.Faults.{FaultsHaveACause};
+ghost use Rattle.st_promises.specs.Grants.{GrantNumbersAreGivenOnce, GrantNumbersRise};
 ghost use Rattle.st_promises.specs.Held.{DisksHoldWhatIsHard};
 ghost use Rattle.st_promises.specs.Losses.{LossesAreTold};
-ghost use Rattle.st_rows.specs.Broken.{IsKeptBut, answered_twice, beside_a_held_lock, beside_a_lock, conflict_sent, counted_and_not_told, cut_and_not_asked, cut_and_not_logged, cut_as_asked, cut_without_a_lock, cutting, date_unknown, dated_from_the_arrival, dropped_by_another_command, dropped_without_a_crash, dropped_without_a_report, fault_without_a_report, full_without_operations, grace_never_begun, grace_too_short, grant_unknown, hard_and_not_held, hard_and_pending, hard_no_more, hard_too_early, hard_twice, kept_after_the_end, loss_not_told, loss_told_in_part, past, past_answered, past_cut, past_lost, past_met, read_after_the_end, reading, replied_behind_a_timer, stale_read, stolen_as_another_life, stolen_early, submitted_after_the_end, syncing, timer_unknown, timer_without_a_suspect, told_and_not_lost, told_and_not_sent, writing, written_and_not_answered, written_and_not_logged, written_under_a_lesser_grant, written_under_another_number, written_without_a_lock};
+ghost use Rattle.st_rows.specs.Broken.{IsKeptBut, answered_twice, beside_a_held_lock, beside_a_lock, conflict_sent, counted_and_not_told, cut_and_not_asked, cut_and_not_logged, cut_as_asked, cut_without_a_lock, cutting, date_unknown, dated_from_the_arrival, dropped_by_another_command, dropped_without_a_crash, dropped_without_a_report, fault_without_a_report, full_without_operations, given_again, given_below, given_of_another_file, given_to_another_client, grace_never_begun, grace_too_short, grant_unknown, hard_and_not_held, hard_and_pending, hard_no_more, hard_too_early, hard_twice, kept_after_the_end, loss_not_told, loss_told_in_part, past, past_answered, past_cut, past_lost, past_met, read_after_the_end, reading, replied_behind_a_timer, stale_read, stolen_as_another_life, stolen_early, submitted_after_the_end, syncing, timer_unknown, timer_without_a_suspect, told_and_not_lost, told_and_not_sent, writing, written_and_not_answered, written_and_not_logged, written_under_a_lesser_grant, written_under_another_number, written_without_a_lock};
 ghost use Rattle.st_rules.specs.Safety.{AnswersAreLogged, AsksAreAnsweredOnce, ChangesAreLocked, ChangesGoInTheOrderOfLocks, DirtyPagesStandAlone, DropsHaveACause, ExpiredLeasesEmptyClients, GraceWaits, HardIsHard, HardStaysHard, LeasesAreDatedFromRequests, NoConflictIsSent, ReadsReturnLastWrites, TheHistoryIsTheWorlds, TheReportTellsTheLog, TheftsComeLate};
 
 /// A page that is dirty while another client has a row of its file.
@@ -307,4 +308,26 @@ pub fn a_cut_that_was_refused_is_refused()
     ensures broken { ¬ CutsAreAsked past_answered cut_as_asked }
     ensures kept { IsKeptBut (21 ∷ []) past_answered cut_as_asked }
     ensures before { IsKeptBut [] (past cutting) cut_as_asked }
+{}
+
+/// A grant to one client under a number that another client has. That the same grant is told again is no fault.
+#[tactic(auto, unfolding(crate::specs::Broken::broken_open))]
+pub fn a_number_given_to_another_client_is_refused()
+    ensures broken { ¬ GrantNumbersAreGivenOnce (past reading) given_to_another_client }
+    ensures kept { IsKeptBut (22 ∷ []) (past reading) given_to_another_client }
+    ensures again { IsKeptBut [] (past reading) given_again }
+{}
+
+/// A grant of one file under a number that the client has of another.
+#[tactic(auto, unfolding(crate::specs::Broken::broken_open))]
+pub fn a_number_given_of_another_file_is_refused()
+    ensures broken { ¬ GrantNumbersAreGivenOnce (past reading) given_of_another_file }
+    ensures kept { IsKeptBut (22 ∷ []) (past reading) given_of_another_file }
+{}
+
+/// A grant under a number that was never given, and that is below one that was.
+#[tactic(auto, unfolding(crate::specs::Broken::broken_open))]
+pub fn a_number_below_another_is_refused()
+    ensures broken { ¬ GrantNumbersRise (past reading) given_below }
+    ensures kept { IsKeptBut (23 ∷ []) (past reading) given_below }
 {}

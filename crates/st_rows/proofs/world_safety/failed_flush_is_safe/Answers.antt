@@ -33,4 +33,6 @@ returns c =
       faults = (refl, (refl, (refl, (refl, (refl, (refl, (refl, (refl, (refl, (refl, (refl, (refl, (refl, (refl, (refl, (refl, (refl, (refl, (refl, (refl, (refl, (refl, (refl, (refl, (refl, (refl, (refl, (refl, (refl, tt)))))))))))))))))))))))))))));
       numbers = (record { messages = refl; commands = refl; told = refl; counts = refl }, (record { messages = refl; commands = refl; told = refl; counts = refl }, (record { messages = refl; commands = refl; told = refl; counts = refl }, (record { messages = refl; commands = refl; told = refl; counts = refl }, (record { messages = refl; commands = refl; told = refl; counts = refl }, (record { messages = refl; commands = refl; told = refl; counts = refl }, (record { messages = refl; commands = refl; told = refl; counts = refl }, (record { messages = refl; commands = refl; told = refl; counts = refl }, (record { messages = refl; commands = refl; told = refl; counts = refl }, (record { messages = refl; commands = refl; told = refl; counts = refl }, (record { messages = refl; commands = refl; told = refl; counts = refl }, (record { messages = refl; commands = refl; told = refl; counts = refl }, (record { messages = refl; commands = refl; told = refl; counts = refl }, (record { messages = refl; commands = refl; told = refl; counts = refl }, (record { messages = refl; commands = refl; told = refl; counts = refl }, (record { messages = refl; commands = refl; told = refl; counts = refl }, (record { messages = refl; commands = refl; told = refl; counts = refl }, (record { messages = refl; commands = refl; told = refl; counts = refl }, (record { messages = refl; commands = refl; told = refl; counts = refl }, (record { messages = refl; commands = refl; told = refl; counts = refl }, (record { messages = refl; commands = refl; told = refl; counts = refl }, (record { messages = refl; commands = refl; told = refl; counts = refl }, (record { messages = refl; commands = refl; told = refl; counts = refl }, (record { messages = refl; commands = refl; told = refl; counts = refl }, (record { messages = refl; commands = refl; told = refl; counts = refl }, (record { messages = refl; commands = refl; told = refl; counts = refl }, (record { messages = refl; commands = refl; told = refl; counts = refl }, (record { messages = refl; commands = refl; told = refl; counts = refl }, (record { messages = refl; commands = refl; told = refl; counts = refl }, tt)))))))))))))))))))))))))))));
       cuts = (refl, (refl, (refl, (refl, (refl, (refl, (refl, (refl, (refl, (refl, (refl, (refl, (refl, (refl, (refl, (refl, (refl, (refl, (refl, (refl, (refl, (refl, (refl, (refl, (refl, (refl, (refl, (refl, (refl, tt)))))))))))))))))))))))))))));
+      given = (refl, (refl, (refl, (refl, (refl, (refl, (refl, (refl, (refl, (refl, (refl, (refl, (refl, (refl, (refl, (refl, (refl, (refl, (refl, (refl, (refl, (refl, (refl, (refl, (refl, (refl, (refl, (refl, (refl, tt)))))))))))))))))))))))))))));
+      rising = (refl, (refl, (refl, (refl, (refl, (refl, (refl, (refl, (refl, (refl, (refl, (refl, (refl, (refl, (refl, (refl, (refl, (refl, (refl, (refl, (refl, (refl, (refl, (refl, (refl, (refl, (refl, (refl, (refl, tt)))))))))))))))))))))))))))));
     }
