@@ -8,3 +8,4 @@ pub mod Alive
 pub mod Events
 pub mod World
 pub mod Law
+pub mod Acknowledged

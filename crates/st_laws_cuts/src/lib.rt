@@ -1,6 +1,7 @@
 //! Cuts in every run: each line of a cut has the ask of an application behind it.
 #![tactic(auto)]
 
+ghost use Rattle.st_laws_cuts.specs.Acknowledged.{CutsAreAcknowledged, WrongCutsAreRefused};
 ghost use Rattle.st_promises.specs.CutAsks.{CutsAreAsked};
 ghost use Rattle.st_laws_leases.specs.Sides.Law.{InEveryRun};
 
@@ -8,4 +9,14 @@ ghost use Rattle.st_laws_leases.specs.Sides.Law.{InEveryRun};
 /// the file. It asks to cut this file from this page on, or to remove it, and was not answered before, or with `uncertain`.
 pub fn cuts_are_asked()
     ensures { InEveryRun CutsAreAsked }
+{}
+
+/// In every run cuts are acknowledged: in the event that cuts a file an acknowledgement is sent, or the inode of a file that was removed, and no refusal.
+pub fn cuts_are_acknowledged()
+    ensures { InEveryRun CutsAreAcknowledged }
+{}
+
+/// A cut that is done and refused is refused, and one of which nothing is said; a cut that is acknowledged is not, nor a refusal without a cut.
+pub fn wrong_cuts_are_refused()
+    ensures { WrongCutsAreRefused }
 {}

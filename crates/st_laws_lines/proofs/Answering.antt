@@ -1,4 +1,5 @@
--- Where a client answers `diskfault`, and `opsfull`: only at the end of a command that failed, and only where 16 operations are pending. The rules of
+-- Where a client answers `diskfault`, `opsfull` and what a server refused: only at the end of a command that failed, only where 16 operations are
+-- pending, and only where a refusal comes. The rules of
 -- a client, walked for their outputs alone.
 use Rattle.std.proofs.Common.{◌≡◌, ℕ, ◌⊎◌, Bool, true, false, ◌==◌, ◌≤◌, List, [], ◌∷◌, ◌++◌, Option, Some, None, Ok, Err, refl, sym, ◌∙◌, subst, arith, inl, inr, if◌then◌else◌}
 use Rattle.std.specs.Prelude.{Result, filter, length, map, not}
@@ -32,7 +33,6 @@ use Rattle.st_rules.specs.declared.client.Release.{Release}
 use Rattle.st_rules.specs.declared.client.Request.{Request}
 use Rattle.st_rules.specs.declared.client.WriteRefusal.{WriteRefusal}
 use Rattle.st_rules.specs.Client as cl
-use Rattle.st_rules.specs.ClientLease as lease
 use Rattle.st_rules.specs.ClientPages as pages
 use Rattle.st_rules.specs.ClientPages.{Pages}
 use Rattle.st_rules.specs.ClientPasses as cp
@@ -40,23 +40,28 @@ use Rattle.st_rules.specs.ClientReplies as cr
 use Rattle.st_rules.specs.ClientState as cs
 use Rattle.st_rules.specs.ClientState.{Association, ClientSession, ClientState, ClientTurn, Turn, answer_to, at_each, at_these, client_turn, enter, leave, only_at, say, with_associations, with_operations}
 use Rattle.st_lemmas.specs.Lists.{Has}
+use Rattle.st_promises.specs.Faults.{refuses}
 use Rattle.st_laws_lines.proofs.Walking as walk
 use Rattle.st_lemmas.proofs.Tables.{found_at, has_append, has_map}
 
 -- an output that answers no fault, but of a command that failed, or of a client with so many operations
-abbrev pub Fault_free : (ℕ → Type 0) → Type 0 → AppAnswer → Type 0
-Fault_free Failed Full (answers.DiskFault number) = Failed number
-Fault_free Failed Full answers.OpsFull = Full
-Fault_free Failed Full a = Unit {0}
+abbrev pub Fault_free : (ℕ → Type 0) → Type 0 → Type 0 → AppAnswer → Type 0
+Fault_free Failed Full Told (answers.DiskFault number) = Failed number
+Fault_free Failed Full Told answers.OpsFull = Full
+Fault_free Failed Full Told answers.NotHolder = Told
+Fault_free Failed Full Told (answers.NoSpace free wanted) = Told
+Fault_free Failed Full Told answers.TooManyLocks = Told
+Fault_free Failed Full Told (answers.Refused code) = Told
+Fault_free Failed Full Told a = Unit {0}
 
 -- an output
-abbrev pub Free : (ℕ → Type 0) → Type 0 → Output → Type 0
-Free Failed Full (outputs.Answer op a) = Fault_free Failed Full a
-Free Failed Full o = Unit {0}
+abbrev pub Free : (ℕ → Type 0) → Type 0 → Type 0 → Output → Type 0
+Free Failed Full Told (outputs.Answer op a) = Fault_free Failed Full Told a
+Free Failed Full Told o = Unit {0}
 
 -- all of these
-abbrev pub All_free : (ℕ → Type 0) → Type 0 → List Output → Type 0
-All_free Failed Full os = (o : Output) → Has o os → Free Failed Full o
+abbrev pub All_free : (ℕ → Type 0) → Type 0 → Type 0 → List Output → Type 0
+All_free Failed Full Told os = (o : Output) → Has o os → Free Failed Full Told o
 
 -- Losses end operations, and begin none.
 fewer_pass : {A : Type 0} (p : A → Bool) (xs : List A) → length (filter p xs) ≤ length xs
@@ -115,25 +120,25 @@ still_full s now e =
     let x = leb-true 16 (length (cl.losses (client_turn s []) now).state.operations) e in let y = fewer_these now s.associations (with_associations [] (client_turn s [])) in
     le-leb 16 (length s.operations) (omega (arith, x, y))
 
-module _ (Failed : ℕ → Type 0) (Full : Type 0) where
+module _ (Failed : ℕ → Type 0) (Full : Type 0) (Told : Type 0) where
   abbrev F : Turn → Type 0
-  F t = All_free Failed Full t.out
+  F t = All_free Failed Full Told t.out
 
-  more : (os ps : List Output) → All_free Failed Full os → All_free Failed Full ps → All_free Failed Full (os ++ ps)
+  more : (os ps : List Output) → All_free Failed Full Told os → All_free Failed Full Told ps → All_free Failed Full Told (os ++ ps)
   more os ps a b o h = go (has_append os ps o h)
     where
-      go : Has o os ⊎ Has o ps → Free Failed Full o
+      go : Has o os ⊎ Has o ps → Free Failed Full Told o
       go (inl i) = a o i
       go (inr i) = b o i
 
-  single : (o : Output) → Free Failed Full o → All_free Failed Full (o ∷ [])
-  single o f x (inl e) = subst (Free Failed Full) (sym e) f
+  single : (o : Output) → Free Failed Full Told o → All_free Failed Full Told (o ∷ [])
+  single o f x (inl e) = subst (Free Failed Full Told) (sym e) f
   single o f x (inr h) = absurd h
 
-  last : (os : List Output) (o : Output) → Free Failed Full o → All_free Failed Full os → All_free Failed Full (os ++ o ∷ [])
+  last : (os : List Output) (o : Output) → Free Failed Full Told o → All_free Failed Full Told os → All_free Failed Full Told (os ++ o ∷ [])
   last os o f w = more os (o ∷ []) w (single o f)
 
-  said : (t : Turn) (o : Output) → Free Failed Full o → F t → F (say t o)
+  said : (t : Turn) (o : Output) → Free Failed Full Told o → F t → F (say t o)
   said t o f w = last t.out o f w
 
   either : (b : Bool) (t u : Turn) → F t → F u → F (if b then t else u)
@@ -144,27 +149,31 @@ module _ (Failed : ℕ → Type 0) (Full : Type 0) where
   unfolding cs.send
   sent t epoch number stamp b w = said t _ tt w
 
-  each_answered : (t : Turn) (picked : Operation → Bool) (a : AppAnswer) → Fault_free Failed Full a → F t → F (cs.answer_each picked a t)
+  each_answered : (t : Turn) (picked : Operation → Bool) (a : AppAnswer) → Fault_free Failed Full Told a → F t → F (cs.answer_each picked a t)
   unfolding cs.answer_each
-  each_answered t picked a f w = more t.out (map (answer_to a) (filter picked t.operations)) w (λ o h. let x = has_map (answer_to a) (filter picked t.operations) o h in subst (Free Failed Full) (sym x.2) f)
+  each_answered t picked a f w = more t.out (map (answer_to a) (filter picked t.operations)) w (λ o h. let x = has_map (answer_to a) (filter picked t.operations) o h in subst (Free Failed Full Told) (sym x.2) f)
 
   -- A message: no reply answers a fault, or that there are too many operations.
-  calm_free : (o : Output) → walk.Calm o → Free Failed Full o
+  calm_free : (o : Output) → walk.Calm o → Free Failed Full Told o
   calm_free (outputs.Answer op a) c = absurd c
   calm_free o c = tt
 
-  mild_free : (a : AppAnswer) → walk.Mild a → Fault_free Failed Full a
+  mild_free : (a : AppAnswer) → walk.Mild Told a → Fault_free Failed Full Told a
   mild_free (answers.DiskFault number) m = absurd m
   mild_free answers.OpsFull m = absurd m
+  mild_free answers.NotHolder m = m
+  mild_free (answers.NoSpace free wanted) m = m
+  mild_free answers.TooManyLocks m = m
+  mild_free (answers.Refused code) m = m
   mild_free a m = tt
 
-  heard : (now : Stamp) (h : Header) (b : Body) (t : Turn) → F t → F (cr.receive_at now h b t)
+  heard : (now : Stamp) (h : Header) (b : Body) → (refuses b ≡ true → Told) → (t : Turn) → F t → F (cr.receive_at now h b t)
   unfolding cr.leave_stuck
-  heard = walk.heard (λ v lost out ops. All_free Failed Full out) (λ v lost out ops o c w. last out o (calm_free o c) w) (λ t picked a m w. each_answered t picked a (mild_free a m) w) (λ t w. w)
+  heard = walk.heard Told (λ v lost out ops. All_free Failed Full Told out) (λ v lost out ops o c w. last out o (calm_free o c) w) (λ t picked a m w. each_answered t picked a (mild_free a m) w) (λ t w. w)
 
   rested : (now : Stamp) (tick : Bool) (t : Turn) → F t → F (cp.greeting now tick (cp.writes now tick (cp.reductions t)))
   unfolding cr.leave_stuck
-  rested = walk.rested (λ v lost out ops. All_free Failed Full out) (λ v lost out ops o c w. last out o (calm_free o c) w) (λ t picked a m w. each_answered t picked a (mild_free a m) w) (λ t w. w)
+  rested = walk.rested Told (λ v lost out ops. All_free Failed Full Told out) (λ v lost out ops o c w. last out o (calm_free o c) w) (λ t picked a m w. each_answered t picked a (mild_free a m) w) (λ t w. w)
 
   -- Losses.
   ended : (t : Turn) (s : ClientSession) (o : Operation) → F t → F (cl.end_operation t s o)
@@ -365,26 +374,27 @@ module _ (Failed : ℕ → Type 0) (Full : Type 0) where
   passed now tick t w = requested now tick _ (rested now tick _ (operated_each t.operations now t.operations _ w))
 
   -- A rule at each server in turn.
-  these : (rule : Turn → Turn) → ((t : Turn) → F t → F (rule t)) → (al : List Association) (t : ClientTurn) → All_free Failed Full t.out → All_free Failed Full (at_these rule al t).out
+  these : (rule : Turn → Turn) → ((t : Turn) → F t → F (rule t)) → (al : List Association) (t : ClientTurn) → All_free Failed Full Told t.out → All_free Failed Full Told (at_these rule al t).out
   unfolding at_these
   these rule one [] t w = w
   these rule one (a ∷ al) t w = these rule one al (leave t (rule (enter t a))) (one (enter t a) w)
 
-  each : (rule : Turn → Turn) → ((t : Turn) → F t → F (rule t)) → (t : ClientTurn) → All_free Failed Full t.out → All_free Failed Full (at_each rule t).out
+  each : (rule : Turn → Turn) → ((t : Turn) → F t → F (rule t)) → (t : ClientTurn) → All_free Failed Full Told t.out → All_free Failed Full Told (at_each rule t).out
   unfolding at_each
   each rule one t w = these rule one t.state.associations _ w
 
   -- an input in which a command fails only as said, and a client is as full as said
   abbrev pub Fails_as : ClientState → ClientInput → Type 0
   Fails_as s (inputs.App op ask) = cl.is_full s ≡ true → Full
+  Fails_as s (inputs.Control m) = refuses m.body ≡ true → Told
   Fails_as s (inputs.Done number r) = r ≡ None → Failed number
   Fails_as s i = Unit {0}
 
-  any_either : (b : Bool) (t u : ClientTurn) → All_free Failed Full t.out → All_free Failed Full u.out → All_free Failed Full (if b then t else u).out
+  any_either : (b : Bool) (t u : ClientTurn) → All_free Failed Full Told t.out → All_free Failed Full Told u.out → All_free Failed Full Told (if b then t else u).out
   any_either true t u x y = x
   any_either false t u x y = y
 
-  where_full : (b : Bool) (t u : ClientTurn) → (b ≡ true → All_free Failed Full t.out) → All_free Failed Full u.out → All_free Failed Full (if b then t else u).out
+  where_full : (b : Bool) (t u : ClientTurn) → (b ≡ true → All_free Failed Full Told t.out) → All_free Failed Full Told u.out → All_free Failed Full Told (if b then t else u).out
   where_full true t u x y = x refl
   where_full false t u x y = y
 
@@ -392,23 +402,23 @@ module _ (Failed : ℕ → Type 0) (Full : Type 0) where
   unfolding only_at
   only s op ask t w = either (cs.is_at s t.here) _ t (taken op ask t w) w
 
-  input_taken : (t : ClientTurn) (now : Stamp) (i : ClientInput) → Fails_as t.state i → All_free Failed Full t.out → All_free Failed Full (cl.take_input t now i).out
+  input_taken : (t : ClientTurn) (now : Stamp) (i : ClientInput) → Fails_as t.state i → All_free Failed Full Told t.out → All_free Failed Full Told (cl.take_input t now i).out
   unfolding cl.take_input cl.app cl.app_known cl.done cr.receive cr.receive_here
   input_taken t now inputs.Tick f w = w
   input_taken t now (inputs.App op ask) f w =
       where_full (cl.is_full t.state) _ _ (λ e. more t.out _ w (single _ (f e)))
       (any_either (cl.is_configured t.state (cs.server_of ask)) _ _ (each _ (only (cs.server_of ask) op ask) t w) (more t.out _ w (single _ tt)))
-  input_taken t now (inputs.Control m) f w = any_either _ _ t (each _ (heard now m.header m.body) t w) w
+  input_taken t now (inputs.Control m) f w = any_either _ _ t (each _ (heard now m.header m.body f) t w) w
   input_taken t now (inputs.Done number r) f w = each _ (finished number r f) t w
 
   -- the same behind the losses
   after_losses : (s : ClientState) (now : Stamp) (i : ClientInput) → Fails_as s i → Fails_as (cl.losses (client_turn s []) now).state i
   after_losses s now inputs.Tick f = tt
   after_losses s now (inputs.App op ask) f = λ e. f (still_full s now e)
-  after_losses s now (inputs.Control m) f = tt
+  after_losses s now (inputs.Control m) f = f
   after_losses s now (inputs.Done number r) f = f
 
   -- the whole step
-  pub stepped : (s : ClientState) (now : Stamp) (i : ClientInput) → Fails_as s i → All_free Failed Full (cl.client_step s now i).out
+  pub stepped : (s : ClientState) (now : Stamp) (i : ClientInput) → Fails_as s i → All_free Failed Full Told (cl.client_step s now i).out
   unfolding cl.client_step cl.work cl.losses
   stepped s now i f = each _ (passed now (cl.is_tick i)) _ (input_taken _ now i (after_losses s now i f) (each _ (lost now) (client_turn s []) (λ o h. absurd h)))

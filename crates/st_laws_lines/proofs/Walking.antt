@@ -1,6 +1,6 @@
 -- What a client makes of a message, and its passes that neither serve operations nor send requests, walked for facts of what it says and of the operations that it
 -- leaves: such a fact stands again, where it does so behind a message, a command or a note, behind operations that are answered, and where operations are stuck.
-use Rattle.std.proofs.Common.{ℕ, Bool, true, false, ◌==◌, List, [], ◌∷◌, ◌++◌, Option, Some, None, if◌then◌else◌}
+use Rattle.std.proofs.Common.{◌≡◌, ℕ, Bool, true, false, ◌==◌, List, [], ◌∷◌, ◌++◌, Option, Some, None, refl, if◌then◌else◌}
 use Rattle.st_base.specs.declared.ids.Epoch.{Epoch}
 use Rattle.st_base.specs.declared.ids.GrantNo.{GrantNo}
 use Rattle.st_base.specs.declared.ids.PageNo.{PageNo}
@@ -34,13 +34,18 @@ use Rattle.st_rules.specs.ClientPasses as cp
 use Rattle.st_rules.specs.ClientReplies as cr
 use Rattle.st_rules.specs.ClientState as cs
 use Rattle.st_rules.specs.ClientState.{ClientSession, Turn}
+use Rattle.st_promises.specs.Faults.{refuses, refuses_name}
 
--- an answer that a reply may give: of no fault, of no lost pages, and not that there are too many operations
-abbrev pub Mild : AppAnswer → Type 0
-Mild (answers.DiskFault number) = ⊥
-Mild answers.OpsFull = ⊥
-Mild (answers.Lost rows) = ⊥
-Mild a = Unit {0}
+-- an answer that a reply may give: of no fault, of no lost pages, and not that there are too many operations; and a server's refusal only where one came
+abbrev pub Mild : Type 0 → AppAnswer → Type 0
+Mild Told (answers.DiskFault number) = ⊥
+Mild Told answers.OpsFull = ⊥
+Mild Told (answers.Lost rows) = ⊥
+Mild Told answers.NotHolder = Told
+Mild Told (answers.NoSpace free wanted) = Told
+Mild Told answers.TooManyLocks = Told
+Mild Told (answers.Refused code) = Told
+Mild Told a = Unit {0}
 
 -- no answer, and no note that a lease is lost
 abbrev pub Calm : Output → Type 0
@@ -55,8 +60,8 @@ Fact = ServerId → List LostPage → List Output → List Operation → Type 0
 abbrev pub At : Fact → Turn → Type 0
 At Q t = Q t.here.server t.here.lost t.out t.operations
 
-module _ (Q : Fact) (calm : (s : ServerId) (lost : List LostPage) (out : List Output) (ops : List Operation) (o : Output) → Calm o → Q s lost out ops → Q s lost (out ++ o ∷ []) ops)
-    (each_answered : (t : Turn) (picked : Operation → Bool) (a : AppAnswer) → Mild a → At Q t → At Q (cs.answer_each picked a t)) (stuck : (t : Turn) → At Q t → At Q (cr.leave_stuck t)) where
+module _ (Told : Type 0) (Q : Fact) (calm : (s : ServerId) (lost : List LostPage) (out : List Output) (ops : List Operation) (o : Output) → Calm o → Q s lost out ops → Q s lost (out ++ o ∷ []) ops)
+    (each_answered : (t : Turn) (picked : Operation → Bool) (a : AppAnswer) → Mild Told a → At Q t → At Q (cs.answer_each picked a t)) (stuck : (t : Turn) → At Q t → At Q (cr.leave_stuck t)) where
   abbrev F : Turn → Type 0
   F t = At Q t
 
@@ -96,49 +101,49 @@ module _ (Q : Fact) (calm : (s : ServerId) (lost : List LostPage) (out : List Ou
       go None = w
       go (Some l) = w
 
-  named : (t : Turn) (v : ClientSession) (file : Option ℕ) (r : NameReply) → F t → F (cr.named t v file r)
+  named : (t : Turn) (v : ClientSession) (file : Option ℕ) (r : NameReply) → (refuses_name r ≡ true → Told) → F t → F (cr.named t v file r)
   unfolding cr.named cr.named_as
-  named t v file (replies.Ino ino) w = removed _ v file (each_answered t _ _ tt w)
-  named t v file (replies.Listed rows) w = each_answered t _ _ tt w
-  named t v file (replies.Refused code) w = each_answered t _ _ tt w
+  named t v file (replies.Ino ino) u w = removed _ v file (each_answered t _ _ tt w)
+  named t v file (replies.Listed rows) u w = each_answered t _ _ tt w
+  named t v file (replies.Refused code) u w = each_answered t _ _ (u refl) w
 
-  refuse_file : (t : Turn) (a : AppAnswer) (file : Option ℕ) → Mild a → F t → F (cr.refuse_file t a file)
+  refuse_file : (t : Turn) (a : AppAnswer) (file : Option ℕ) → Mild Told a → F t → F (cr.refuse_file t a file)
   unfolding cr.refuse_file
   refuse_file t a None p w = w
   refuse_file t a (Some ino) p w = each_answered t _ a p w
 
-  refuse_page : (t : Turn) (a : AppAnswer) (file : Option ℕ) (page : Option PageNo) → Mild a → F t → F (cr.refuse_page t a file page)
+  refuse_page : (t : Turn) (a : AppAnswer) (file : Option ℕ) (page : Option PageNo) → Mild Told a → F t → F (cr.refuse_page t a file page)
   unfolding cr.refuse_page
   refuse_page t a (Some ino) (Some p) u w = each_answered t _ a u w
   refuse_page t a (Some ino) None u w = w
   refuse_page t a None page u w = w
 
-  refuse_as : (t : Turn) (y : Why) (a b : ℕ) (file : Option ℕ) (asked : Body) → F t → F (cr.refuse_as t y a b file asked)
+  refuse_as : (t : Turn) (y : Why) (a b : ℕ) (file : Option ℕ) (asked : Body) → Told → F t → F (cr.refuse_as t y a b file asked)
   unfolding cr.refuse_as cr.refuse_holder
-  refuse_as t why.NoFile a b file asked w = refuse_file t _ file tt w
-  refuse_as t why.TooManyLocks a b file asked w = refuse_file t _ file tt w
-  refuse_as t why.NoSpace a b file asked w = refuse_page t _ file _ tt w
-  refuse_as t why.NotHolder a b file asked w = either (cs.asks_cut_or_remove asked) _ t (each_answered t _ _ tt w) w
-  refuse_as t y a b file asked w = w
+  refuse_as t why.NoFile a b file asked u w = refuse_file t _ file tt w
+  refuse_as t why.TooManyLocks a b file asked u w = refuse_file t _ file u w
+  refuse_as t why.NoSpace a b file asked u w = refuse_page t _ file _ u w
+  refuse_as t why.NotHolder a b file asked u w = either (cs.asks_cut_or_remove asked) _ t (each_answered t _ _ u w) w
+  refuse_as t y a b file asked u w = w
 
-  effect : (t : Turn) (v : ClientSession) (now : Stamp) (b : Body) (file : Option ℕ) (asked : Body) → F t → F (cr.effect t v now b file asked)
+  effect : (t : Turn) (v : ClientSession) (now : Stamp) (b : Body) (file : Option ℕ) (asked : Body) → (refuses b ≡ true → Told) → F t → F (cr.effect t v now b file asked)
   unfolding cr.effect cr.granted cr.queued cr.extents cr.learn cr.acknowledged cr.reasserted cr.refused
-  effect t v now (bodies.Granted ino g mode) file asked w = w
-  effect t v now (bodies.Queued ino mode) file asked w = w
-  effect t v now (bodies.Extents ino rows) file asked w = either (cr.is_current v.locks asked) _ t w w
-  effect t v now bodies.Ack file asked w = each_answered t _ _ tt w
-  effect t v now (bodies.Named reply) file asked w = named t v file reply w
-  effect t v now bodies.Reasserted file asked w = w
-  effect t v now (bodies.Nack y a b) file asked w = stuck _ (refuse_as t y a b file asked w)
-  effect t v now b file asked w = w
+  effect t v now (bodies.Granted ino g mode) file asked u w = w
+  effect t v now (bodies.Queued ino mode) file asked u w = w
+  effect t v now (bodies.Extents ino rows) file asked u w = either (cr.is_current v.locks asked) _ t w w
+  effect t v now bodies.Ack file asked u w = each_answered t _ _ tt w
+  effect t v now (bodies.Named reply) file asked u w = named t v file reply u w
+  effect t v now bodies.Reasserted file asked u w = w
+  effect t v now (bodies.Nack y a b) file asked u w = stuck _ (refuse_as t y a b file asked (u refl) w)
+  effect t v now b file asked u w = w
 
   renewal : (t : Turn) (v : ClientSession) (stamp : Stamp) → F t → F (cr.note_renewal t v stamp)
   unfolding cr.note_renewal cr.note_lease
   renewal t v stamp w = either (lease.is_renewal stamp v.lease) _ t (last t _ tt w) w
 
-  replied : (t : Turn) (v : ClientSession) (now : Stamp) (h : Header) (b : Body) → F t → F (cr.reply_of t v now h b)
+  replied : (t : Turn) (v : ClientSession) (now : Stamp) (h : Header) (b : Body) → (refuses b ≡ true → Told) → F t → F (cr.reply_of t v now h b)
   unfolding cr.reply_of cr.counted cr.by_request cr.count_reply cr.condemn cr.reply_to cr.end_request
-  replied t v now h b w = go v.requests.asked
+  replied t v now h b u w = go v.requests.asked
     where
       stamp : Stamp
       stamp = record { 0 = h.stamp }
@@ -147,17 +152,17 @@ module _ (Q : Fact) (calm : (s : ServerId) (lost : List LostPage) (out : List Ou
       go None = w
       go (Some r) =
           either (cr.is_counting h.number b r) (cr.count_reply t v now stamp b r.body) t
-          (either (cr.refuses_reassertion b r.body) (cr.condemn t v) (cr.reply_to t v now stamp b r.body) w (effect _ _ now b _ r.body (renewal t v stamp w))) w
+          (either (cr.refuses_reassertion b r.body) (cr.condemn t v) (cr.reply_to t v now stamp b r.body) w (effect _ _ now b _ r.body u (renewal t v stamp w))) w
 
-  nacked : (t : Turn) (v : ClientSession) (now : Stamp) (h : Header) (y : Why) (a b : ℕ) → F t → F (cr.nack t v now h y a b)
+  nacked : (t : Turn) (v : ClientSession) (now : Stamp) (h : Header) (y : Why) (a b : ℕ) → Told → F t → F (cr.nack t v now h y a b)
   unfolding cr.condemn
-  nacked t v now h why.Suspect a b w = w
-  nacked t v now h why.NoSession a b w = w
-  nacked t v now h why.OtherEpoch a b w = w
-  nacked t v now h why.Grace a b w = w
-  nacked t v now h why.GraceOver a b w = w
-  nacked t v now h why.Conflict a b w = w
-  nacked t v now h y a b w = replied t v now h (bodies.Nack y a b) w
+  nacked t v now h why.Suspect a b u w = w
+  nacked t v now h why.NoSession a b u w = w
+  nacked t v now h why.OtherEpoch a b u w = w
+  nacked t v now h why.Grace a b u w = w
+  nacked t v now h why.GraceOver a b u w = w
+  nacked t v now h why.Conflict a b u w = w
+  nacked t v now h y a b u w = replied t v now h (bodies.Nack y a b) (λ e. u) w
 
   demanded : (t : Turn) (v : ClientSession) (ino : ℕ) (g : GrantNo) (to : Mode) → F t → F (cr.demand t v ino g to)
   unfolding cr.demand cr.demand_by cr.demand_as cr.see_demand
@@ -171,20 +176,20 @@ module _ (Q : Fact) (calm : (s : ServerId) (lost : List LostPage) (out : List Ou
       go : (d : locks.Demanding) → F (cr.demand_by t v ino g d)
       go d = by (cs.with_cache d.locks v) d.asked
 
-  of_epoch : (t : Turn) (v : ClientSession) (now : Stamp) (h : Header) (b : Body) → F t → F (cr.of_epoch t v now h b)
+  of_epoch : (t : Turn) (v : ClientSession) (now : Stamp) (h : Header) (b : Body) → (refuses b ≡ true → Told) → F t → F (cr.of_epoch t v now h b)
   unfolding cr.of_epoch cr.grant_or_reply cr.granted
-  of_epoch t v now h (bodies.Nack y a b) w = nacked t v now h y a b w
-  of_epoch t v now h (bodies.Granted ino g mode) w = either (h.number == 0) _ _ w (replied t v now h (bodies.Granted ino g mode) w)
-  of_epoch t v now h (bodies.Demand ino g to) w = demanded t v ino g to w
-  of_epoch t v now h b w = replied t v now h b w
+  of_epoch t v now h (bodies.Nack y a b) u w = nacked t v now h y a b (u refl) w
+  of_epoch t v now h (bodies.Granted ino g mode) u w = either (h.number == 0) _ _ w (replied t v now h (bodies.Granted ino g mode) u w)
+  of_epoch t v now h (bodies.Demand ino g to) u w = demanded t v ino g to w
+  of_epoch t v now h b u w = replied t v now h b u w
 
-  pub heard : (now : Stamp) (h : Header) (b : Body) (t : Turn) → F t → F (cr.receive_at now h b t)
+  pub heard : (now : Stamp) (h : Header) (b : Body) → (refuses b ≡ true → Told) → (t : Turn) → F t → F (cr.receive_at now h b t)
   unfolding cr.receive_at cr.by_session cr.with_a_session
-  heard now h b t w = either (cr.is_heard t now h) _ t (by t.here.session) w
+  heard now h b u t w = either (cr.is_heard t now h) _ t (by t.here.session) w
     where
       by : (x : Option ClientSession) → F (cr.by_session t now h b x)
       by None = without t now h b w
-      by (Some v) = either (h.epoch == v.epoch.0) _ _ (of_epoch t v now h b w) (of_other t v _ b w)
+      by (Some v) = either (h.epoch == v.epoch.0) _ _ (of_epoch t v now h b u w) (of_other t v _ b w)
 
   -- Reductions.
   reduced : (t : Turn) (ino : ℕ) (o : Option ClientSession) → F t → F (cp.reduce t ino o)

@@ -15,7 +15,7 @@ pub fn counts_are_true()
 {}
 
 /// In every run a fault has its cause: `diskfault` is answered where the command that it names is reported failed, and nowhere else; and
-/// `opsfull` only to a client of which 16 operations are pending.
+/// `opsfull` only to a client of which 16 operations are pending. What a server refused is answered only where its refusal is delivered.
 pub fn faults_have_a_cause()
     ensures { InEveryRun FaultsHaveACause }
 {}

@@ -259,7 +259,7 @@ module _ (asked : ℕ → Option Ask) (had : ServerId → Option Association) wh
     calm_fine R (outputs.Answer op a) c = absurd c
     calm_fine R o c = tt
 
-    mild_told : (a : AppAnswer) → walk.Mild a → NotLost a
+    mild_told : (a : AppAnswer) → walk.Mild (Unit {0}) a → NotLost a
     mild_told (answers.Lost rows) m = absurd m
     mild_told a m = tt
 
@@ -310,10 +310,10 @@ module _ (asked : ℕ → Option Ask) (had : ServerId → Option Association) wh
 
       -- A message: its replies tell of no lost pages.
       pub heard : (now : Stamp) (h : Header) (b : Body) (t : Turn) → F t → F (cr.receive_at now h b t)
-      heard = walk.heard (Keeps R) (λ v lost out ops o c w. adds R v lost out ops o (calm_plain o c) (calm_fine R o c) w) (λ t picked a m w. each_answered t picked a (mild_told a m) w) stuck
+      heard now h b = walk.heard (Unit {0}) (Keeps R) (λ v lost out ops o c w. adds R v lost out ops o (calm_plain o c) (calm_fine R o c) w) (λ t picked a m w. each_answered t picked a (mild_told a m) w) stuck now h b (λ e. tt)
 
       rested : (now : Stamp) (tick : Bool) (t : Turn) → F t → F (cp.greeting now tick (cp.writes now tick (cp.reductions t)))
-      rested = walk.rested (Keeps R) (λ v lost out ops o c w. adds R v lost out ops o (calm_plain o c) (calm_fine R o c) w) (λ t picked a m w. each_answered t picked a (mild_told a m) w) stuck
+      rested = walk.rested (Unit {0}) (Keeps R) (λ v lost out ops o c w. adds R v lost out ops o (calm_plain o c) (calm_fine R o c) w) (λ t picked a m w. each_answered t picked a (mild_told a m) w) stuck
 
       -- Ends of commands.
       faulted : (t : Turn) (x : PageCommand) (kind : IoKind) → F t → F (cl.failed_as t x kind)

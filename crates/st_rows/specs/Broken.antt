@@ -501,6 +501,9 @@ fault_without_a_report = seeing (answered 1 2 (answers.DiskFault 1) ∷ []) (sti
 unfoldable pub full_without_operations : Step
 full_without_operations = seeing (answered 1 2 answers.OpsFull ∷ []) (still (here syncing))
 
+unfoldable pub refused_without_a_refusal : Step
+refused_without_a_refusal = seeing (answered 1 2 answers.NotHolder ∷ []) (still (here cutting))
+
 unfoldable pub told_and_not_sent : Step
 told_and_not_sent = seeing (sent 7 32769 1 1 1 1 400 bodies.Ack ∷ []) (still (here reading))
 
@@ -527,5 +530,5 @@ unfoldable pub given_again : Step
 given_again = grants_once_more 1 2 4294967297
 
 unfoldable pub broken_open : ⊤
-unfolding safe_words_open prepared past here met past_met here_met lost_run past_lost here_lost past_cut stale_read beside_a_lock beside_a_held_lock dropped_without_a_crash dropped_by_another_command dropped_without_a_report hard_no_more hard_too_early stolen_early stolen_as_another_life dated_from_the_arrival replied_behind_a_timer grace_too_short grace_never_begun conflict_sent hard_and_pending hard_twice written_and_not_logged cut_and_not_logged written_under_another_number written_and_not_answered answered_twice written_without_a_lock written_under_a_lesser_grant cut_without_a_lock cut_and_not_asked cut_as_asked past_answered kept_after_the_end submitted_after_the_end read_after_the_end timer_unknown timer_without_a_suspect date_unknown grant_unknown loss_not_told loss_told_in_part told_and_not_lost hard_and_not_held fault_without_a_report full_without_operations told_and_not_sent counted_and_not_told given_to_another_client given_of_another_file given_below given_again
+unfolding safe_words_open prepared past here met past_met here_met lost_run past_lost here_lost past_cut stale_read beside_a_lock beside_a_held_lock dropped_without_a_crash dropped_by_another_command dropped_without_a_report hard_no_more hard_too_early stolen_early stolen_as_another_life dated_from_the_arrival replied_behind_a_timer grace_too_short grace_never_begun conflict_sent hard_and_pending hard_twice written_and_not_logged cut_and_not_logged written_under_another_number written_and_not_answered answered_twice written_without_a_lock written_under_a_lesser_grant cut_without_a_lock cut_and_not_asked cut_as_asked past_answered kept_after_the_end submitted_after_the_end read_after_the_end timer_unknown timer_without_a_suspect date_unknown grant_unknown loss_not_told loss_told_in_part told_and_not_lost hard_and_not_held fault_without_a_report full_without_operations refused_without_a_refusal told_and_not_sent counted_and_not_told given_to_another_client given_of_another_file given_below given_again
 broken_open = tt

@@ -5,7 +5,7 @@ ghost use Rattle.st_promises.specs.Faults.{FaultsHaveACause};
 ghost use Rattle.st_promises.specs.Grants.{GrantNumbersAreGivenOnce, GrantNumbersRise};
 ghost use Rattle.st_promises.specs.Held.{DisksHoldWhatIsHard};
 ghost use Rattle.st_promises.specs.Losses.{LossesAreTold};
-ghost use Rattle.st_rows.specs.Broken.{IsKeptBut, answered_twice, beside_a_held_lock, beside_a_lock, conflict_sent, counted_and_not_told, cut_and_not_asked, cut_and_not_logged, cut_as_asked, cut_without_a_lock, cutting, date_unknown, dated_from_the_arrival, dropped_by_another_command, dropped_without_a_crash, dropped_without_a_report, fault_without_a_report, full_without_operations, given_again, given_below, given_of_another_file, given_to_another_client, grace_never_begun, grace_too_short, grant_unknown, hard_and_not_held, hard_and_pending, hard_no_more, hard_too_early, hard_twice, kept_after_the_end, loss_not_told, loss_told_in_part, past, past_answered, past_cut, past_lost, past_met, read_after_the_end, reading, replied_behind_a_timer, stale_read, stolen_as_another_life, stolen_early, submitted_after_the_end, syncing, timer_unknown, timer_without_a_suspect, told_and_not_lost, told_and_not_sent, writing, written_and_not_answered, written_and_not_logged, written_under_a_lesser_grant, written_under_another_number, written_without_a_lock};
+ghost use Rattle.st_rows.specs.Broken.{IsKeptBut, answered_twice, beside_a_held_lock, beside_a_lock, conflict_sent, counted_and_not_told, cut_and_not_asked, cut_and_not_logged, cut_as_asked, cut_without_a_lock, cutting, date_unknown, dated_from_the_arrival, dropped_by_another_command, dropped_without_a_crash, dropped_without_a_report, fault_without_a_report, full_without_operations, given_again, given_below, given_of_another_file, given_to_another_client, grace_never_begun, grace_too_short, grant_unknown, hard_and_not_held, hard_and_pending, hard_no_more, hard_too_early, hard_twice, kept_after_the_end, loss_not_told, loss_told_in_part, past, past_answered, past_cut, past_lost, past_met, read_after_the_end, reading, refused_without_a_refusal, replied_behind_a_timer, stale_read, stolen_as_another_life, stolen_early, submitted_after_the_end, syncing, timer_unknown, timer_without_a_suspect, told_and_not_lost, told_and_not_sent, writing, written_and_not_answered, written_and_not_logged, written_under_a_lesser_grant, written_under_another_number, written_without_a_lock};
 ghost use Rattle.st_rules.specs.Safety.{AnswersAreLogged, AsksAreAnsweredOnce, ChangesAreLocked, ChangesGoInTheOrderOfLocks, DirtyPagesStandAlone, DropsHaveACause, ExpiredLeasesEmptyClients, GraceWaits, HardIsHard, HardStaysHard, LeasesAreDatedFromRequests, NoConflictIsSent, ReadsReturnLastWrites, TheHistoryIsTheWorlds, TheReportTellsTheLog, TheftsComeLate};
 
 /// A page that is dirty while another client has a row of its file.
@@ -279,6 +279,13 @@ pub fn a_fault_without_a_report_is_refused()
 pub fn a_full_client_without_operations_is_refused()
     ensures broken { ¬ FaultsHaveACause (past syncing) full_without_operations }
     ensures kept { IsKeptBut (19 ∷ []) (past syncing) full_without_operations }
+{}
+
+/// A cut that is refused though no refusal came.
+#[tactic(auto, unfolding(crate::specs::Broken::broken_open))]
+pub fn a_refusal_that_did_not_come_is_refused()
+    ensures broken { ¬ FaultsHaveACause (past cutting) refused_without_a_refusal }
+    ensures kept { IsKeptBut (19 ∷ []) (past cutting) refused_without_a_refusal }
 {}
 
 /// The line of a message that was not sent.

@@ -82,7 +82,7 @@ exclusive_of modes.X z = refl
 
 -- The walk: the cuts that the outputs note.
 module _ (C : FileId → PageNo → Type 0) where
-  Noted : Turn → Type 0
+  unfoldable pub Noted : Turn → Type 0
   Noted t = (f : FileId) (p : PageNo) → Has (outputs.Note (notes.CutDone f p)) t.out → C f p
 
   n_say : (t : Turn) (o : Output) → ((f : FileId) (p : PageNo) → outputs.Note (notes.CutDone f p) ≡ o → C f p) → Noted t → Noted (say t o)
@@ -98,7 +98,7 @@ module _ (C : FileId → PageNo → Type 0) where
   unfolding Noted
   n_state t x n = n
 
-  n_reply : (t : Turn) (h : Header) (b : Body) → Noted t → Noted (reply t h b)
+  pub n_reply : (t : Turn) (h : Header) (b : Body) → Noted t → Noted (reply t h b)
   unfolding reply
   n_reply t h b n = n_say t _ (λ f p e. cc e) n
 
@@ -120,7 +120,7 @@ module _ (C : FileId → PageNo → Type 0) where
   n_steals [] t n = n
   n_steals (c ∷ cs) t n = n_steals cs _ (n_steal t c (sessions.session_of t.state.sessions c) n)
 
-  n_thefts : (x : ServerState) (now : Stamp) → Noted (thefts (turn x []) now)
+  pub n_thefts : (x : ServerState) (now : Stamp) → Noted (thefts (turn x []) now)
   unfolding thefts Noted
   n_thefts x now = n_steals _ _ (λ f p h. absurd h)
 
@@ -131,11 +131,11 @@ module _ (C : FileId → PageNo → Type 0) where
   n_greet_as t now h hellos.Old n = n
   n_greet_as t now h hellos.Wait n = n_reply _ h _ (n_suspect t now (sender h) n)
 
-  n_hello : (t : Turn) (now : Stamp) (h : Header) → Noted t → Noted (hello t now h)
+  pub n_hello : (t : Turn) (now : Stamp) (h : Header) → Noted t → Noted (hello t now h)
   unfolding hello greet greet_by refuse_in_grace
   n_hello t now h n = if_either Noted (sv.in_grace t now) _ _ (n_reply t h _ n) (n_greet_as _ now h _ (n_state t _ n))
 
-  n_seen : (t : Turn) (h : Header) (ino : ℕ) (g : GrantNo) → Noted t → Noted (demand_seen t h ino g)
+  pub n_seen : (t : Turn) (h : Header) (ino : ℕ) (g : GrantNo) → Noted t → Noted (demand_seen t h ino g)
   unfolding demand_seen see_demand
   n_seen t h ino g n = if_either Noted (sv.is_served t h) _ t (n_state t _ n) n
 
@@ -149,11 +149,11 @@ module _ (C : FileId → PageNo → Type 0) where
   n_reassert_by t h (Ok a) n = n_reply _ h _ (n_state t _ n)
   n_reassert_by t h (Err r) n = n_reply t h _ n
 
-  n_reassert : (t : Turn) (now : Stamp) (h : Header) (rows : List (ℕ × GrantNo × Mode)) → Noted t → Noted (reassert t now h rows)
+  pub n_reassert : (t : Turn) (now : Stamp) (h : Header) (rows : List (ℕ × GrantNo × Mode)) → Noted t → Noted (reassert t now h rows)
   unfolding reassert reassert_new
   n_reassert t now h rows n = if_either Noted (sessions.knows t.state.sessions (sender h) (life_in h)) _ _ (n_again t h _ n) (n_reassert_by t h _ n)
 
-  n_keep : (h : Header) (u : Turn) (b : Option Body) → Noted u → Noted (keep h u b)
+  pub n_keep : (h : Header) (u : Turn) (b : Option Body) → Noted u → Noted (keep h u b)
   unfolding keep keep_and_reply
   n_keep h u None n = n
   n_keep h u (Some b) n = n_reply _ h b (n_state u _ n)
@@ -335,7 +335,7 @@ module _ (C : FileId → PageNo → Type 0) where
   unfolding demanding demand_by
   n_demanding t now j n = n_demanded _ _ (n_state t _ n)
 
-  n_passes : (now : Stamp) (i : ServerInput) (t : Turn) → Noted t → Noted (demanding (granting (suspecting_on t now i) now) now i)
+  pub n_passes : (now : Stamp) (i : ServerInput) (t : Turn) → Noted t → Noted (demanding (granting (suspecting_on t now i) now) now i)
   n_passes now i t n = n_demanding _ now i (n_granting _ now (n_suspecting _ now i n))
 
 -- A server's step: it cuts nothing on a tick, and else because of the message that comes.

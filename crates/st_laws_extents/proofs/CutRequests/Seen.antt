@@ -3,6 +3,7 @@ use Rattle.std.proofs.Common.{◌≡◌, ℕ, ◌+◌, ◌⊎◌, Bool, true, fa
 use Rattle.std.specs.Prelude.{Result, length}
 use Rattle.st_base.specs.declared.ids.ClientId.{ClientId}
 use Rattle.st_base.specs.declared.ids.ServerId.{ServerId}
+use Rattle.st_base.specs.declared.ids.Stamp.{Stamp}
 use Rattle.st_base.specs.declared.ids.NodeId.{NodeId}
 use Rattle.st_base.specs.declared.ids.NodeId.TheVariants as nodes
 use Rattle.st_messages.specs.declared.message.Message.{Message}
@@ -50,7 +51,7 @@ use Rattle.st_laws_extents.proofs.CutRequests.Cutting.{step_cuts, tick_cuts}
 abbrev Known : (FileId → PageNo → Type 0) → List Observation → Type 0
 Known P os = (index : ℕ) (f : FileId) (p : PageNo) → Has (seen.CutAt index f p) os → P f p
 
-none : (P : FileId → PageNo → Type 0) → Known P []
+pub none : (P : FileId → PageNo → Type 0) → Known P []
 none P index f p h = absurd h
 
 one_more : (P : FileId → PageNo → Type 0) (os : List Observation) (o : Observation) → ((index : ℕ) (f : FileId) (p : PageNo) → seen.CutAt index f p ≡ o → P f p) → Known P os → Known P (os ++ o ∷ [])
@@ -139,14 +140,24 @@ module _ (P : FileId → PageNo → Type 0) where
       note x c = h
   server_one s o sc c h = h
 
-  server_all : (s : ServerId) (os : List Output) (sc : WorldTurn) → ((f : FileId) (p : PageNo) → Has (outputs.Note (notes.CutDone f p)) os → P f p) → K sc → K (ev.server_says_all s os sc)
+  pub server_all : (s : ServerId) (os : List Output) (sc : WorldTurn) → ((f : FileId) (p : PageNo) → Has (outputs.Note (notes.CutDone f p)) os → P f p) → K sc → K (ev.server_says_all s os sc)
   unfolding ev.server_says_all
   server_all s [] sc c h = h
   server_all s (o ∷ os) sc c h = server_all s os (ev.server_says sc s o) (λ f p i. c f p (inr i)) (server_one s o sc (λ f p e. c f p (inl e)) h)
 
+-- an event that is the step of a server
+pub record ServedStep (w : World) (sc : WorldTurn) : Type 0 where
+  pub who : ServerId
+  pub state : server.ServerState
+  pub now : Stamp
+  pub input : ServerInput
+  pub start : WorldTurn
+  pub empty : start.seen ≡ []
+  pub is : sc ≡ ev.server_says_all who (server_step state now input).out start
+
 -- each cut that is observed is of a server, in a step that leaves the clients and the clocks
 abbrev CutThere : World → WorldTurn → Type 0
-CutThere w sc = Known (λ f p. CutIn w f p × Unmoved w sc.world) sc.seen
+CutThere w sc = Known (λ f p. CutIn w f p × Unmoved w sc.world × ServedStep w sc) sc.seen
 
 -- Every event.
 module _ (w : World) where
@@ -161,8 +172,8 @@ module _ (w : World) where
 
       go : (x : Bool) → node.running ≡ x → CutThere w (ev.server_took w s (if x then Ok (server.node_turn node t) else Err Crashed))
       go false r = quiet _ w
-      go true r = server_all (λ f p. CutIn w f p × Unmoved w (ev.server_says_all s t.out (ev.quiet (ev.with_node s (server.node_turn node t).node w))).world) s t.out (ev.quiet (ev.with_node s (server.node_turn node t).node w))
-          (λ f p h. (k node refl r f p h, let y = all_parts s t.out (ev.quiet (ev.with_node s (server.node_turn node t).node w)) in record { clients = y.clients; clocks = y.clocks })) (none _)
+      go true r = server_all (λ f p. CutIn w f p × Unmoved w (ev.server_says_all s t.out (ev.quiet (ev.with_node s (server.node_turn node t).node w))).world × ServedStep w (ev.server_says_all s t.out (ev.quiet (ev.with_node s (server.node_turn node t).node w)))) s t.out (ev.quiet (ev.with_node s (server.node_turn node t).node w))
+          (λ f p h. (k node refl r f p h, let y = all_parts s t.out (ev.quiet (ev.with_node s (server.node_turn node t).node w)) in record { clients = y.clients; clocks = y.clocks }, record { who = s; state = node.state; now = clock_of w (nodes.Server s); input = input; start = ev.quiet (ev.with_node s (server.node_turn node t).node w); empty = refl; is = refl })) (none _)
 
   module _ (ids : (s : ServerId) (n : ServerNode) → node_of w s ≡ Some n → n.state.id ≡ s) where
     by_message : (s : ServerId) (m : Message) → Has m (messages w) → (n : ServerNode) → node_of w s ≡ Some n → n.running ≡ true → (f : FileId) (p : PageNo) →
@@ -221,4 +232,9 @@ module _ (w : World) where
 
 -- Each cut that a step logs is of a server because of a message.
 pub cuts_known : (w : World) (e : Event) (sc : WorldTurn) → ((s : ServerId) (n : ServerNode) → node_of w s ≡ Some n → n.state.id ≡ s) → world_step w e ≡ Ok sc → (index : ℕ) (f : FileId) (p : PageNo) → Has (seen.CutAt index f p) sc.seen → CutIn (ev.counted w) f p × Unmoved (ev.counted w) sc.world
-cuts_known w e sc ids h index f p i = let z = step_happens w e sc h in subst (λ (x : WorldTurn). CutThere (ev.counted w) x) (sym z.1) (happens (ev.counted w) ids e) index f p i
+cuts_known w e sc ids h index f p i =
+    let z = step_happens w e sc h in let y = subst (λ (x : WorldTurn). CutThere (ev.counted w) x) (sym z.1) (happens (ev.counted w) ids e) index f p i in (y.0, y.1)
+
+-- and it is the step of that server
+pub cuts_served : (w : World) (e : Event) (sc : WorldTurn) → ((s : ServerId) (n : ServerNode) → node_of w s ≡ Some n → n.state.id ≡ s) → world_step w e ≡ Ok sc → (index : ℕ) (f : FileId) (p : PageNo) → Has (seen.CutAt index f p) sc.seen → ServedStep (ev.counted w) sc
+cuts_served w e sc ids h index f p i = let z = step_happens w e sc h in (subst (λ (x : WorldTurn). CutThere (ev.counted w) x) (sym z.1) (happens (ev.counted w) ids e) index f p i).2

@@ -1,0 +1,5 @@
+use Rattle.st_laws_cuts.proofs.Acknowledged.{law}
+use Rattle.st_laws_cuts.proofs.cuts_are_acknowledged.Goals as goal
+
+pub returns : goal.returns
+returns c = law
