@@ -3,6 +3,9 @@ pub mod CutAsks
 pub mod Faults
 pub mod Grants
 pub mod Held
+pub mod NameAnswers
+pub mod NameChanges
+pub mod NamesOnce
 pub mod Numbers
 pub mod Losses
 pub mod Safe
