@@ -7,6 +7,7 @@ use Rattle.st_base.specs.declared.ids.ServerId.{ServerId}
 use Rattle.st_base.specs.declared.ids.NodeId.{NodeId}
 use Rattle.st_base.specs.declared.ids.NodeId.TheVariants as nodes
 use Rattle.st_messages.specs.declared.ask.Ask.{Ask}
+use Rattle.st_messages.specs.declared.message.Body.{Body}
 use Rattle.st_messages.specs.declared.message.Body.TheVariants as bodies
 use Rattle.st_messages.specs.declared.message.Message.{Message}
 use Rattle.st_messages.specs.declared.event.Event.{Event}
@@ -38,7 +39,7 @@ use Rattle.st_laws_leases.specs.Dates.Dates.{message_in, messages}
 use Rattle.st_laws_leases.proofs.Dates.Leaving.{Leaves, client_leaves, leaves_from, lost_same, server_leaves}
 use Rattle.st_laws_requests.specs.Cuts.Cuts.{KeptState}
 use Rattle.st_laws_requests.proofs.Cuts.Seen.{AnswersOf, NoAnswers, answered_said, fates_none, none_answered, server_none}
-use Rattle.st_laws_requests.proofs.Cuts.Server.{Acks, Good, served}
+use Rattle.st_laws_requests.proofs.Cuts.Server.{Before, O, before_more, served}
 use Rattle.st_laws_requests.proofs.Replies.EachEvent.{ClientTook, SiteAfter}
 
 -- a message that was there before, or is of a server
@@ -71,19 +72,20 @@ begun site = record { operations = refl; associations = λ b h. one b (has_map c
 
 -- what a server sends is its own
 its_own : (s : ServerId) (node : ServerNode) (i : ServerInput) (t : World) → node.state.id ≡ s → (m : Message) → Has (outputs.Send m) (server.server_step node.state (clock_of (ev.counted t) (nodes.Server s)) i).out → m.header.from ≡ server_node s
-its_own s node i t e m h = (k.sent m h).0
+its_own s node i t e m h = ((served s node.state.stable.epoch i node.state.stable.names Old node.state (clock_of (ev.counted t) (nodes.Server s)) begins).1.acks.sent m h).0
   where
-    Old : ClientId → ℕ → ℕ → Type 0
-    Old c life number = Unit {0}
+    Old : ClientId → ℕ → ℕ → Body → Type 0
+    Old c life number b = Unit {0}
 
-    kept : (c : ClientId) (life : ℕ) (x : SessionState) → KeptState (Good s node.state.stable.epoch i Old [] c life) x
-    kept c life (states.Live last (Some bodies.Ack)) = inl tt
+    kept : (c : ClientId) (life : ℕ) (x : SessionState) → KeptState (Old c life) x
+    kept c life (states.Live last (Some bodies.Ack)) = tt
+    kept c life (states.Live last (Some (bodies.Named r))) = tt
     kept c life (states.Live last (Some b)) = tt
     kept c life (states.Live last None) = tt
     kept c life states.Ended = tt
 
-    k : Acks s node.state.stable.epoch i Old (server.server_step node.state (clock_of (ev.counted t) (nodes.Server s)) i)
-    k = served s node.state.stable.epoch i Old node.state (clock_of (ev.counted t) (nodes.Server s)) (record { id = e; epoch = refl; kept = λ c x h. kept c x.life.0 x.state; sent = λ y h. absurd h })
+    begins : O s node.state.stable.epoch (Before s node.state.stable.epoch i node.state.stable.names Old) (before_more s node.state.stable.epoch i node.state.stable.names Old) node.state.stable.names (server.turn node.state [])
+    begins = record { acks = record { id = e; epoch = refl; kept = λ c x h. kept c x.life.0 x.state; sent = λ y h. absurd h }; names = refl }
 
 module _ (t : World) (ids : (s : ServerId) (node : ServerNode) → node_of t s ≡ Some node → node.state.id ≡ s) (R : WorldTurn → Type 0)
     (quiet : (sc : WorldTurn) → sc.world.clients ≡ t.clients → OldOrServers t sc.world → NoAnswers sc.seen → R sc)

@@ -1,6 +1,7 @@
 pub mod Client
 pub mod Keeping
 pub mod Law
+pub mod Names
 pub mod Seen
 pub mod Server
 pub mod Step

@@ -12,6 +12,8 @@ use Rattle.st_base.specs.declared.ids.ServerId.{ServerId}
 use Rattle.st_base.specs.declared.ids.Stamp.{Stamp}
 use Rattle.st_base.specs.declared.mode.Mode.{Mode}
 use Rattle.st_base.specs.declared.mode.Mode.TheVariants as modes
+use Rattle.st_base.specs.declared.names.NameAsk.{NameAsk}
+use Rattle.st_base.specs.declared.names.NameAsk.TheVariants as asked
 use Rattle.st_messages.specs.declared.answer.AppAnswer.{AppAnswer}
 use Rattle.st_messages.specs.declared.answer.AppAnswer.TheVariants as answers
 use Rattle.st_messages.specs.declared.ask.Ask.{Ask}
@@ -54,10 +56,10 @@ use Rattle.st_rules.specs.Keys.{server_node}
 use Rattle.st_lemmas.specs.Lists.{Has}
 use Rattle.st_lemmas.proofs.Lookups.{some_is}
 use Rattle.st_lemmas.proofs.Tables.{and_true, has_append, has_filter, has_map, not_true}
-use Rattle.st_laws_requests.specs.Cuts.Cuts.{AsksFor, Between, Counts, Given, Keyed, Placed, SameBody, Waits, WaitsAt, view}
-use Rattle.st_laws_requests.proofs.Cuts.Keeping.{Base, C, CIn, Free, K, Okay, Plain, Sent, W, WIn, Whole, asked_of, b_answers, b_fewer, b_more, b_say, free_all, freed, has_middle, if_both, if_case, into, is_free, no_acquire, no_map, no_reassert, only_own, w_answers, w_condemn, w_extents, w_fewer, w_granted, w_of_other, w_queued, w_reasserted, w_refused, w_removed, w_say, w_view, w_without}
+use Rattle.st_laws_requests.specs.Cuts.Cuts.{AsksFor, Between, Counts, Given, Keyed, MeansNone, Placed, SameBody, Waits, WaitsAt, is_report, view}
+use Rattle.st_laws_requests.proofs.Cuts.Keeping.{Answers, Base, C, CIn, Free, K, Okay, Plain, SaidOf, Sent, W, WIn, Whole, asked_of, b_fewer, b_more, b_say, free_all, freed, has_middle, if_both, if_case, into, is_free, no_acquire, no_map, no_reassert, only_own, said_of, w_answers, w_condemn, w_extents, w_fewer, w_granted, w_of_other, w_queued, w_reasserted, w_refused, w_removed, w_say, w_view, w_without}
 
-module _ (M : List Message) (c : ClientId) (Known : ℕ → Ask → Type 0) (Before : ServerId → ℕ → ℕ → ℕ → ℕ → Type 0) (Done : ℕ → Ask → Type 0) where
+module _ (M : List Message) (c : ClientId) (Known : ℕ → Ask → Type 0) (Before : ServerId → ℕ → ℕ → ℕ → ℕ → Type 0) (Done : ℕ → Ask → AppAnswer → Type 0) where
   module _ (s : ServerId) (B : List Operation) (out0 : List Output) where
     -- Requests.
     -- what a new message does to the numbers
@@ -71,7 +73,7 @@ module _ (M : List Message) (c : ClientId) (Known : ℕ → Ask → Type 0) (Bef
           others = b.others;
           numbers = record { lives = λ m h u. lives m (which m h) u; placed = λ m h u. placed m (which m h) u; counts = counts };
           sent = λ m h. sends m (has_append out (outputs.Send x ∷ []) (outputs.Send m) h);
-          said = λ op h. says op (has_append out (outputs.Send x ∷ []) (outputs.Answer op answers.Cut) h);
+          said = λ op a h. says op a (has_append out (outputs.Send x ∷ []) (outputs.Answer op a) h);
         }
       where
         same : (m y : Message) → outputs.Send m ≡ outputs.Send y → m ≡ y
@@ -99,10 +101,10 @@ module _ (M : List Message) (c : ClientId) (Known : ℕ → Ask → Type 0) (Bef
         sends m (inr (inl e)) = inr (subst (Between c sv) (sym (same m x e)) t)
         sends m (inr (inr i)) = absurd i
 
-        says : (op : ℕ) → Has (outputs.Answer op answers.Cut) out ⊎ Has (outputs.Answer op answers.Cut) (outputs.Send x ∷ []) → (ask : Ask) × Known op ask × Done op ask
-        says op (inl h) = b.said op h
-        says op (inr (inl e)) = cc e
-        says op (inr (inr i)) = absurd i
+        says : (op : ℕ) (a : AppAnswer) → Has (outputs.Answer op a) out ⊎ Has (outputs.Answer op a) (outputs.Send x ∷ []) → (SaidOf M c Known Before Done) op a
+        says op a (inl h) = b.said op a h
+        says op a (inr (inl e)) = cc e
+        says op a (inr (inr i)) = absurd i
 
     -- a message of a turn
     abbrev message : Turn → ℕ → ℕ → ℕ → Body → Message
@@ -180,12 +182,25 @@ module _ (M : List Message) (c : ClientId) (Known : ℕ → Ask → Type 0) (Bef
           cut false ino m p q = cc
           cut true ino m p q = sym (ap (λ (z : cp.Wanted). z.body) (some_is q))
 
+          -- a remove of a file does not mean a directory
+          means : (k : NameAsk) (ino : ℕ) (g : GrantNo) → cs.file_of_name k ≡ Some ino → MeansNone k g
+          means (asked.Remove dir x n) ino g i = λ z. no (n == 0) (eq-eqb n 0 z) i
+            where
+              no : {A : Type 0} (b : Bool) → b ≡ true → (if b then None else Some n) ≡ Some ino → A
+              no true e q = cc
+              no false e q = cc e
+          means k ino g i = tt
+
+          means_none : (k : NameAsk) → MeansNone k locks.no_grant
+          means_none (asked.Remove dir x n) = λ z. refl
+          means_none k = tt
+
           held : (a : Ask) (ino : ℕ) (g : GrantNo) → cs.file_of a ≡ Some ino → cp.want_held t a ino g ≡ Some w → AsksFor a w.body
           held (asks.Read f p) ino g i q = absurd (lent _ _ q)
           held (asks.Write f p bytes) ino g i q = absurd (lent _ _ q)
           held (asks.Patch f p at bytes) ino g i q = absurd (lent _ _ q)
           held (asks.Cut f p) ino g i q = subst (AsksFor (asks.Cut f p)) (sym (cut _ ino _ p q)) (some_is i, refl)
-          held (asks.Name sv k) ino g i q = subst (AsksFor (asks.Name sv k)) (sym (cut _ ino _ _ q)) tt
+          held (asks.Name sv k) ino g i q = subst (AsksFor (asks.Name sv k)) (sym (cut _ ino _ _ q)) (g, refl, means k ino g i)
           held (asks.Sync f) ino g i q = cc
 
           under : (a : Ask) (ino : ℕ) (l : HeldLock) → cs.file_of a ≡ Some ino → (b : Bool) → (if b then cp.want_held t a ino l.g else cp.want_lock t x now ino (cp.need a)) ≡ Some w → AsksFor a w.body
@@ -197,7 +212,7 @@ module _ (M : List Message) (c : ClientId) (Known : ℕ → Ask → Type 0) (Bef
           by a ino (Some l) i q = under a ino l i _ q
 
           name : (a : Ask) → cp.want_name a ≡ Some w → AsksFor a w.body
-          name (asks.Name sv k) q = subst (AsksFor (asks.Name sv k)) (ap (λ (z : cp.Wanted). z.body) (some_is q)) tt
+          name (asks.Name sv k) q = subst (AsksFor (asks.Name sv k)) (ap (λ (z : cp.Wanted). z.body) (some_is q)) (locks.no_grant, refl, means_none k)
           name a q = cc q
 
           at : (a : Ask) (o : Option ℕ) → cs.file_of a ≡ o → cp.want_at t x now a o ≡ Some w → AsksFor a w.body
@@ -330,9 +345,9 @@ module _ (M : List Message) (c : ClientId) (Known : ℕ → Ask → Type 0) (Bef
           go (Some x) e = if_both (W M c Known Before Done s B out0) x.lease.condemned t _ w (w_requests_at t x now tick x.requests.asked refl ((into M c Known Before Done s B out0) t x e w) w)
 
       -- Replies.
-      module _ (now : Stamp) (m : Message) (Told : ServerId → Type 0)
-          (ends_cut : (sv : ServerId) → Told sv → (q : Request) (o : Operation) → server_of o.ask ≡ sv → 1 ≤ q.number → m.header.number ≡ q.number → AsksFor o.ask q.body → cs.is_acknowledged q.body ≡ true →
-          ((y : Message) → Has y M → Keyed c sv m.header.life m.header.epoch q.number y → y.body ≡ q.body) → Before sv m.header.life m.header.epoch q.number o.op → Done o.op o.ask) where
+      module _ (now : Stamp) (m : Message) (Told : Body → ServerId → Type 0)
+          (ends : (sv : ServerId) (b : Body) (a : AppAnswer) → Told b sv → Answers b a → (q : Request) (o : Operation) → server_of o.ask ≡ sv → 1 ≤ q.number → m.header.number ≡ q.number → AsksFor o.ask q.body → cs.fits b q.body ≡ true →
+          ((y : Message) → Has y M → Keyed c sv m.header.life m.header.epoch q.number y → y.body ≡ q.body) → Before sv m.header.life m.header.epoch q.number o.op → Done o.op o.ask a) where
         abbrev h : Header
         h = m.header
 
@@ -371,10 +386,10 @@ module _ (M : List Message) (c : ClientId) (Known : ℕ → Ask → Type 0) (Bef
         none_for : (t : Turn) (x : ClientSession) (q : Request) → x.requests.asked ≡ Some q → (WIn M c Known Before Done s B out0) t x → (cs.asks_cut_or_name q.body ≡ true → ⊥) → (Free M c Known Before Done) t.here.server t.operations
         none_for t x q e w f o i a = f (only_own o.ask q.body (subst (λ r. WaitsAt Before t.here.server t.here.life.0 x.epoch.0 r o) e (w.waits o i a)).0)
 
-        -- `cut` is said of each that waits
-        said_cut : (t : Turn) (x : ClientSession) (q : Request) → x.requests.asked ≡ Some q → (WIn M c Known Before Done s B out0) t x → Told t.here.server → h.life ≡ t.here.life.0 → h.epoch ≡ x.epoch.0 → h.number ≡ q.number → cs.is_acknowledged q.body ≡ true →
-            (o : Operation) → Has o t.operations → cs.is_asked t.here.server o ≡ true → Done o.op o.ask
-        said_cut t x q e w told lf ep nm ack o i a = ends_cut t.here.server told q o of given.0 nm waits.0 ack bodies_same (subst (λ n. Before t.here.server n h.epoch q.number o.op) (sym lf) (subst (λ n. Before t.here.server t.here.life.0 n q.number o.op) (sym ep) waits.1))
+        -- what a report answers is done for each that waits
+        is_done : (t : Turn) (x : ClientSession) (q : Request) (b : Body) (answer : AppAnswer) → Answers b answer → x.requests.asked ≡ Some q → (WIn M c Known Before Done s B out0) t x → Told b t.here.server → h.life ≡ t.here.life.0 → h.epoch ≡ x.epoch.0 → h.number ≡ q.number →
+            cs.fits b q.body ≡ true → (o : Operation) → Has o t.operations → cs.is_asked t.here.server o ≡ true → Done o.op o.ask answer
+        is_done t x q b answer its e w told lf ep nm fit o i a = ends t.here.server b answer told its q o of given.0 nm waits.0 fit bodies_same (subst (λ n. Before t.here.server n h.epoch q.number o.op) (sym lf) (subst (λ n. Before t.here.server t.here.life.0 n q.number o.op) (sym ep) waits.1))
           where
             waits : AsksFor o.ask q.body × Before t.here.server t.here.life.0 x.epoch.0 q.number o.op
             waits = subst (λ r. WaitsAt Before t.here.server t.here.life.0 x.epoch.0 r o) e (w.waits o i a)
@@ -392,35 +407,36 @@ module _ (M : List Message) (c : ClientId) (Known : ℕ → Ask → Type 0) (Bef
                 (subst (λ r. SameBody r y) e ((w.base.numbers.placed y (inl j) k.between (k.of_life ∙ lf) (omega (arith, g, u))).same (k.of_epoch ∙ ep))) k.under
 
         -- What a reply does, besides ending the request.
-        w_acknowledged : (u : Turn) → (C M c Known Before Done s B out0) u → ((o : Operation) → Has o u.operations → cs.is_asked u.here.server o ≡ true → Done o.op o.ask) → (W M c Known Before Done s B out0) (cr.acknowledged u)
-        unfolding cr.acknowledged cs.answer_each
-        w_acknowledged u b f =
+        w_told : (u : Turn) (answer : AppAnswer) → (C M c Known Before Done s B out0) u → ((o : Operation) → Has o u.operations → cs.is_asked u.here.server o ≡ true → Done o.op o.ask answer) →
+            (W M c Known Before Done s B out0) (cs.answer_each (cs.is_asked u.here.server) answer u)
+        unfolding cs.answer_each
+        w_told u answer b f =
             record {
               base = (b_more M c Known Before Done s B out0) u.id u.here.server u.here.life.0 (view u.here.session) _ u.out _ okay
                   ((b_fewer M c Known Before Done s B out0) u.id u.here.server u.here.life.0 (view u.here.session) u.operations _ u.out (λ o i. (has_filter _ u.operations o i).0) b);
-              waits = λ o i a. absurd ((freed M c Known Before Done s B out0) u answers.Cut o i a);
+              waits = λ o i a. absurd ((freed M c Known Before Done s B out0) u answer o i a);
             }
           where
-            okay : (x : Output) → Has x (map (answer_to answers.Cut) (filter (cs.is_asked u.here.server) u.operations)) → (Okay M c Known Before Done) u.here.server u.here.life.0 x
+            okay : (x : Output) → Has x (map (answer_to answer) (filter (cs.is_asked u.here.server) u.operations)) → (Okay M c Known Before Done) u.here.server u.here.life.0 x
             okay x i =
-                let z = has_map (answer_to answers.Cut) _ x i in
+                let z = has_map (answer_to answer) _ x i in
                 let y = has_filter (cs.is_asked u.here.server) u.operations z.0 z.1 in
-                subst ((Okay M c Known Before Done) u.here.server u.here.life.0) (sym z.2) (z.0.ask, b.asked z.0 y.0, f z.0 y.0 y.1)
+                subst ((Okay M c Known Before Done) u.here.server u.here.life.0) (sym z.2) ((said_of M c Known Before Done) z.0.op answer (z.0.ask, b.asked z.0 y.0, f z.0 y.0 y.1))
 
-        named_plain : (r : NameReply) → (Plain M c Known Before Done s B out0) (cr.name_answer r)
-        named_plain (replies.Ino ino) op = tt
-        named_plain (replies.Listed rows) op = tt
-        named_plain (replies.Refused code) op = tt
+        w_acknowledged : (u : Turn) → (C M c Known Before Done s B out0) u → ((o : Operation) → Has o u.operations → cs.is_asked u.here.server o ≡ true → Done o.op o.ask answers.Cut) → (W M c Known Before Done s B out0) (cr.acknowledged u)
+        unfolding cr.acknowledged
+        w_acknowledged u b f = w_told u answers.Cut b f
 
-        w_named : (u : Turn) (x : ClientSession) (file : Option ℕ) (r : NameReply) → u.here.session ≡ Some x → (C M c Known Before Done s B out0) u → (W M c Known Before Done s B out0) (cr.named u x file r)
+        w_named : (u : Turn) (x : ClientSession) (file : Option ℕ) (r : NameReply) → u.here.session ≡ Some x → (C M c Known Before Done s B out0) u →
+            ((o : Operation) → Has o u.operations → cs.is_asked u.here.server o ≡ true → Done o.op o.ask (cr.name_answer r)) → (W M c Known Before Done s B out0) (cr.named u x file r)
         unfolding cr.named cr.named_as cs.answer_each
-        w_named u x file r e b = by r
+        w_named u x file r e b f = by r
           where
             v : Turn
             v = cs.answer_each (cs.is_asked u.here.server) (cr.name_answer r) u
 
             all : (W M c Known Before Done s B out0) v
-            all = record { base = (b_answers M c Known Before Done s B out0) u _ _ (named_plain r) b; waits = λ o i a. absurd ((freed M c Known Before Done s B out0) u (cr.name_answer r) o i a) }
+            all = w_told u (cr.name_answer r) b f
 
             by : (r2 : NameReply) → (W M c Known Before Done s B out0) (cr.named_as v x file r2)
             by (replies.Ino ino) = (w_removed M c Known Before Done s B out0) v x file all ((into M c Known Before Done s B out0) v x e all)
@@ -428,7 +444,7 @@ module _ (M : List Message) (c : ClientId) (Known : ℕ → Ask → Type 0) (Bef
             by (replies.Refused code) = all
 
         w_effect : (t u : Turn) (x y : ClientSession) (q : Request) (b : Body) (file : Option ℕ) → x.requests.asked ≡ Some q → (WIn M c Known Before Done s B out0) t x → u.here ≡ record t.here { session = Some y } → u.operations ≡ t.operations → (C M c Known Before Done s B out0) u →
-            cs.fits b q.body ≡ true → (b ≡ bodies.Ack → Told t.here.server) → h.life ≡ t.here.life.0 → h.epoch ≡ x.epoch.0 → h.number ≡ q.number → (W M c Known Before Done s B out0) (cr.effect u y now b file q.body)
+            cs.fits b q.body ≡ true → (is_report b ≡ true → Told b t.here.server) → h.life ≡ t.here.life.0 → h.epoch ≡ x.epoch.0 → h.number ≡ q.number → (W M c Known Before Done s B out0) (cr.effect u y now b file q.body)
         unfolding cr.effect
         w_effect t u x y q b file e w here ops base fit told lf ep nm = go b fit told
           where
@@ -447,27 +463,27 @@ module _ (M : List Message) (c : ClientId) (Known : ℕ → Ask → Type 0) (Bef
             whole_in : (cs.asks_cut_or_name q.body ≡ true → ⊥) → (WIn M c Known Before Done s B out0) u y
             whole_in f = (into M c Known Before Done s B out0) u y session (whole f)
 
-            cut : Told t.here.server → cs.is_acknowledged q.body ≡ true → (o : Operation) → Has o u.operations → cs.is_asked u.here.server o ≡ true → Done o.op o.ask
-            cut k ack o i a = said_cut t x q e w k lf ep nm ack o (subst (Has o) ops i) (subst (λ z. cs.is_asked z o ≡ true) (sym same_server) a)
+            done : (b : Body) (answer : AppAnswer) → Answers b answer → Told b t.here.server → cs.fits b q.body ≡ true → (o : Operation) → Has o u.operations → cs.is_asked u.here.server o ≡ true → Done o.op o.ask answer
+            done b answer its k fit o i a = is_done t x q b answer its e w k lf ep nm fit o (subst (Has o) ops i) (subst (λ z. cs.is_asked z o ≡ true) (sym same_server) a)
 
-            go : (b : Body) → cs.fits b q.body ≡ true → (b ≡ bodies.Ack → Told t.here.server) → (W M c Known Before Done s B out0) (cr.effect u y now b file q.body)
+            go : (b : Body) → cs.fits b q.body ≡ true → (is_report b ≡ true → Told b t.here.server) → (W M c Known Before Done s B out0) (cr.effect u y now b file q.body)
             go (bodies.Granted ino g mode) f k = (w_granted M c Known Before Done s B out0) u y ino g mode (whole_in (no_acquire ino q.body f))
             go (bodies.Queued ino mode) f k = (w_queued M c Known Before Done s B out0) u y now ino mode (whole_in (no_acquire ino q.body f))
             go (bodies.Extents ino rows) f k = (w_extents M c Known Before Done s B out0) u y ino rows q.body (whole (no_map ino q.body f))
-            go bodies.Ack f k = w_acknowledged u base (cut (k refl) f)
-            go (bodies.Named reply) f k = w_named u y file reply session base
+            go bodies.Ack f k = w_acknowledged u base (done bodies.Ack answers.Cut refl (k refl) f)
+            go (bodies.Named reply) f k = w_named u y file reply session base (done (bodies.Named reply) (cr.name_answer reply) refl (k refl) f)
             go bodies.Reasserted f k = (w_reasserted M c Known Before Done s B out0) u y (whole_in (no_reassert q.body f))
             go (bodies.Nack z a b) f k = (w_refused M c Known Before Done s B out0) u z a b file q.body base
             go b f k = cc f
 
-        w_reply_to : (t : Turn) (x : ClientSession) (q : Request) (stamp : Stamp) (b : Body) → x.requests.asked ≡ Some q → (WIn M c Known Before Done s B out0) t x → cs.fits b q.body ≡ true → (b ≡ bodies.Ack → Told t.here.server) → h.life ≡ t.here.life.0 → h.epoch ≡ x.epoch.0 → h.number ≡ q.number →
+        w_reply_to : (t : Turn) (x : ClientSession) (q : Request) (stamp : Stamp) (b : Body) → x.requests.asked ≡ Some q → (WIn M c Known Before Done s B out0) t x → cs.fits b q.body ≡ true → (is_report b ≡ true → Told b t.here.server) → h.life ≡ t.here.life.0 → h.epoch ≡ x.epoch.0 → h.number ≡ q.number →
             (W M c Known Before Done s B out0) (cr.reply_to t x now stamp b q.body)
         unfolding cr.reply_to cr.end_request
         w_reply_to t x q stamp b e w fit told lf ep nm =
             let z = noted t x (cr.ended_by stamp x) stamp (b_ended t x stamp w.base) in
             w_effect t (with_session (cr.ended_by stamp x) (cr.note_renewal t x stamp)) x (cr.ended_by stamp x) q b (cs.file_asked x.cutting q.body) e w (ap (λ (a : Association). record a { session = Some (cr.ended_by stamp x) }) z.here) z.operations z.base fit told lf ep nm
 
-        w_reply : (t : Turn) (x : ClientSession) (b : Body) → t.here.session ≡ Some x → (W M c Known Before Done s B out0) t → (b ≡ bodies.Ack → Told t.here.server) → h.life ≡ t.here.life.0 → h.epoch ≡ x.epoch.0 → (W M c Known Before Done s B out0) (cr.reply_of t x now h b)
+        w_reply : (t : Turn) (x : ClientSession) (b : Body) → t.here.session ≡ Some x → (W M c Known Before Done s B out0) t → (is_report b ≡ true → Told b t.here.server) → h.life ≡ t.here.life.0 → h.epoch ≡ x.epoch.0 → (W M c Known Before Done s B out0) (cr.reply_of t x now h b)
         unfolding cr.reply_of cr.counted cr.by_request cr.count_reply
         w_reply t x b e w told lf ep = go x.requests.asked refl
           where
@@ -509,22 +525,22 @@ module _ (M : List Message) (c : ClientId) (Known : ℕ → Ask → Type 0) (Bef
             by demands.NotHeld = (w_view M c Known Before Done s B out0) t x (cr.release_unheld l ino g) (both (cr.has_release l ino g)) ((into M c Known Before Done s B out0) t x e w)
             by demands.Stale = w
 
-        w_of_epoch : (t : Turn) (x : ClientSession) (b : Body) → t.here.session ≡ Some x → (W M c Known Before Done s B out0) t → (b ≡ bodies.Ack → Told t.here.server) → h.life ≡ t.here.life.0 → h.epoch ≡ x.epoch.0 → (W M c Known Before Done s B out0) (cr.of_epoch t x now h b)
+        w_of_epoch : (t : Turn) (x : ClientSession) (b : Body) → t.here.session ≡ Some x → (W M c Known Before Done s B out0) t → (is_report b ≡ true → Told b t.here.server) → h.life ≡ t.here.life.0 → h.epoch ≡ x.epoch.0 → (W M c Known Before Done s B out0) (cr.of_epoch t x now h b)
         unfolding cr.of_epoch cr.grant_or_reply
         w_of_epoch t x (bodies.Nack y a b) e w told lf ep = w_nack t x y a b e w lf ep
         w_of_epoch t x (bodies.Granted ino g mode) e w told lf ep = if_both (W M c Known Before Done s B out0) (h.number == 0) _ _ ((w_granted M c Known Before Done s B out0) t x ino g mode ((into M c Known Before Done s B out0) t x e w)) (w_reply t x (bodies.Granted ino g mode) e w told lf ep)
         w_of_epoch t x (bodies.Demand ino g to) e w told lf ep = w_demand t x ino g to e w
         w_of_epoch t x b e w told lf ep = w_reply t x b e w told lf ep
 
-        w_with : (t : Turn) (x : ClientSession) (b : Body) → t.here.session ≡ Some x → (W M c Known Before Done s B out0) t → (b ≡ bodies.Ack → Told t.here.server) → h.life ≡ t.here.life.0 → (W M c Known Before Done s B out0) (cr.with_a_session t x now h b)
+        w_with : (t : Turn) (x : ClientSession) (b : Body) → t.here.session ≡ Some x → (W M c Known Before Done s B out0) t → (is_report b ≡ true → Told b t.here.server) → h.life ≡ t.here.life.0 → (W M c Known Before Done s B out0) (cr.with_a_session t x now h b)
         unfolding cr.with_a_session
         w_with t x b e w told lf = if_case (W M c Known Before Done s B out0) (h.epoch == x.epoch.0) _ _ (λ f. w_of_epoch t x b e w told lf (eqb-true h.epoch x.epoch.0 f)) (λ f. (w_of_other M c Known Before Done s B out0) t x _ b e w)
 
-        pub w_hear : (t : Turn) → (m.body ≡ bodies.Ack → (sv : ServerId) → h.from ≡ server_node sv → Told sv) → (W M c Known Before Done s B out0) t → (W M c Known Before Done s B out0) (cr.receive_at now h m.body t)
+        pub w_hear : (t : Turn) → (is_report m.body ≡ true → (sv : ServerId) → h.from ≡ server_node sv → Told m.body sv) → (W M c Known Before Done s B out0) t → (W M c Known Before Done s B out0) (cr.receive_at now h m.body t)
         unfolding cr.receive_at cr.by_session
         w_hear t told w = if_case (W M c Known Before Done s B out0) (cr.is_heard t now h) (cr.by_session t now h m.body t.here.session) t heard (λ f. w)
           where
-            by : (m.body ≡ bodies.Ack → Told t.here.server) → h.life ≡ t.here.life.0 → (o : Option ClientSession) → t.here.session ≡ o → (W M c Known Before Done s B out0) (cr.by_session t now h m.body o)
+            by : (is_report m.body ≡ true → Told m.body t.here.server) → h.life ≡ t.here.life.0 → (o : Option ClientSession) → t.here.session ≡ o → (W M c Known Before Done s B out0) (cr.by_session t now h m.body o)
             by k lf None e = (w_without M c Known Before Done s B out0) t now h m.body e w
             by k lf (Some x) e = w_with t x m.body e w k lf
 

@@ -70,15 +70,35 @@ has_middle k p [] ys h = inr h
 has_middle k p (x ∷ xs) ys (inl e) = inl e
 has_middle k p (x ∷ xs) ys (inr h) = inr (has_middle k p xs ys h)
 
-module _ (M : List Message) (c : ClientId) (Known : ℕ → Ask → Type 0) (Before : ServerId → ℕ → ℕ → ℕ → ℕ → Type 0) (Done : ℕ → Ask → Type 0) where
+-- which answer a report gives
+abbrev pub Answers : Body → AppAnswer → Type 0
+Answers bodies.Ack a = a ≡ answers.Cut
+Answers (bodies.Named reply) a = a ≡ cr.name_answer reply
+Answers b a = ⊥
+
+module _ (M : List Message) (c : ClientId) (Known : ℕ → Ask → Type 0) (Before : ServerId → ℕ → ℕ → ℕ → ℕ → Type 0) (Done : ℕ → Ask → AppAnswer → Type 0) where
   -- what was sent before the step, and in it so far
   abbrev pub Sent : List Output → Message → Type 0
   Sent out m = Has m M ⊎ Has (outputs.Send m) out
 
-  -- `cut` is said of a cut that was done
+  -- what is said of an ask was done
+  abbrev pub SaidAs : ℕ → AppAnswer → Type 0
+  SaidAs op a = (ask : Ask) × Known op ask × Done op ask a
+
+  -- `cut` is said of a cut that was done, and an answer of names of what they said
   abbrev pub SaidOf : ℕ → AppAnswer → Type 0
-  SaidOf op answers.Cut = (ask : Ask) × Known op ask × Done op ask
+  SaidOf op answers.Cut = SaidAs op answers.Cut
+  SaidOf op (answers.Named ino) = SaidAs op (answers.Named ino)
+  SaidOf op (answers.Listed rows) = SaidAs op (answers.Listed rows)
+  SaidOf op (answers.Refused code) = SaidAs op (answers.Refused code)
   SaidOf op a = Unit {0}
+
+  pub said_of : (op : ℕ) (a : AppAnswer) → SaidAs op a → SaidOf op a
+  said_of op answers.Cut s = s
+  said_of op (answers.Named ino) s = s
+  said_of op (answers.Listed rows) s = s
+  said_of op (answers.Refused code) s = s
+  said_of op a s = tt
 
   -- an output that is no request
   abbrev pub Okay : ServerId → ℕ → Output → Type 0
@@ -94,7 +114,7 @@ module _ (M : List Message) (c : ClientId) (Known : ℕ → Ask → Type 0) (Bef
     pub others : (o : Operation) → Has o ops → cs.is_of sv o ≡ false → Has o B
     pub numbers : Numbers (Sent out) c sv life v
     pub sent : (m : Message) → Has (outputs.Send m) out → Has (outputs.Send m) out0 ⊎ Between c sv m
-    pub said : (op : ℕ) → Has (outputs.Answer op answers.Cut) out → (ask : Ask) × Known op ask × Done op ask
+    pub said : (op : ℕ) (a : AppAnswer) → Has (outputs.Answer op a) out → SaidOf op a
 
   -- and who waits
   pub record Whole (s : ServerId) (B : List Operation) (out0 : List Output) (id : ClientId) (sv : ServerId) (life : ℕ) (v : Option (ℕ × Requests)) (ops : List Operation) (out : List Output) : Type 0 where
@@ -144,7 +164,7 @@ module _ (M : List Message) (c : ClientId) (Known : ℕ → Ask → Type 0) (Bef
           others = b.others;
           numbers = record { lives = λ m h t. lives m (which m h) t; placed = λ m h t. placed m v (which m h) t (b.numbers.placed m); counts = b.numbers.counts };
           sent = λ m h. sends m (has_append out os (outputs.Send m) h);
-          said = λ op h. says op (has_append out os (outputs.Answer op answers.Cut) h);
+          said = λ op a h. says op a (has_append out os (outputs.Answer op a) h);
         }
       where
         which : (m : Message) → Sent (out ++ os) m → Sent out m ⊎ Has (outputs.Send m) os
@@ -168,9 +188,9 @@ module _ (M : List Message) (c : ClientId) (Known : ℕ → Ask → Type 0) (Bef
         sends m (inl h) = b.sent m h
         sends m (inr h) = inr (k (outputs.Send m) h).0
 
-        says : (op : ℕ) → Has (outputs.Answer op answers.Cut) out ⊎ Has (outputs.Answer op answers.Cut) os → (ask : Ask) × Known op ask × Done op ask
-        says op (inl h) = b.said op h
-        says op (inr h) = k (outputs.Answer op answers.Cut) h
+        says : (op : ℕ) (a : AppAnswer) → Has (outputs.Answer op a) out ⊎ Has (outputs.Answer op a) os → SaidOf op a
+        says op a (inl h) = b.said op a h
+        says op a (inr h) = k (outputs.Answer op a) h
 
     pub one_okay : (sv : ServerId) (life : ℕ) (o : Output) → Okay sv life o → (x : Output) → Has x (o ∷ []) → Okay sv life x
     one_okay sv life o k x (inl e) = subst (Okay sv life) (sym e) k

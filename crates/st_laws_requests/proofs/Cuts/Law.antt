@@ -1,13 +1,12 @@
 -- Answers are logged: at the start, behind every event, and over whole runs.
-use Rattle.std.proofs.Common.{◌≡◌, ℕ, ◌+◌, ◌⊎◌, List, [], ◌∷◌, ◌++◌, Option, Some, None, Ok, refl, sym, subst, inl, inr, arith}
-use Rattle.std.specs.Prelude.{nat_le}
+use Rattle.std.proofs.Common.{◌≡◌, ℕ, ◌⊎◌, List, [], ◌∷◌, ◌++◌, Option, Some, None, Ok, refl, sym, subst, inl, inr, arith}
+use Rattle.std.specs.Prelude.{true, nat_le}
 use Rattle.std.proofs.lemmas.Bool.{leb-true}
 use Rattle.st_base.specs.declared.config.Config.{Config}
 use Rattle.st_base.specs.declared.ids.ClientId.{ClientId}
 use Rattle.st_base.specs.declared.ids.ServerId.{ServerId}
 use Rattle.st_messages.specs.declared.answer.AppAnswer.TheVariants as answers
 use Rattle.st_messages.specs.declared.event.Event.{Event}
-use Rattle.st_messages.specs.declared.message.Body.TheVariants as bodies
 use Rattle.st_messages.specs.declared.message.Message.{Message}
 use Rattle.st_rules.specs.declared.observation.Observation.{Observation}
 use Rattle.st_rules.specs.declared.observation.Observation.TheVariants as seen
@@ -28,8 +27,8 @@ use Rattle.st_laws_pages.proofs.Disks.Steps.{fates_law}
 use Rattle.st_laws_pages.proofs.Disks.Whole.{fresh_fates}
 use Rattle.st_laws_pages.specs.Asks.Law.{AreWrittenLogged, IsWrittenLogged, WrittenIsLogged}
 use Rattle.st_laws_pages.proofs.Asks.Law.{written_law}
-use Rattle.st_laws_requests.specs.Cuts.Cuts.{Acked, ClientOk, CutsHold, ServerOk}
-use Rattle.st_laws_requests.specs.Cuts.Law.{RunsLogAnswers, CutsAreLogged}
+use Rattle.st_laws_requests.specs.Cuts.Cuts.{Acked, ClientOk, CutsHold, ServerOk, is_report}
+use Rattle.st_laws_requests.specs.Cuts.Law.{RunsLogAnswers, CutsAreLogged, NamesAreSaid}
 use Rattle.st_laws_requests.proofs.Cuts.World.{Next, acked_more, happens}
 use Rattle.st_laws_pages.proofs.Lives.Fresh.{fresh_is, length_map, numbers_length}
 
@@ -71,9 +70,9 @@ next_holds past t e sc d q n =
     grown x (inr (inl r)) m i = n.old m (subst (λ (y : Step). Has m (messages y.before.world)) r i)
     grown x (inr (inr h)) m i = absurd h
 
-    acks : (m : Message) → Has m (messages t.world) ⊎ (m.body ≡ bodies.Ack → (s : ServerId) → m.header.from ≡ server_node s → Acked (past ++ step t e sc ∷ []) (messages sc.world) (client m.header.to) s m.header.life m.header.epoch m.header.number) →
-        m.body ≡ bodies.Ack → (s : ServerId) → m.header.from ≡ server_node s → Acked (past ++ step t e sc ∷ []) (messages sc.world) (client m.header.to) s m.header.life m.header.epoch m.header.number
-    acks m (inl h) ack s r = acked_more past (step t e sc) (messages t.world) (messages sc.world) n.old (client m.header.to) s m.header.life m.header.epoch m.header.number (d.acks m h ack s r)
+    acks : (m : Message) → Has m (messages t.world) ⊎ (is_report m.body ≡ true → (s : ServerId) → m.header.from ≡ server_node s → Acked (past ++ step t e sc ∷ []) (messages sc.world) (client m.header.to) s m.header.life m.header.epoch m.header.number m.body) →
+        is_report m.body ≡ true → (s : ServerId) → m.header.from ≡ server_node s → Acked (past ++ step t e sc ∷ []) (messages sc.world) (client m.header.to) s m.header.life m.header.epoch m.header.number m.body
+    acks m (inl h) ack s r = acked_more past (step t e sc) (messages t.world) (messages sc.world) n.old (client m.header.to) s m.header.life m.header.epoch m.header.number m.body (d.acks m h ack s r)
     acks m (inr f) ack s r = f ack s r
 
 pub one : (past : List Step) (t : Traced) (e : Event) (sc : WorldTurn) → CutsHold past t → world_step t.world e ≡ Ok sc → CutsAreLogged past (step t e sc) × CutsHold (past ++ step t e sc ∷ []) (traced_after e t sc)
@@ -81,6 +80,10 @@ one past t e sc d h = let z = step_happens t.world e sc h in go (subst (λ (x : 
   where
     go : Next past t e d sc → CutsAreLogged past (step t e sc) × CutsHold (past ++ step t e sc ∷ []) (traced_after e t sc)
     go n = (n.cuts, next_holds past t e sc d h n)
+
+-- what names say of a step
+pub said : (past : List Step) (t : Traced) (e : Event) (sc : WorldTurn) → CutsHold past t → world_step t.world e ≡ Ok sc → NamesAreSaid past (step t e sc)
+said past t e sc d h = let z = step_happens t.world e sc h in (subst (λ (x : WorldTurn). Next past t e d x) (sym z.1) (happens past t d e z.0)).names
 
 -- The start.
 fresh_client : (k : Config) (servers : ℕ) (c : ClientId) → ClientOk [] [] c (fresh_site k servers c.0)

@@ -8,7 +8,7 @@ use Rattle.st_base.specs.declared.ids.Stamp.{Stamp}
 use Rattle.st_messages.specs.declared.answer.AppAnswer.{AppAnswer}
 use Rattle.st_messages.specs.declared.answer.AppAnswer.TheVariants as answers
 use Rattle.st_messages.specs.declared.ask.Ask.{Ask}
-use Rattle.st_messages.specs.declared.message.Body.TheVariants as bodies
+use Rattle.st_messages.specs.declared.message.Body.{Body}
 use Rattle.st_messages.specs.declared.message.Message.{Message}
 use Rattle.st_messages.specs.declared.output.Output.{Output}
 use Rattle.st_messages.specs.declared.output.Output.TheVariants as outputs
@@ -25,9 +25,9 @@ use Rattle.st_rules.specs.Keys.{server_node}
 use Rattle.st_lemmas.specs.Lists.{Has}
 use Rattle.st_lemmas.proofs.Tables.{has_append, has_map_in}
 use Rattle.st_laws_steps.specs.Lives.Lives.{Once, server_number}
-use Rattle.st_laws_requests.specs.Cuts.Cuts.{AllWait, AsksFor, Between, Keyed, Numbers, view}
+use Rattle.st_laws_requests.specs.Cuts.Cuts.{AllWait, AsksFor, Between, Keyed, Numbers, is_report, view}
 use Rattle.st_laws_requests.proofs.Cuts.Client.{w_finish, w_hear, w_lose, w_passes, w_take}
-use Rattle.st_laws_requests.proofs.Cuts.Keeping.{Sent, Whole, asked_of}
+use Rattle.st_laws_requests.proofs.Cuts.Keeping.{Answers, SaidOf, Sent, Whole, asked_of}
 
 -- associations of servers that differ
 abbrev pub Onces : List Association → Type 0
@@ -47,7 +47,7 @@ onces_last (x ∷ xs) a o f = record { first = λ b h e. first b (has_append xs 
     first b (inr (inl q)) e = f x (inl refl) (e ∙ ap (λ (z : Association). z.server.0) q)
     first b (inr (inr i)) e = i
 
-module _ (M : List Message) (c : ClientId) (Known : ℕ → Ask → Type 0) (Before : ServerId → ℕ → ℕ → ℕ → ℕ → Type 0) (Done : ℕ → Ask → Type 0) where
+module _ (M : List Message) (c : ClientId) (Known : ℕ → Ask → Type 0) (Before : ServerId → ℕ → ℕ → ℕ → ℕ → Type 0) (Done : ℕ → Ask → AppAnswer → Type 0) where
   -- what stands at an association, within a step
   pub record At (ops : List Operation) (out : List Output) (a : Association) : Type 0 where
     pub numbers : Numbers (Sent M c Known Before Done out) c a.server a.life.0 (view a.session)
@@ -59,7 +59,7 @@ module _ (M : List Message) (c : ClientId) (Known : ℕ → Ask → Type 0) (Bef
     pub asked : (o : Operation) → Has o t.state.operations → Known o.op o.ask
     pub done : (a : Association) → Has a t.state.associations → At t.state.operations t.out a
     pub todo : (a : Association) → Has a rest → At t.state.operations t.out a
-    pub said : (op : ℕ) → Has (outputs.Answer op answers.Cut) t.out → (ask : Ask) × Known op ask × Done op ask
+    pub said : (op : ℕ) (a : AppAnswer) → Has (outputs.Answer op a) t.out → SaidOf M c Known Before Done op a
     pub from : (m : Message) → Has (outputs.Send m) t.out → m.header.from ≡ c.0
     pub once_done : Onces t.state.associations
     pub once_todo : Onces rest
@@ -151,14 +151,14 @@ module _ (M : List Message) (c : ClientId) (Known : ℕ → Ask → Type 0) (Bef
       (record { id_ = k.id_; asked = k.asked; done = λ a h. absurd h; todo = k.done; said = k.said; from = k.from; once_done = tt; once_todo = k.once_done; apart = λ a b h i e. absurd h })
 
   -- an answer at once
-  at_once : (t : ClientTurn) (op : ℕ) (a : AppAnswer) → (a ≡ answers.Cut → ⊥) → Held [] t → Held [] (cl.answered_at_once t op a)
+  at_once : (t : ClientTurn) (op : ℕ) (a : AppAnswer) → ((x : ℕ) → SaidOf M c Known Before Done x a) → Held [] t → Held [] (cl.answered_at_once t op a)
   at_once t op a n k =
       record {
         id_ = k.id_;
         asked = k.asked;
         done = λ b h. let z = k.done b h in record { numbers = record { lives = λ m i y. z.numbers.lives m (was m i) y; placed = λ m i y. z.numbers.placed m (was m i) y; counts = z.numbers.counts }; waits = z.waits };
         todo = λ b h. absurd h;
-        said = λ x h. says x (has_append t.out (outputs.Answer op a ∷ []) _ h);
+        said = λ x b h. says x b (has_append t.out (outputs.Answer op a ∷ []) _ h);
         from = λ m h. from m (has_append t.out (outputs.Answer op a ∷ []) _ h);
         once_done = k.once_done;
         once_todo = tt;
@@ -174,13 +174,13 @@ module _ (M : List Message) (c : ClientId) (Known : ℕ → Ask → Type 0) (Bef
           go (inr (inl e)) = cc e
           go (inr (inr i)) = absurd i
 
-      says : (x : ℕ) → Has (outputs.Answer x answers.Cut) t.out ⊎ Has (outputs.Answer x answers.Cut) (outputs.Answer op a ∷ []) → (ask : Ask) × Known x ask × Done x ask
-      says x (inl h) = k.said x h
-      says x (inr (inl e)) = absurd (n (same x e))
+      says : (x : ℕ) (b : AppAnswer) → Has (outputs.Answer x b) t.out ⊎ Has (outputs.Answer x b) (outputs.Answer op a ∷ []) → SaidOf M c Known Before Done x b
+      says x b (inl h) = k.said x b h
+      says x b (inr (inl e)) = subst (λ y. SaidOf M c Known Before Done x y) (sym (same e)) (n x)
         where
-          same : (x : ℕ) → outputs.Answer x answers.Cut ≡ outputs.Answer op a → a ≡ answers.Cut
-          same x e = cc
-      says x (inr (inr i)) = absurd i
+          same : outputs.Answer x b ≡ outputs.Answer op a → b ≡ a
+          same e = cc
+      says x b (inr (inr i)) = absurd i
 
       from : (m : Message) → Has (outputs.Send m) t.out ⊎ Has (outputs.Send m) (outputs.Answer op a ∷ []) → m.header.from ≡ c.0
       from m (inl h) = k.from m h
@@ -188,14 +188,14 @@ module _ (M : List Message) (c : ClientId) (Known : ℕ → Ask → Type 0) (Bef
       from m (inr (inr i)) = absurd i
 
   module _ (fresh : (sv : ServerId) (life epoch number op : ℕ) → ((m : Message) → Has m M → Keyed c sv life epoch number m → ⊥) → Before sv life epoch number op)
-      (Told : Message → ServerId → Type 0)
-      (ends_cut : (m : Message) (sv : ServerId) → Told m sv → (q : Request) (o : Operation) → server_of o.ask ≡ sv → 1 ≤ q.number → m.header.number ≡ q.number → AsksFor o.ask q.body → cs.is_acknowledged q.body ≡ true →
-      ((y : Message) → Has y M → Keyed c sv m.header.life m.header.epoch q.number y → y.body ≡ q.body) → Before sv m.header.life m.header.epoch q.number o.op → Done o.op o.ask) where
+      (Told : Message → Body → ServerId → Type 0)
+      (ends : (m : Message) (sv : ServerId) (b : Body) (a : AppAnswer) → Told m b sv → Answers b a → (q : Request) (o : Operation) → server_of o.ask ≡ sv → 1 ≤ q.number → m.header.number ≡ q.number → AsksFor o.ask q.body → cs.fits b q.body ≡ true →
+      ((y : Message) → Has y M → Keyed c sv m.header.life m.header.epoch q.number y → y.body ≡ q.body) → Before sv m.header.life m.header.epoch q.number o.op → Done o.op o.ask a) where
     -- what an input tells
     abbrev pub InputOk : ClientInput → Type 0
     InputOk inputs.Tick = Unit {0}
     InputOk (inputs.App op ask) = Known op ask
-    InputOk (inputs.Control m) = m.body ≡ bodies.Ack → (sv : ServerId) → m.header.from ≡ server_node sv → Told m sv
+    InputOk (inputs.Control m) = is_report m.body ≡ true → (sv : ServerId) → m.header.from ≡ server_node sv → Told m m.body sv
     InputOk (inputs.Done number result) = Unit {0}
 
     if_held : (b : Bool) (t u : ClientTurn) → Held [] t → Held [] u → Held [] (if b then t else u)
@@ -206,10 +206,10 @@ module _ (M : List Message) (c : ClientId) (Known : ℕ → Ask → Type 0) (Bef
     unfolding cl.take_input cl.done cr.receive cr.receive_here cl.app cl.app_known
     taken t now inputs.Tick g k = k
     taken t now (inputs.App op ask) g k =
-        if_held (cl.is_full t.state) _ _ (at_once t op answers.OpsFull (λ e. cc e) k)
-        (if_held (cl.is_configured t.state (server_of ask)) _ _ (each (cs.only_at (server_of ask) (cl.take_ask op ask)) (λ s B out0 u w. w_take M c Known Before Done s B out0 op ask g u w) t k) (at_once t op answers.NoFile (λ e. cc e) k))
+        if_held (cl.is_full t.state) _ _ (at_once t op answers.OpsFull (λ x. tt) k)
+        (if_held (cl.is_configured t.state (server_of ask)) _ _ (each (cs.only_at (server_of ask) (cl.take_ask op ask)) (λ s B out0 u w. w_take M c Known Before Done s B out0 op ask g u w) t k) (at_once t op answers.NoFile (λ x. tt) k))
     taken t now (inputs.Control m) g k =
-        if_held (m.header.to == t.state.id.0) _ _ (each (cr.receive_at now m.header m.body) (λ s B out0 u w. w_hear M c Known Before Done s B out0 fresh now m (Told m) (ends_cut m) u g w) t k) k
+        if_held (m.header.to == t.state.id.0) _ _ (each (cr.receive_at now m.header m.body) (λ s B out0 u w. w_hear M c Known Before Done s B out0 fresh now m (Told m) (ends m) u g w) t k) k
     taken t now (inputs.Done number result) g k = each (cl.finish number result) (λ s B out0 u w. w_finish M c Known Before Done s B out0 number result u w) t k
 
     -- the whole step

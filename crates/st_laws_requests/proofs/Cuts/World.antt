@@ -7,15 +7,21 @@ use Rattle.st_base.specs.declared.ids.ClientId.{ClientId}
 use Rattle.st_base.specs.declared.ids.ServerId.{ServerId}
 use Rattle.st_base.specs.declared.ids.Stamp.{Stamp}
 use Rattle.st_base.specs.declared.ids.FileId.{FileId}
+use Rattle.st_base.specs.declared.ids.GrantNo.{GrantNo}
 use Rattle.st_base.specs.declared.ids.PageNo.{PageNo}
+use Rattle.st_base.specs.declared.names.NameAsk.{NameAsk}
 use Rattle.st_base.specs.declared.ids.NodeId.{NodeId}
 use Rattle.st_base.specs.declared.ids.NodeId.TheVariants as nodes
 use Rattle.st_messages.specs.declared.ask.Ask.{Ask}
 use Rattle.st_messages.specs.declared.ask.Ask.TheVariants as asks
+use Rattle.st_messages.specs.declared.answer.AppAnswer.{AppAnswer}
 use Rattle.st_messages.specs.declared.answer.AppAnswer.TheVariants as answers
 use Rattle.st_messages.specs.declared.message.Body.{Body}
 use Rattle.st_messages.specs.declared.message.Body.TheVariants as bodies
 use Rattle.st_messages.specs.declared.message.Message.{Message}
+use Rattle.st_messages.specs.declared.message.NameOp.{NameOp}
+use Rattle.st_messages.specs.declared.message.NameReply.{NameReply}
+use Rattle.st_messages.specs.declared.message.NameReply.TheVariants as replies
 use Rattle.st_messages.specs.declared.event.Event.{Event}
 use Rattle.st_messages.specs.declared.event.Event.TheVariants as events
 use Rattle.st_messages.specs.declared.output.Output.TheVariants as outputs
@@ -35,11 +41,14 @@ use Rattle.st_rules.specs.declared.world.SentMessage.{SentMessage}
 use Rattle.st_rules.specs.Keys.{client, server_node}
 use Rattle.st_rules.specs.Admissible as adm
 use Rattle.st_rules.specs.Client as cl
+use Rattle.st_rules.specs.ClientPasses.{name_op}
+use Rattle.st_rules.specs.ClientReplies.{name_answer}
 use Rattle.st_rules.specs.ClientState as cs
 use Rattle.st_rules.specs.ClientState.{Association, ClientTurn, client_turn}
 use Rattle.st_rules.specs.Events as ev
 use Rattle.st_rules.specs.Events.{WorldTurn, client_says_all, server_says_all}
 use Rattle.st_rules.specs.History.{Traced}
+use Rattle.st_rules.specs.Names.{Names}
 use Rattle.st_rules.specs.Server as server
 use Rattle.st_rules.specs.Server.{ServerNode}
 use Rattle.st_rules.specs.World as world
@@ -47,31 +56,35 @@ use Rattle.st_rules.specs.World.{World, ClientSite, site_of, node_of, numbered, 
 use Rattle.st_rules.specs.Safety as safety
 use Rattle.st_rules.specs.Safety.{Step, ask_in, ask_of_client, cuts_after, is_after_ask, is_cut_at, step, was_cut}
 use Rattle.st_lemmas.specs.Lists.{Has}
-use Rattle.st_lemmas.proofs.Numbers.{get_last, length_more, numbered_below, numbered_has, numbered_old, set_length}
+use Rattle.st_lemmas.proofs.Numbers.{get_last, length_more, numbered_below, numbered_has, numbered_old, numbered_own, set_length}
 use Rattle.st_lemmas.proofs.Tables.{and_both, has_append, has_map, has_map_in, some_passes}
 use Rattle.st_laws_leases.specs.Dates.Dates.{message_in, messages}
 use Rattle.st_laws_leases.proofs.Dates.Known.{has_left, has_right}
 use Rattle.st_laws_leases.proofs.Dates.Leaving.{Leaves, client_leaves, leaves_from, lost_same, server_leaves, server_not_client, set_cases}
 use Rattle.st_laws_pages.proofs.Asks.World.{asks_more}
 use Rattle.st_laws_steps.specs.Lives.Lives.{NodeHolds}
-use Rattle.st_laws_requests.specs.Cuts.Cuts.{Acked, AsksFor, Between, ClientOk, IsCutDone, CutsHold, Early, Fulfilled, KeptState, Keyed, Numbers, ServerOk, Waits, WaitsAt, asks_of, view}
-use Rattle.st_laws_requests.specs.Cuts.Law.{CutsAreLogged}
-use Rattle.st_laws_requests.proofs.Cuts.Keeping.{Sent}
+use Rattle.st_promises.specs.NameAnswers.{is_of_names, said}
+use Rattle.st_laws_requests.specs.Cuts.Cuts.{Acked, AsksFor, Between, ClientOk, IsCutDone, IsDone, IsNameDone, IsNameSaid, CutsHold, Early, Fulfilled, KeptState, Keyed, MeansNone, NameSaid, Numbers, ServerOk, Waits, WaitsAt, asks_of, does, is_report, view}
+use Rattle.st_laws_requests.specs.Cuts.Law.{CutsAreLogged, NameAskSaid, NamesAreSaid}
+use Rattle.st_laws_requests.proofs.Cuts.Keeping.{Answers, SaidOf, Sent}
 use Rattle.st_laws_requests.proofs.Cuts.Step.{Held, onces, stepped}
-use Rattle.st_laws_requests.proofs.Cuts.Server.{Acks, CutNoted, Good, New, served}
+use Rattle.st_laws_requests.proofs.Cuts.Server.{Acks, Before, Good, New, Noted, O, before_more, good_more, served}
 use Rattle.st_laws_requests.proofs.Cuts.Seen.{NoAnswers, none_answered, fates_none, server_none, cut_said, AnswerOf, answered_said}
 
 -- What stands for fewer steps and messages stands for more.
 module _ (past : List Step) (x : Step) (ms ns : List Message) (f : (m : Message) → Has m ms → Has m ns) where
-  done_more : (c : ClientId) (s : ServerId) (life epoch number : ℕ) (b : Body) → Fulfilled past c s life epoch number b → Fulfilled (past ++ x ∷ []) c s life epoch number b
-  done_more c s life epoch number (bodies.Cut ino g p) h = record { at = h.at; among = has_left past _ h.at h.among; index = h.index; cut = h.cut; by = h.by; before = h.before; is = h.is }
-  done_more c s life epoch number b h = h
+  done_more : (c : ClientId) (s : ServerId) (life epoch number : ℕ) (b r : Body) → Fulfilled past c s life epoch number b r → Fulfilled (past ++ x ∷ []) c s life epoch number b r
+  done_more c s life epoch number (bodies.Cut ino g p) bodies.Ack h = record { at = h.at; among = has_left past _ h.at h.among; index = h.index; cut = h.cut; by = h.by; before = h.before; is = h.is }
+  done_more c s life epoch number (bodies.Name op) (bodies.Named r) h =
+      record { at = h.at; among = has_left past _ h.at h.among; old = h.old; was = h.was; new = h.new; became = h.became; did = h.did; by = h.by; before = h.before; is = h.is }
+  done_more c s life epoch number b r h = tt
 
-  pub acked_more : (c : ClientId) (s : ServerId) (life epoch number : ℕ) → Acked past ms c s life epoch number → Acked (past ++ x ∷ []) ns c s life epoch number
-  acked_more c s life epoch number a = record { by = a.by; among = f a.by a.among; is = a.is; done = done_more c s life epoch number a.by.body a.done }
+  pub acked_more : (c : ClientId) (s : ServerId) (life epoch number : ℕ) (r : Body) → Acked past ms c s life epoch number r → Acked (past ++ x ∷ []) ns c s life epoch number r
+  acked_more c s life epoch number r a = record { by = a.by; among = f a.by a.among; is = a.is; done = done_more c s life epoch number a.by.body r a.done }
 
-state_map : (A B : ℕ → Type 0) → ((n : ℕ) → A n → B n) → (x : SessionState) → KeptState A x → KeptState B x
-state_map A B f (states.Live last (Some bodies.Ack)) k = f last k
+state_map : (A B : ℕ → Body → Type 0) → ((n : ℕ) (b : Body) → A n b → B n b) → (x : SessionState) → KeptState A x → KeptState B x
+state_map A B f (states.Live last (Some bodies.Ack)) k = f last bodies.Ack k
+state_map A B f (states.Live last (Some (bodies.Named r))) k = f last (bodies.Named r) k
 state_map A B f (states.Live last (Some b)) k = tt
 state_map A B f (states.Live last None) k = tt
 state_map A B f states.Ended k = tt
@@ -91,12 +104,13 @@ module _ (past : List Step) (t : Traced) (e : Event) (d : CutsHold past t) where
   -- What an event leaves.
   pub record Next (sc : WorldTurn) : Type 0 where
     pub old : (m : Message) → Has m (messages t.world) → Has m (messages sc.world)
-    pub new : (m : Message) → Has m (messages sc.world) → Has m (messages t.world) ⊎ (m.body ≡ bodies.Ack → (s : ServerId) → m.header.from ≡ server_node s →
-        Acked (past ++ step t e sc ∷ []) (messages sc.world) (client m.header.to) s m.header.life m.header.epoch m.header.number)
+    pub new : (m : Message) → Has m (messages sc.world) → Has m (messages t.world) ⊎ (is_report m.body ≡ true → (s : ServerId) → m.header.from ≡ server_node s →
+        Acked (past ++ step t e sc ∷ []) (messages sc.world) (client m.header.to) s m.header.life m.header.epoch m.header.number m.body)
     pub clients : (c : ClientId) (site : ClientSite) → site_of sc.world c ≡ Some site → ClientOk (past ++ step t e sc ∷ []) (messages sc.world) c site
     pub servers : (s : ServerId) (node : ServerNode) → node_of sc.world s ≡ Some node → ServerOk (past ++ step t e sc ∷ []) (messages sc.world) s node
     pub few : length sc.world.clients ≤ 16
     pub cuts : CutsAreLogged past (step t e sc)
+    pub names : NamesAreSaid past (step t e sc)
 
   -- what a client was asked up to this event
   abbrev asked_now : ClientId → List Ask
@@ -154,11 +168,14 @@ module _ (past : List Step) (t : Traced) (e : Event) (d : CutsHold past t) where
   server_more sc s node f k =
       record {
         id = k.id;
-        kept = λ c x h. state_map _ _ (λ n a. acked_more past (step t e sc) (messages t.world) (messages sc.world) f c s x.life.0 node.state.stable.epoch.0 n a) x.state (k.kept c x h);
+        kept = λ c x h. state_map _ _ (λ n b a. acked_more past (step t e sc) (messages t.world) (messages sc.world) f c s x.life.0 node.state.stable.epoch.0 n b a) x.state (k.kept c x h);
       }
 
   no_cuts : (sc : WorldTurn) → NoAnswers sc.seen → CutsAreLogged past (step t e sc)
   no_cuts sc n c op h = absurd (n (seen.Answered c op answers.Cut) h)
+
+  no_names : (sc : WorldTurn) → NoAnswers sc.seen → NamesAreSaid past (step t e sc)
+  no_names sc n c op a h of = absurd (n (seen.Answered c op a) h)
 
   -- An event that leaves nodes and messages.
   still : (sc : WorldTurn) → ((c : ClientId) → ask_in c e ≡ None) → sc.world.clients ≡ t.world.clients → sc.world.servers ≡ t.world.servers → messages sc.world ≡ messages t.world → NoAnswers sc.seen → Next sc
@@ -170,6 +187,7 @@ module _ (past : List Step) (t : Traced) (e : Event) (d : CutsHold past t) where
         servers = λ s node i. server_more sc s node (λ m h. subst (Has m) (sym ms) h) (d.servers s node (ap (λ z. numbered z s.0) (sym ss) ∙ i));
         few = subst (λ z. length z ≤ 16) (sym cs) d.few;
         cuts = no_cuts sc n;
+        names = no_names sc n;
       }
 
   -- A client at its place is another one, and no message is sent.
@@ -183,6 +201,7 @@ module _ (past : List Step) (t : Traced) (e : Event) (d : CutsHold past t) where
         servers = λ s node i. server_more sc s node (λ m h. subst (Has m) (sym ms) h) (d.servers s node (ap (λ z. numbered z s.0) (sym ss) ∙ i));
         few = subst (λ z. length z ≤ 16) (sym cs) (let z = set_length t.world.clients (pred c.0) new in let y = d.few in omega (arith, z, y));
         cuts = no_cuts sc n;
+        names = no_names sc n;
       }
     where
       past2 : List Step
@@ -206,6 +225,7 @@ module _ (past : List Step) (t : Traced) (e : Event) (d : CutsHold past t) where
         servers = λ x y i. it x y (set_cases t.world.servers s.0 x.0 old new y at (ap (λ z. numbered z x.0) (sym ss) ∙ i));
         few = subst (λ z. length z ≤ 16) (sym cs) d.few;
         cuts = no_cuts sc n;
+        names = no_names sc n;
       }
     where
       past2 : List Step
@@ -279,11 +299,11 @@ module _ (past : List Step) (t : Traced) (e : Event) (d : CutsHold past t) where
       Known : ℕ → Ask → Type 0
       Known op ask = numbered (asked_now c) op ≡ Some ask
 
-      Done : ℕ → Ask → Type 0
-      Done op ask = was_cut past c op (Some ask) ≡ true
+      Done : ℕ → Ask → AppAnswer → Type 0
+      Done op ask a = IsDone past c op ask a
 
-      Told : Message → ServerId → Type 0
-      Told m s = Acked past M c s m.header.life m.header.epoch m.header.number
+      Told : Message → Body → ServerId → Type 0
+      Told m b s = Acked past M c s m.header.life m.header.epoch m.header.number b
 
       old_ok : ClientOk past M c old
       old_ok = d.clients c old z.there
@@ -299,34 +319,64 @@ module _ (past : List Step) (t : Traced) (e : Event) (d : CutsHold past t) where
           was (inr (inl q)) = subst (λ (r : Step). Has m (messages r.before.world)) q j
           was (inr (inr h)) = absurd h
 
-      ends_cut : (m : Message) (s : ServerId) → Told m s → (q : Request) (o : Operation) → cs.server_of o.ask ≡ s → 1 ≤ q.number → m.header.number ≡ q.number → AsksFor o.ask q.body → cs.is_acknowledged q.body ≡ true →
-          ((y : Message) → Has y M → Keyed c s m.header.life m.header.epoch q.number y → y.body ≡ q.body) → Early past2 c s m.header.life m.header.epoch q.number o.op → Done o.op o.ask
-      ends_cut m s told q o of l nm fit ack same early = by o.ask q.body of fit ack (subst (Fulfilled past c s m.header.life m.header.epoch m.header.number) (same told.by told.among key) told.done)
+      ends_as : (m : Message) (s : ServerId) (b : Body) (a : AppAnswer) → Told m b s → Answers b a → (q : Request) (o : Operation) → cs.server_of o.ask ≡ s → 1 ≤ q.number → m.header.number ≡ q.number → AsksFor o.ask q.body → cs.fits b q.body ≡ true →
+          ((y : Message) → Has y M → Keyed c s m.header.life m.header.epoch q.number y → y.body ≡ q.body) → Early past2 c s m.header.life m.header.epoch q.number o.op → Done o.op o.ask a
+      ends_as m s b a told its q o of l nm asks_it fit same early = by b a its o.ask q.body of asks_it fit (subst (λ y. Fulfilled past c s m.header.life m.header.epoch m.header.number y b) (same told.by told.among key) told.done)
         where
           key : Keyed c s m.header.life m.header.epoch q.number told.by
           key = subst (λ n. Keyed c s m.header.life m.header.epoch n told.by) nm told.is
 
-          cut : (g : FileId) (p : PageNo) (ino : ℕ) → g.server ≡ s → g.ino ≡ ino → IsCutDone past c s m.header.life m.header.epoch m.header.number ino p → Done o.op (asks.Cut g p)
-          cut g p ino r i k = some_passes (cuts_after c o.op g p) past k.at k.among (and_both _ _ after there)
-            where
-              after : is_after_ask c o.op k.at ≡ true
-              after = early k.at k.by (has_left past _ k.at k.among) k.before (subst (λ n. Keyed c s m.header.life m.header.epoch n k.by) nm k.is)
+          after : (at : Step) (y : Message) → Has at past → Has y (messages at.before.world) → Keyed c s m.header.life m.header.epoch m.header.number y → is_after_ask c o.op at ≡ true
+          after at y among before is = early at y (has_left past _ at among) before (subst (λ n. Keyed c s m.header.life m.header.epoch n y) nm is)
 
+          cut : (g : FileId) (p : PageNo) (ino : ℕ) → g.server ≡ s → g.ino ≡ ino → IsCutDone past c s m.header.life m.header.epoch m.header.number ino p → Done o.op (asks.Cut g p) answers.Cut
+          cut g p ino r i k = some_passes (cuts_after c o.op g p) past k.at k.among (and_both _ _ (after k.at k.by k.among k.before k.is) there)
+            where
               there : Rattle.std.specs.List.list_any (is_cut_at g p) k.at.seen ≡ true
               there = some_passes (is_cut_at g p) k.at.seen _ k.cut (and_both _ _ (and_both _ _ (eq-eqb _ _ (ap (λ (y : ServerId). y.0) (sym r))) (eq-eqb _ _ (sym i))) (eq-eqb p.0 p.0 refl))
 
-          by : (ask : Ask) (body : Body) → cs.server_of ask ≡ s → AsksFor ask body → cs.is_acknowledged body ≡ true → Fulfilled past c s m.header.life m.header.epoch m.header.number body → Done o.op ask
-          by (asks.Cut g p) (bodies.Cut ino h p2) r k ack done = cut g p ino r k.0 (subst (λ (y : PageNo). IsCutDone past c s m.header.life m.header.epoch m.header.number ino y) (sym k.1) done)
-          by (asks.Name y n) (bodies.Name op) r k ack done = cc ack
-          by ask body r k ack done = absurd k
+          name : (v : ServerId) (n : NameAsk) (op : NameOp) (a : AppAnswer) → v ≡ s → (g : GrantNo) × (op ≡ name_op n g) × MeansNone n g → IsNameDone past c s m.header.life m.header.epoch m.header.number op a → IsNameSaid past c o.op v n a
+          name v n op a r k d =
+              record {
+                at = d.at;
+                among = d.among;
+                after = after d.at d.by d.among d.before d.is;
+                old = d.old;
+                was = subst (λ u. node_of d.at.before.world u ≡ Some d.old) (sym r) d.was;
+                new = d.new;
+                became = subst (λ u. node_of d.at.after.world u ≡ Some d.new) (sym r) d.became;
+                g = k.0;
+                none = k.2;
+                did = subst (λ y. does d.old.state.stable.names y ≡ said d.new.state.stable.names a) k.1 d.did;
+              }
 
-      input : Rattle.st_laws_requests.proofs.Cuts.Step.InputOk M c Known (Early past2 c) Done fresh Told ends_cut i
+          as_done : (r : NameReply) (ask : Ask) → NameSaid past c o.op (name_answer r) ask → Done o.op ask (name_answer r)
+          as_done (replies.Ino ino) ask k = k
+          as_done (replies.Listed rows) ask k = k
+          as_done (replies.Refused code) ask k = k
+
+          by_ack : (ask : Ask) (body : Body) → cs.server_of ask ≡ s → AsksFor ask body → cs.is_acknowledged body ≡ true → Fulfilled past c s m.header.life m.header.epoch m.header.number body bodies.Ack → Done o.op ask answers.Cut
+          by_ack (asks.Cut g p) (bodies.Cut ino h p2) r k f done = cut g p ino r k.0 (subst (λ (y : PageNo). IsCutDone past c s m.header.life m.header.epoch m.header.number ino y) (sym k.1) done)
+          by_ack (asks.Name y n) (bodies.Name op) r k f done = cc f
+          by_ack ask body r k f done = absurd k
+
+          by_name : (rp : NameReply) (ask : Ask) (body : Body) → cs.server_of ask ≡ s → AsksFor ask body → cs.asks_name body ≡ true → Fulfilled past c s m.header.life m.header.epoch m.header.number body (bodies.Named rp) → NameSaid past c o.op (name_answer rp) ask
+          by_name rp (asks.Cut g p) (bodies.Cut ino h p2) r k f done = cc f
+          by_name rp (asks.Name y n) (bodies.Name op) r k f done = name y n op (name_answer rp) r k done
+          by_name rp ask body r k f done = absurd k
+
+          by : (b : Body) (a : AppAnswer) → Answers b a → (ask : Ask) (body : Body) → cs.server_of ask ≡ s → AsksFor ask body → cs.fits b body ≡ true → Fulfilled past c s m.header.life m.header.epoch m.header.number body b → Done o.op ask a
+          by bodies.Ack a its ask body r k f done = subst (λ y. Done o.op ask y) (sym its) (by_ack ask body r k f done)
+          by (bodies.Named rp) a its ask body r k f done = subst (λ y. Done o.op ask y) (sym its) (as_done rp ask (by_name rp ask body r k f done))
+          by b a its ask body r k f done = absurd its
+
+      input : Rattle.st_laws_requests.proofs.Cuts.Step.InputOk M c Known (Early past2 c) Done fresh Told ends_as i
       input = tells i z.input
         where
-          tells : (i : ClientInput) → Tells c i → Rattle.st_laws_requests.proofs.Cuts.Step.InputOk M c Known (Early past2 c) Done fresh Told ends_cut i
+          tells : (i : ClientInput) → Tells c i → Rattle.st_laws_requests.proofs.Cuts.Step.InputOk M c Known (Early past2 c) Done fresh Told ends_as i
           tells inputs.Tick k = tt
           tells (inputs.App op ask) k = k
-          tells (inputs.Control m) k = λ ack s r. subst (λ n. Acked past M (record { 0 = n }) s m.header.life m.header.epoch m.header.number) k.1 (d.acks m k.0 ack s r)
+          tells (inputs.Control m) k = λ f s r. subst (λ n. Acked past M (record { 0 = n }) s m.header.life m.header.epoch m.header.number m.body) k.1 (d.acks m k.0 f s r)
           tells (inputs.Done number result) k = tt
 
       below : (o : Operation) → Has o old.node.state.operations → o.op ≤ old.asks
@@ -344,7 +394,7 @@ module _ (past : List Step) (t : Traced) (e : Event) (d : CutsHold past t) where
                   waits = λ o i w. waits_map (Early past c) (Early past2 c) y.server y.life.0 (view y.session) o (λ epoch number r. early_more sc c old z.there y.server y.life.0 epoch number o.op (below o i) r) (k.waits o i w);
                 };
             todo = λ y h. absurd h;
-            said = λ op h. absurd h;
+            said = λ op a h. absurd h;
             from = λ m h. absurd h;
             once_done = onces old.node.state.associations holds.once;
             once_todo = tt;
@@ -356,7 +406,7 @@ module _ (past : List Step) (t : Traced) (e : Event) (d : CutsHold past t) where
           sent m (inr h) = absurd h
 
       ends : site.node.running ≡ true → Held M c Known (Early past2 c) Done [] u
-      ends run = stepped M c Known (Early past2 c) Done fresh Told ends_cut site.node.state now i input (begins run)
+      ends run = stepped M c Known (Early past2 c) Done fresh Told ends_as site.node.state now i input (begins run)
 
       taken : site.node.running ≡ true → Next sc
       taken run =
@@ -367,14 +417,15 @@ module _ (past : List Step) (t : Traced) (e : Event) (d : CutsHold past t) where
             servers = λ s n q. server_more sc s n l.old (d.servers s n (ap (λ w. numbered w s.0) (sym ss) ∙ ap (λ w. numbered w s.0) (sym l.servers) ∙ q));
             few = subst (λ w. length w ≤ 16) (sym l.clients) (let y = set_length v.clients (pred c.0) (ev.at_node node site) in let w = d.few in let q = ap length ps in omega (arith, w, y, q));
             cuts = λ y op h. cut y op (answered_said c site.node.state u.out a y op answers.Cut h);
+            names = λ y op w h of. name y op w of (answered_said c site.node.state u.out a y op w h);
           }
         where
           k : Held M c Known (Early past2 c) Done [] u
           k = ends run
 
-          mine : (m : Message) → Has m M ⊎ Has (outputs.Send m) u.out → Has m M ⊎ (m.body ≡ bodies.Ack → (s : ServerId) → m.header.from ≡ server_node s → Acked past2 (messages last) (client m.header.to) s m.header.life m.header.epoch m.header.number)
+          mine : (m : Message) → Has m M ⊎ Has (outputs.Send m) u.out → Has m M ⊎ (is_report m.body ≡ true → (s : ServerId) → m.header.from ≡ server_node s → Acked past2 (messages last) (client m.header.to) s m.header.life m.header.epoch m.header.number m.body)
           mine m (inl h) = inl h
-          mine m (inr h) = inr (λ ack s r. absurd (server_not_client c.0 s.0 few (sym (k.from m h) ∙ r)))
+          mine m (inr h) = inr (λ f s r. absurd (server_not_client c.0 s.0 few (sym (k.from m h) ∙ r)))
 
           sent : (m : Message) → Has m (messages last) → Sent M c Known (Early past2 c) Done u.out m
           sent m h = leaves_from M a.world last u.out l m h
@@ -399,10 +450,23 @@ module _ (past : List Step) (t : Traced) (e : Event) (d : CutsHold past t) where
 
           cut : (y : ClientId) (op : ℕ) → Has (seen.Answered y op answers.Cut) [] ⊎ AnswerOf c y op answers.Cut u.out → was_cut past y op (numbered (asks_of past2 y) op) ≡ true
           cut y op (inl h) = absurd h
-          cut y op (inr r) = subst (λ (w : ClientId). was_cut past w op (numbered (asks_of past2 w) op) ≡ true) (sym r.client) (done (k.said op r.answer))
+          cut y op (inr r) = subst (λ (w : ClientId). was_cut past w op (numbered (asks_of past2 w) op) ≡ true) (sym r.client) (done (k.said op answers.Cut r.answer))
             where
-              done : (ask : Ask) × Known op ask × Done op ask → was_cut past c op (numbered (asks_of past2 c) op) ≡ true
+              done : (ask : Ask) × Known op ask × Done op ask answers.Cut → was_cut past c op (numbered (asks_of past2 c) op) ≡ true
               done (ask, q, w) = subst (λ o. was_cut past c op o ≡ true) (sym (ap (λ l. numbered l op) (asked_all sc c) ∙ q)) w
+
+          name : (y : ClientId) (op : ℕ) (w : AppAnswer) → is_of_names w ≡ true → Has (seen.Answered y op w) [] ⊎ AnswerOf c y op w u.out → NameAskSaid past y op w (numbered (asks_of past2 y) op)
+          name y op w of (inl h) = absurd h
+          name y op w of (inr r) = subst (λ (v : ClientId). NameAskSaid past v op w (numbered (asks_of past2 v) op)) (sym r.client) (done w of (k.said op w r.answer))
+            where
+              by : (w : AppAnswer) → (ask : Ask) × Known op ask × NameSaid past c op w ask → NameAskSaid past c op w (numbered (asks_of past2 c) op)
+              by w (ask, q, v) = subst (λ o. NameAskSaid past c op w o) (sym (ap (λ l. numbered l op) (asked_all sc c) ∙ q)) v
+
+              done : (w : AppAnswer) → is_of_names w ≡ true → SaidOf M c Known (Early past2 c) Done op w → NameAskSaid past c op w (numbered (asks_of past2 c) op)
+              done (answers.Named ino) f s = by (answers.Named ino) s
+              done (answers.Listed rows) f s = by (answers.Listed rows) s
+              done (answers.Refused code) f s = by (answers.Refused code) s
+              done w f s = cc f
 
       go : (b : Bool) → site.node.running ≡ b → Next (ev.client_took v c site (if b then Ok (cl.node_turn site.node u) else Err Crashed))
       go true r = taken r
@@ -453,36 +517,59 @@ module _ (past : List Step) (t : Traced) (e : Event) (d : CutsHold past t) where
       epoch : ℕ
       epoch = node.state.stable.epoch.0
 
-      Old : ClientId → ℕ → ℕ → Type 0
-      Old c life number = Acked past M c s life epoch number
+      names : Names
+      names = node.state.stable.names
 
-      k : Acks s node.state.stable.epoch i Old u
-      k = served s node.state.stable.epoch i Old node.state now (record { id = ok.id; epoch = refl; kept = λ c y h. state_map _ _ (λ n r. inl r) y.state (ok.kept c y h); sent = λ y h. absurd h })
+      Old : ClientId → ℕ → ℕ → Body → Type 0
+      Old c life number b = Acked past M c s life epoch number b
 
-      done : (c : ClientId) (life number : ℕ) (by : Message) → i ≡ serving.Control by → Keyed c s life epoch number by → (b : Body) → by.body ≡ b → CutNoted s node.state.stable.epoch i Old b u.out → Fulfilled past2 c s life epoch number b
-      done c life number by is key (bodies.Cut ino g p) r h =
+      begins : O s node.state.stable.epoch (Before s node.state.stable.epoch i names Old) (before_more s node.state.stable.epoch i names Old) names (server.turn node.state [])
+      begins = record { acks = record { id = ok.id; epoch = refl; kept = λ c y h. ok.kept c y h; sent = λ y h. absurd h }; names = refl }
+
+      left : (m : Names) × O s node.state.stable.epoch (Good s node.state.stable.epoch i names Old m) (good_more s node.state.stable.epoch i names Old m) m u
+      left = served s node.state.stable.epoch i names Old node.state now begins
+
+      k : Acks s node.state.stable.epoch (Good s node.state.stable.epoch i names Old left.0) (good_more s node.state.stable.epoch i names Old left.0) u
+      k = left.1.acks
+
+      done : (c : ClientId) (life number : ℕ) (by : Message) → i ≡ serving.Control by → Keyed c s life epoch number by → (b r : Body) → Noted s node.state.stable.epoch i names Old b u.out left.0 r → Fulfilled past2 c s life epoch number b r
+      done c life number by is key (bodies.Cut ino g p) bodies.Ack h =
           let z = cut_said s (record { server = s; ino = ino }) p u.out a h in
           record { at = x; among = has_right past _ _ (inl refl); index = z.0; cut = z.1; by = by; before = subst Brings is brings; is = key }
+      done c life number by is key (bodies.Name op) (bodies.Named r) h =
+          record {
+            at = x;
+            among = has_right past _ _ (inl refl);
+            old = node;
+            was = at;
+            new = next;
+            became = ap (λ w. numbered w s.0) l.servers ∙ numbered_own t.world.servers s.0 next node at;
+            did = h ∙ ap (λ m. said m (name_answer r)) (sym left.1.names);
+            by = by;
+            before = subst Brings is brings;
+            is = key;
+          }
       done c life number by is key b r h = tt
 
-      good : (c : ClientId) (life number : ℕ) → Good s node.state.stable.epoch i Old u.out c life number → Acked past2 (messages sc.world) c s life epoch number
-      good c life number (inl o) = acked_more past x M (messages sc.world) l.old c s life epoch number o
-      good c life number (inr n) = record { by = n.by; among = l.old n.by (subst Brings n.is brings); is = key n; done = done c life number n.by n.is (key n) n.by.body refl n.noted }
+      good : (c : ClientId) (life number : ℕ) (b : Body) → Good s node.state.stable.epoch i names Old left.0 u.out c life number b → Acked past2 (messages sc.world) c s life epoch number b
+      good c life number b (inl o) = acked_more past x M (messages sc.world) l.old c s life epoch number b o
+      good c life number b (inr n) = record { by = n.by; among = l.old n.by (subst Brings n.is brings); is = key n; done = done c life number n.by n.is (key n) n.by.body b n.noted }
         where
-          key : (n : New s node.state.stable.epoch i Old u.out c life number) → Keyed c s life epoch number n.by
+          key : (n : New s node.state.stable.epoch i names Old left.0 u.out c life number b) → Keyed c s life epoch number n.by
           key n = record { between = (n.from, n.there); of_life = n.of_life; of_epoch = n.of_epoch; under = n.under }
 
-      mine : (m : Message) → Has m M ⊎ Has (outputs.Send m) u.out → Has m M ⊎ (m.body ≡ bodies.Ack → (v : ServerId) → m.header.from ≡ server_node v → Acked past2 (messages sc.world) (client m.header.to) v m.header.life m.header.epoch m.header.number)
+      mine : (m : Message) → Has m M ⊎ Has (outputs.Send m) u.out → Has m M ⊎ (is_report m.body ≡ true → (v : ServerId) → m.header.from ≡ server_node v → Acked past2 (messages sc.world) (client m.header.to) v m.header.life m.header.epoch m.header.number m.body)
       mine m (inl h) = inl h
-      mine m (inr h) = inr (λ ack v r. its v r ack (k.sent m h))
+      mine m (inr h) = inr (λ f v r. its v r f (k.sent m h))
         where
-          its : (v : ServerId) → m.header.from ≡ server_node v → m.body ≡ bodies.Ack → (m.header.from ≡ server_node s) × (m.body ≡ bodies.Ack → (m.header.epoch ≡ epoch) × Good s node.state.stable.epoch i Old u.out (client m.header.to) m.header.life m.header.number) →
-              Acked past2 (messages sc.world) (client m.header.to) v m.header.life m.header.epoch m.header.number
-          its v r ack (f, g) =
-              let z = g ack in
+          its : (v : ServerId) → m.header.from ≡ server_node v → is_report m.body ≡ true →
+              (m.header.from ≡ server_node s) × (is_report m.body ≡ true → (m.header.epoch ≡ epoch) × Good s node.state.stable.epoch i names Old left.0 u.out (client m.header.to) m.header.life m.header.number m.body) →
+              Acked past2 (messages sc.world) (client m.header.to) v m.header.life m.header.epoch m.header.number m.body
+          its v r rep (f, g) =
+              let z = g rep in
               let same : s.0 ≡ v.0 = omega (arith, f, r) in
-              subst (λ n. Acked past2 (messages sc.world) (client m.header.to) (record { 0 = n }) m.header.life m.header.epoch m.header.number) same
-              (subst (λ n. Acked past2 (messages sc.world) (client m.header.to) s m.header.life n m.header.number) (sym z.0) (good (client m.header.to) m.header.life m.header.number z.1))
+              subst (λ n. Acked past2 (messages sc.world) (client m.header.to) (record { 0 = n }) m.header.life m.header.epoch m.header.number m.body) same
+              (subst (λ n. Acked past2 (messages sc.world) (client m.header.to) s m.header.life n m.header.number m.body) (sym z.0) (good (client m.header.to) m.header.life m.header.number m.body z.1))
 
       of_server : (m : Message) (c : ClientId) (site : ClientSite) → site_of t.world c ≡ Some site → Has m M ⊎ Has (outputs.Send m) u.out → Has m M ⊎ (m.header.from ≢ c.0)
       of_server m c site there (inl h) = inl h
@@ -492,7 +579,7 @@ module _ (past : List Step) (t : Traced) (e : Event) (d : CutsHold past t) where
       own =
           record {
             id = k.id;
-            kept = λ c y h. subst (λ (n : Rattle.st_base.specs.declared.ids.Epoch.Epoch). KeptState (Acked past2 (messages sc.world) c s y.life.0 n.0) y.state) (sym k.epoch) (state_map _ _ (λ n r. good c y.life.0 n r) y.state (k.kept c y h));
+            kept = λ c y h. subst (λ (n : Rattle.st_base.specs.declared.ids.Epoch.Epoch). KeptState (Acked past2 (messages sc.world) c s y.life.0 n.0) y.state) (sym k.epoch) (state_map _ _ (λ n b r. good c y.life.0 n b r) y.state (k.kept c y h));
           }
 
       it : (y : ServerId) (n : ServerNode) → ((y.0 ≡ s.0) × (n ≡ next)) ⊎ ((y.0 ≢ s.0) × (node_of t.world y ≡ Some n)) → ServerOk past2 (messages sc.world) y n
@@ -508,6 +595,7 @@ module _ (past : List Step) (t : Traced) (e : Event) (d : CutsHold past t) where
             servers = λ y n r. it y n (set_cases t.world.servers s.0 y.0 node next n at (ap (λ z. numbered z y.0) (sym l.servers) ∙ r));
             few = subst (λ z. length z ≤ 16) (sym l.clients) d.few;
             cuts = no_cuts sc (server_none s u.out a none_answered);
+            names = no_names sc (server_none s u.out a none_answered);
           }
 
       go : (b : Bool) → Next (ev.server_took w s (if b then Ok (server.node_turn node u) else Err Crashed))

@@ -1,26 +1,40 @@
--- Why `cut` is logged: what stands of the messages, of each client and of each server behind every event.
-use Rattle.std.specs.Prelude.{◌≡◌, ℕ, ◌≤◌, ◌<◌, true, List, filter_map, length, map, Option, Some, None}
+-- Why `cut` is logged, and why names answer truly: what stands of the messages, of each client and of each server behind every event.
+use Rattle.std.specs.Prelude.{◌≡◌, ℕ, ◌≤◌, ◌<◌, Bool, true, false, ◌==◌, if◌then◌else◌, List, filter_map, length, map, Option, Some, None, Result, Ok, Err}
 use Rattle.st_base.specs.declared.ids.ClientId.{ClientId}
 use Rattle.st_base.specs.declared.ids.ServerId.{ServerId}
+use Rattle.st_base.specs.declared.ids.GrantNo.{GrantNo}
 use Rattle.st_base.specs.declared.ids.PageNo.{PageNo}
+use Rattle.st_base.specs.declared.names.NameAsk.{NameAsk}
+use Rattle.st_base.specs.declared.names.NameAsk.TheVariants as asked
+use Rattle.st_messages.specs.declared.answer.AppAnswer.{AppAnswer}
+use Rattle.st_messages.specs.declared.answer.AppAnswer.TheVariants as answers
 use Rattle.st_messages.specs.declared.ask.Ask.{Ask}
 use Rattle.st_messages.specs.declared.ask.Ask.TheVariants as asks
 use Rattle.st_messages.specs.declared.message.Message.{Message}
 use Rattle.st_messages.specs.declared.message.Body.{Body}
 use Rattle.st_messages.specs.declared.message.Body.TheVariants as bodies
+use Rattle.st_messages.specs.declared.message.NameOp.{NameOp}
+use Rattle.st_messages.specs.declared.message.NameOp.TheVariants.{Lookup, Create, Mkdir, Remove, Rename, List as ListFrom}
 use Rattle.st_rules.specs.declared.client.Operation.{Operation}
 use Rattle.st_rules.specs.declared.client.Request.{Request}
+use Rattle.st_rules.specs.declared.names.EntryRefusal.{EntryRefusal}
+use Rattle.st_rules.specs.declared.names.EntryRefusal.TheVariants.{IsDir}
 use Rattle.st_rules.specs.declared.observation.Observation.TheVariants as seen
 use Rattle.st_rules.specs.declared.sessions.Session.{Session}
 use Rattle.st_rules.specs.declared.sessions.SessionState.{SessionState}
 use Rattle.st_rules.specs.declared.sessions.SessionState.TheVariants as states
 use Rattle.st_rules.specs.Keys.{client, server_node}
+use Rattle.st_rules.specs.ClientPasses.{name_op}
+use Rattle.st_rules.specs.ClientReplies.{name_answer}
 use Rattle.st_rules.specs.ClientState.{Association, ClientSession, Requests, is_asked}
+use Rattle.st_rules.specs.Names as names
+use Rattle.st_rules.specs.Names.{Names}
 use Rattle.st_rules.specs.Server.{ServerNode}
 use Rattle.st_rules.specs.Sessions.{session_of}
 use Rattle.st_rules.specs.World.{ClientSite, node_of, numbered, site_of}
 use Rattle.st_rules.specs.History.{Traced}
-use Rattle.st_rules.specs.Safety.{Step, ask_in, event_of, is_after_ask}
+use Rattle.st_rules.specs.Safety.{Step, ask_in, event_of, is_after_ask, was_cut}
+use Rattle.st_promises.specs.NameAnswers.{Saying, changed, found, listed, refused, said}
 use Rattle.st_lemmas.specs.Lists.{Has}
 use Rattle.st_laws_leases.specs.Dates.Dates.{messages}
 use Rattle.st_laws_pages.specs.Disks.Owed.{FatesHold}
@@ -48,17 +62,57 @@ pub record IsCutDone (past : List Step) (c : ClientId) (s : ServerId) (life epoc
   pub before : Has by (messages at.before.world)
   pub is : Keyed c s life epoch number by
 
--- what a request asks was done, where it is a cut
-abbrev pub Fulfilled : List Step → ClientId → ServerId → ℕ → ℕ → ℕ → Body → Type 0
-Fulfilled past c s life epoch number (bodies.Cut ino g p) = IsCutDone past c s life epoch number ino p
-Fulfilled past c s life epoch number body = Unit {0}
+-- What names say to a request: as to an ask, but a remove of a file goes by its grant.
 
--- a message of this key was sent, and what it asks was done
-pub record Acked (past : List Step) (ms : List Message) (c : ClientId) (s : ServerId) (life epoch number : ℕ) : Type 0 where
+-- a directory is removed under no grant
+abbrev pub does_remove_dir : Names → ℕ → List ℕ → GrantNo → Saying
+does_remove_dir n dir name g = if g.0 == 0 then changed n (names.remove n dir name) else refused n IsDir
+
+-- a file or a directory
+abbrev pub does_remove : Names → ℕ → List ℕ → GrantNo → Result ℕ EntryRefusal → Saying
+does_remove n dir name g (Ok ino) = if names.is_file n ino then changed n (names.remove n dir name) else does_remove_dir n dir name g
+does_remove n dir name g (Err r) = refused n r
+
+-- what names say to a request
+abbrev pub does : Names → NameOp → Saying
+does n (Lookup dir name) = found n (names.lookup n dir name)
+does n (Create dir name) = changed n (names.create n dir name)
+does n (Mkdir dir name) = changed n (names.mkdir n dir name)
+does n (Remove dir name g) = does_remove n dir name g (names.lookup n dir name)
+does n (Rename dir name dir2 name2) = changed n (names.rename n dir name dir2 name2)
+does n (ListFrom dir after) = listed n (names.list n dir after)
+
+-- at one of these steps, before which a message of this key had been sent, the names of the server did what a request asks and said this
+pub record IsNameDone (past : List Step) (c : ClientId) (s : ServerId) (life epoch number : ℕ) (op : NameOp) (answer : AppAnswer) : Type 0 where
+  pub at : Step
+  pub among : Has at past
+  pub old : ServerNode
+  pub was : node_of at.before.world s ≡ Some old
+  pub new : ServerNode
+  pub became : node_of at.after.world s ≡ Some new
+  pub did : does old.state.stable.names op ≡ said new.state.stable.names answer
+  pub by : Message
+  pub before : Has by (messages at.before.world)
+  pub is : Keyed c s life epoch number by
+
+-- a reply that says that something was done
+abbrev pub is_report : Body → Bool
+is_report bodies.Ack = true
+is_report (bodies.Named reply) = true
+is_report body = false
+
+-- what a request asks was done as its reply says, where it is a cut or a request for a name
+abbrev pub Fulfilled : List Step → ClientId → ServerId → ℕ → ℕ → ℕ → Body → Body → Type 0
+Fulfilled past c s life epoch number (bodies.Cut ino g p) bodies.Ack = IsCutDone past c s life epoch number ino p
+Fulfilled past c s life epoch number (bodies.Name op) (bodies.Named reply) = IsNameDone past c s life epoch number op (name_answer reply)
+Fulfilled past c s life epoch number body reply = Unit {0}
+
+-- a message of this key was sent, and what it asks was done as this reply says
+pub record Acked (past : List Step) (ms : List Message) (c : ClientId) (s : ServerId) (life epoch number : ℕ) (reply : Body) : Type 0 where
   pub by : Message
   pub among : Has by ms
   pub is : Keyed c s life epoch number by
-  pub done : Fulfilled past c s life epoch number by.body
+  pub done : Fulfilled past c s life epoch number by.body reply
 
 -- The clients.
 
@@ -104,11 +158,39 @@ pub record Numbers (S : Message → Type 0) (c : ClientId) (s : ServerId) (life 
   pub placed : (m : Message) → S m → Between c s m → Placed life v m
   pub counts : Counts v
 
--- a request is that of an ask: the cut that was asked, or a name
+-- a remove that means a directory names no grant
+abbrev pub MeansNone : NameAsk → GrantNo → Type 0
+MeansNone (asked.Remove dir name ino) g = ino ≡ 0 → g.0 ≡ 0
+MeansNone ask g = Unit {0}
+
+-- a request is that of an ask: the cut or the name that was asked
 abbrev pub AsksFor : Ask → Body → Type 0
 AsksFor (asks.Cut f p) (bodies.Cut ino g q) = (f.ino ≡ ino) × (p ≡ q)
-AsksFor (asks.Name s ask) (bodies.Name op) = Unit {0}
+AsksFor (asks.Name s ask) (bodies.Name op) = (g : GrantNo) × (op ≡ name_op ask g) × MeansNone ask g
 AsksFor ask body = ⊥
+
+-- at one of these steps, after a client's ask, the names of the server did what a request of the ask asks and said this
+pub record IsNameSaid (past : List Step) (c : ClientId) (op : ℕ) (s : ServerId) (ask : NameAsk) (answer : AppAnswer) : Type 0 where
+  pub at : Step
+  pub among : Has at past
+  pub after : is_after_ask c op at ≡ true
+  pub old : ServerNode
+  pub was : node_of at.before.world s ≡ Some old
+  pub new : ServerNode
+  pub became : node_of at.after.world s ≡ Some new
+  pub g : GrantNo
+  pub none : MeansNone ask g
+  pub did : does old.state.stable.names (name_op ask g) ≡ said new.state.stable.names answer
+
+-- of an ask for a name
+abbrev pub NameSaid : List Step → ClientId → ℕ → AppAnswer → Ask → Type 0
+NameSaid past c op answer (asks.Name s ask) = IsNameSaid past c op s ask answer
+NameSaid past c op answer ask = ⊥
+
+-- what is answered to an ask was done: a cut, or what names said
+abbrev pub IsDone : List Step → ClientId → ℕ → Ask → AppAnswer → Type 0
+IsDone past c op ask answers.Cut = was_cut past c op (Some ask) ≡ true
+IsDone past c op ask answer = NameSaid past c op answer ask
 
 -- an operation whose request is the outstanding one waits for its reply
 abbrev pub WaitsAt : (ServerId → ℕ → ℕ → ℕ → ℕ → Type 0) → ServerId → ℕ → ℕ → Option Request → Operation → Type 0
@@ -142,9 +224,10 @@ pub record ClientOk (past : List Step) (ms : List Message) (c : ClientId) (site 
 
 -- The servers.
 
--- a kept acknowledgement is of a request that was sent, and what it asks was done
-abbrev pub KeptState : (ℕ → Type 0) → SessionState → Type 0
-KeptState A (states.Live last (Some bodies.Ack)) = A last
+-- a kept report is of a request that was sent, and what it asks was done
+abbrev pub KeptState : (ℕ → Body → Type 0) → SessionState → Type 0
+KeptState A (states.Live last (Some bodies.Ack)) = A last bodies.Ack
+KeptState A (states.Live last (Some (bodies.Named reply))) = A last (bodies.Named reply)
 KeptState A state = Unit {0}
 
 -- what stands of a server
@@ -153,12 +236,12 @@ pub record ServerOk (past : List Step) (ms : List Message) (s : ServerId) (node 
   pub kept : (c : ClientId) (x : Session) → session_of node.state.sessions c ≡ Some x →
       KeptState (Acked past ms c s x.life.0 node.state.stable.epoch.0) x.state
 
--- Behind every event: each acknowledgement is of a request that was sent, and what it asks was done; and so is each that is kept.
+-- Behind every event: each report is of a request that was sent, and what it asks was done as it says; and so is each that is kept.
 pub record CutsHold (past : List Step) (t : Traced) : Type 0 where
   pub fates : FatesHold t.world
   pub grown : (x : Step) → Has x past → (m : Message) → Has m (messages x.before.world) → Has m (messages t.world)
-  pub acks : (m : Message) → Has m (messages t.world) → m.body ≡ bodies.Ack → (s : ServerId) → m.header.from ≡ server_node s →
-      Acked past (messages t.world) (client m.header.to) s m.header.life m.header.epoch m.header.number
+  pub acks : (m : Message) → Has m (messages t.world) → is_report m.body ≡ true → (s : ServerId) → m.header.from ≡ server_node s →
+      Acked past (messages t.world) (client m.header.to) s m.header.life m.header.epoch m.header.number m.body
   pub clients : (c : ClientId) (site : ClientSite) → site_of t.world c ≡ Some site → ClientOk past (messages t.world) c site
   pub servers : (s : ServerId) (node : ServerNode) → node_of t.world s ≡ Some node → ServerOk past (messages t.world) s node
   pub few : length t.world.clients ≤ 16
