@@ -1,4 +1,4 @@
--- A request to cut or to remove a file, of the present life of a client that runs: its server serves it no more, or a pending operation
+-- A request to cut a file or for a name, of the present life of a client that runs: its server serves it no more, or a pending operation
 -- waits for its reply.
 use Rattle.std.proofs.Common.{◌≡◌, ◌≢◌, ◌⊎◌, ℕ, ◌≤◌, ◌<◌, zero, suc, List, true, Option, Some, None, refl, sym, ap, ◌∙◌, subst, inl, inr, arith}
 use Rattle.std.proofs.lemmas.Bool.{eqb-true}
@@ -12,12 +12,12 @@ use Rattle.st_messages.specs.declared.message.Body.{Body}
 use Rattle.st_messages.specs.declared.message.Body.TheVariants as bodies
 use Rattle.st_messages.specs.declared.message.Message.{Message}
 use Rattle.st_messages.specs.declared.message.NameOp.{NameOp}
-use Rattle.st_messages.specs.declared.message.NameOp.TheVariants as ops
 use Rattle.st_rules.specs.declared.client.Request.{Request}
 use Rattle.st_rules.specs.declared.sessions.Session.{Session}
 use Rattle.st_rules.specs.declared.sessions.SessionState.{SessionState}
 use Rattle.st_rules.specs.declared.sessions.SessionState.TheVariants as states
-use Rattle.st_rules.specs.ClientState.{Association, ClientSession, asks_cut_or_remove, is_of, server_of}
+use Rattle.st_rules.specs.ClientPasses.{name_op}
+use Rattle.st_rules.specs.ClientState.{Association, ClientSession, asks_cut_or_name, is_of, server_of}
 use Rattle.st_rules.specs.History.{Traced}
 use Rattle.st_rules.specs.Safety.{Step}
 use Rattle.st_rules.specs.Server.{ServerNode}
@@ -42,8 +42,8 @@ use Rattle.st_laws_extents.specs.CutRequests.Law.{gifts}
 use Rattle.st_laws_extents.specs.CutRequests.World.{IsServed}
 use Rattle.st_laws_extents.proofs.CutRequests.Law.{Hold}
 use Rattle.st_laws_extents.proofs.CutRequests.Standing.{whole}
-use Rattle.st_laws_cuts.specs.Owners.{AllOwned, Means, MeansName, Owned, OwnedBy, Owner, view}
-use Rattle.st_laws_cuts.specs.Over.{AllPast, IsPending, MeansGrant, MeansTo}
+use Rattle.st_laws_cuts.specs.Owners.{AllOwned, Means, MeansCut, MeansName, Owned, OwnedBy, Owner, view}
+use Rattle.st_laws_cuts.specs.Over.{AllPast, IsPending, MeansGrant, MeansOf, MeansTo}
 
 -- a session that reached a number reached those below it
 behind_less : (o : Option Session) (life k j : ℕ) → j ≤ k → IsBehind o life k → IsBehind o life j
@@ -66,7 +66,7 @@ less (suc u) (suc v) = up (less u v)
 
 module _ (k : Config) (count : ℕ) (past : List Step) (t : Traced) (h : Hold k count past t) (owned : AllOwned t.world)
     (c : ClientId) (site : ClientSite) (run : Running t.world c.0 site) (a : Association) (i : Has a site.node.state.associations)
-    (m : Message) (among : Has m (messages t.world)) (between : Between c a.server m) (life : m.header.life ≡ a.life.0) (pos : 1 ≤ m.header.number) (own : asks_cut_or_remove m.body ≡ true) where
+    (m : Message) (among : Has m (messages t.world)) (between : Between c a.server m) (life : m.header.life ≡ a.life.0) (pos : 1 ≤ m.header.number) (own : asks_cut_or_name m.body ≡ true) where
   abbrev G : ℕ → GrantNo → Type 0
   G = gifts k count t.world h.all c a.server
 
@@ -102,9 +102,12 @@ module _ (k : Config) (count : ℕ) (past : List Step) (t : Traced) (h : Hold k 
             by (suc j) f r = behind_less (sessions.session_of node.state.sessions c) a.life.0 j m.header.number (omega (arith, f, l)) ((stands.served node at j (omega (arith, f, l, pos)) (omega (arith, f))).behind r q)
 
     -- the outstanding request
+    of_grant : (cutting : Option ℕ) (n : NameAsk) (g : GrantNo) → RemoveNamed G cutting (bodies.Name (name_op n g)) → MeansCut n cutting g → MeansOf G n g
+    of_grant cutting (names.Remove dir y ino) g r e = λ l. let q = r l in subst (λ j. G j g) (some_is (sym q.1 ∙ e l)) q.2
+    of_grant cutting n g r e = tt
+
     remove_to : (cutting : Option ℕ) (n : NameAsk) (op : NameOp) → RemoveNamed G cutting (bodies.Name op) → MeansName n cutting op → MeansGrant G n op
-    remove_to cutting (names.Remove dir y ino) (ops.Remove d z g) r e = λ l. let q = r l in subst (λ j. G j g) (some_is (sym q.1 ∙ e l)) q.2
-    remove_to cutting n op r e = absurd e
+    remove_to cutting n op r e = record { g = e.g; is = e.is; none = e.none; of = of_grant cutting n e.g (subst (λ z. RemoveNamed G cutting (bodies.Name z)) e.is r) e.cut }
 
     means_to : (ask : Ask) (b : Body) → server_of ask ≡ a.server → RemoveNamed G x.cutting b → Means ask x.cutting b → MeansTo G a.server ask b
     means_to (asks.Cut f p) (bodies.Cut ino g q) s r e = (s, e.0, e.1)
@@ -113,7 +116,7 @@ module _ (k : Config) (count : ℕ) (past : List Step) (t : Traced) (h : Hold k 
 
     last : m.header.epoch ≡ x.epoch.0 → first_open x.requests ≤ m.header.number → (o : Option Request) → x.requests.asked ≡ o → Result
     last e l None asked = absurd (let y = n.below e in let z = subst (λ o. open_from x.requests.next o ≤ m.header.number) asked l in omega (arith, y, z))
-    last e l (Some q) asked = inr (pending (owner (subst (λ b. asks_cut_or_remove b ≡ true) same own)))
+    last e l (Some q) asked = inr (pending (owner (subst (λ b. asks_cut_or_name b ≡ true) same own)))
       where
         same : m.body ≡ q.body
         same = subst (λ o. SameBody o m) asked (n.same e) (let y = n.below e in let z = subst (λ o. open_from x.requests.next o ≤ m.header.number) asked l in let s = stands.last q asked in omega (arith, y, z, s))

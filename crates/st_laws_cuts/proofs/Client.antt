@@ -1,7 +1,7 @@
 -- The rules of a client, walked once: what is pending, answered and sent, and whose request is outstanding.
 use Rattle.std.proofs.Common.{◌≡◌, ℕ, ◌+◌, ◌≤◌, ◌⊎◌, Bool, true, false, not, ◌==◌, List, [], ◌∷◌, ◌++◌, Option, Some, None, Ok, Err, refl, sym, ap, ◌∙◌, subst, inl, inr, arith, if◌then◌else◌, append_assoc}
 use Rattle.std.specs.Prelude.{filter}
-use Rattle.std.proofs.lemmas.Bool.{eqb-true}
+use Rattle.std.proofs.lemmas.Bool.{eqb-true, eq-eqb}
 use Rattle.st_base.specs.declared.disk.Tag.{Tag}
 use Rattle.st_base.specs.declared.ids.ClientId.{ClientId}
 use Rattle.st_base.specs.declared.ids.FileId.{FileId}
@@ -56,7 +56,8 @@ use Rattle.st_lemmas.specs.Lists.{Has}
 use Rattle.st_lemmas.proofs.Lookups.{some_is}
 use Rattle.st_lemmas.proofs.Tables.{and_both, and_left, and_right, and_true, has_append, has_filter, has_filter_in}
 use Rattle.st_laws_leases.proofs.Dates.Known.{has_left, has_right}
-use Rattle.st_laws_cuts.specs.Owners.{Means, Owned, OwnedBy, Owner, view}
+use Rattle.st_laws_requests.specs.Cuts.Cuts.{MeansNone}
+use Rattle.st_laws_cuts.specs.Owners.{Means, MeansCut, Owned, OwnedBy, Owner, view}
 use Rattle.st_laws_cuts.proofs.Losing.{Silent, end_all as end_quiet, silent_more}
 use Rattle.st_laws_cuts.proofs.Counts.{one_if, pending, pending_more, pending_split, told, told_more}
 use Rattle.st_laws_cuts.proofs.Owning.{Base, C, Fine, O, W, b_more, b_operations, b_say, one_good, c_answers, c_say, clash, if_both, into, means_other, o_answers, o_free, w_asked, w_condemn, w_extents, w_granted, w_named, w_of_other, w_queued, w_reasserted, w_refused, w_say, w_view, w_without}
@@ -85,7 +86,7 @@ module _ (c : ClientId) (K : ℕ → Type 0) (G : List Output) (s : ServerId) (B
   o_send t epoch number stamp body w = w
 
   -- A new request, where none is outstanding.
-  w_ask : (t : Turn) (x : ClientSession) (now : Stamp) (body : Body) (cutting : Option ℕ) → (cs.asks_cut_or_remove body ≡ true → Owner t.here.server cutting body t.operations) → CC t → WW (cp.ask t x now body cutting)
+  w_ask : (t : Turn) (x : ClientSession) (now : Stamp) (body : Body) (cutting : Option ℕ) → (cs.asks_cut_or_name body ≡ true → Owner t.here.server cutting body t.operations) → CC t → WW (cp.ask t x now body cutting)
   unfolding cp.ask cs.send cs.asking
   w_ask t x now body cutting f w = (c_say c K G s B out0 (with_session (cp.asking_session x now body cutting) t) _ (sent_fine (with_session (cp.asking_session x now body cutting) t) x.epoch.0 x.requests.next now.0 body w.id_) w, f)
 
@@ -97,31 +98,31 @@ module _ (c : ClientId) (K : ℕ → Type 0) (G : List Output) (s : ServerId) (B
     subst (OwnedBy t.here.server x.cutting t.operations) a (into c K G s B out0 t x e w.1),
   )
 
-  -- What an operation asks is its own request, where that cuts or removes a file.
+  -- What an operation asks is its own request, where that cuts a file or is for a name.
   record OwnWant (a : Ask) (w : cp.Wanted) : Type 0 where
     pub own : w.own ≡ true
     pub means : Means a (cp.file_cut w.cut) w.body
 
   abbrev Wants : Ask → Option cp.Wanted → Type 0
   Wants a None = Unit {0}
-  Wants a (Some w) = cs.asks_cut_or_remove w.body ≡ true → OwnWant a w
+  Wants a (Some w) = cs.asks_cut_or_name w.body ≡ true → OwnWant a w
 
   want_is : (t : Turn) (x : ClientSession) (now : Stamp) (a : Ask) → Wants a (cp.want t x now a)
   unfolding cp.want cp.want_at cp.want_on cp.want_by cp.want_under cp.want_held cp.want_cut cp.want_map cp.want_block cp.want_lock cp.want_name cs.meant
   want_is t x now a = go a
     where
-      none_if : (a : Ask) (b : Bool) (m : Body) → (cs.asks_cut_or_remove m ≡ true → ⊥) → Wants a (if b then None else cp.wanted m)
+      none_if : (a : Ask) (b : Bool) (m : Body) → (cs.asks_cut_or_name m ≡ true → ⊥) → Wants a (if b then None else cp.wanted m)
       none_if a true m n = tt
       none_if a false m n = λ e. absurd (n e)
 
-      if_none : (a : Ask) (b : Bool) (m : Body) → (cs.asks_cut_or_remove m ≡ true → ⊥) → Wants a (if b then cp.wanted m else None)
+      if_none : (a : Ask) (b : Bool) (m : Body) → (cs.asks_cut_or_name m ≡ true → ⊥) → Wants a (if b then cp.wanted m else None)
       if_none a true m n = λ e. absurd (n e)
       if_none a false m n = tt
 
       no : {A : Type 0} → false ≡ true → A
       no e = cc
 
-      cut : (a : Ask) (b : Bool) (m : Body) (ino : ℕ) (p : PageNo) → (cs.asks_cut_or_remove m ≡ true → Means a (Some ino) m) → Wants a (if b then cp.wanted_cut m ino p else None)
+      cut : (a : Ask) (b : Bool) (m : Body) (ino : ℕ) (p : PageNo) → (cs.asks_cut_or_name m ≡ true → Means a (Some ino) m) → Wants a (if b then cp.wanted_cut m ino p else None)
       cut a true m ino p f = λ e. record { own = refl; means = f e }
       cut a false m ino p f = tt
 
@@ -133,20 +134,27 @@ module _ (c : ClientId) (K : ℕ → Type 0) (G : List Output) (s : ServerId) (B
           by true q = cc
           by false q = sym (some_is q)
 
-      name_held : (n : NameAsk) (sv : ServerId) (ino : ℕ) (g : GrantNo) → cs.file_of_name n ≡ Some ino → cs.asks_cut_or_remove (bodies.Name (cp.name_op n g)) ≡ true → Means (asks.Name sv n) (Some ino) (bodies.Name (cp.name_op n g))
-      name_held (names.Remove dir name i) sv ino g q e = λ l. ap Some (meant_is i ino q)
-      name_held (names.Lookup dir name) sv ino g q e = cc e
-      name_held (names.Create dir name) sv ino g q e = cc e
-      name_held (names.Mkdir dir name) sv ino g q e = cc e
-      name_held (names.Rename dir name dir2 name2) sv ino g q e = cc e
-      name_held (names.List dir after) sv ino g q e = cc e
+      held_none : (n : NameAsk) (ino : ℕ) (g : GrantNo) → cs.file_of_name n ≡ Some ino → MeansNone n g
+      held_none (names.Remove dir name i) ino g q = λ z. by (i == 0) (eq-eqb i 0 z) q
+        where
+          by : {A : Type 0} (b : Bool) → b ≡ true → (if b then None else Some i) ≡ Some ino → A
+          by true e r = cc r
+          by false e r = cc e
+      held_none n ino g q = tt
+
+      held_cut : (n : NameAsk) (ino : ℕ) (g : GrantNo) → cs.file_of_name n ≡ Some ino → MeansCut n (Some ino) g
+      held_cut (names.Remove dir name i) ino g q = λ l. ap Some (meant_is i ino q)
+      held_cut n ino g q = tt
+
+      name_held : (n : NameAsk) (sv : ServerId) (ino : ℕ) (g : GrantNo) → cs.file_of_name n ≡ Some ino → Means (asks.Name sv n) (Some ino) (bodies.Name (cp.name_op n g))
+      name_held n sv ino g q = record { g = g; is = refl; none = held_none n ino g q; cut = held_cut n ino g q }
 
       held : (a : Ask) (ino : ℕ) (g : GrantNo) → cs.file_of a ≡ Some ino → Wants a (cp.want_held t a ino g)
       held (asks.Read f p) ino g q = none_if _ _ _ no
       held (asks.Write f p bytes) ino g q = none_if _ _ _ no
       held (asks.Patch f p at bytes) ino g q = none_if _ _ _ no
       held (asks.Cut f p) ino g q = cut (asks.Cut f p) (pages.is_idle t.here.store ino) (bodies.Cut ino g p) ino p (λ e. (some_is q, refl))
-      held (asks.Name sv k) ino g q = cut (asks.Name sv k) (pages.is_idle t.here.store ino) (bodies.Name (cp.name_op k g)) ino _ (λ e. name_held k sv ino g q e)
+      held (asks.Name sv k) ino g q = cut (asks.Name sv k) (pages.is_idle t.here.store ino) (bodies.Name (cp.name_op k g)) ino _ (λ e. name_held k sv ino g q)
       held (asks.Sync f) ino g q = tt
 
       under : (a : Ask) (ino : ℕ) (l : HeldLock) → cs.file_of a ≡ Some ino → (b : Bool) → Wants a (if b then cp.want_held t a ino l.g else cp.want_lock t x now ino (cp.need a))
@@ -157,16 +165,19 @@ module _ (c : ClientId) (K : ℕ → Type 0) (G : List Output) (s : ServerId) (B
       by a ino None q = if_none a _ _ no
       by a ino (Some l) q = under a ino l q _
 
-      plain : (n : NameAsk) (sv : ServerId) → cs.asks_cut_or_remove (bodies.Name (cp.name_op n locks.no_grant)) ≡ true → OwnWant (asks.Name sv n) (record { body = bodies.Name (cp.name_op n locks.no_grant); own = true; cut = None })
-      plain (names.Remove dir name i) sv e = record { own = refl; means = λ l. absurd (omega (arith, l)) }
-      plain (names.Lookup dir name) sv e = cc e
-      plain (names.Create dir name) sv e = cc e
-      plain (names.Mkdir dir name) sv e = cc e
-      plain (names.Rename dir name dir2 name2) sv e = cc e
-      plain (names.List dir after) sv e = cc e
+      plain_none : (n : NameAsk) → MeansNone n locks.no_grant
+      plain_none (names.Remove dir name i) = λ z. refl
+      plain_none n = tt
+
+      plain_cut : (n : NameAsk) → MeansCut n None locks.no_grant
+      plain_cut (names.Remove dir name i) = λ l. absurd (omega (arith, l))
+      plain_cut n = tt
+
+      plain : (n : NameAsk) (sv : ServerId) → OwnWant (asks.Name sv n) (record { body = bodies.Name (cp.name_op n locks.no_grant); own = true; cut = None })
+      plain n sv = record { own = refl; means = record { g = locks.no_grant; is = refl; none = plain_none n; cut = plain_cut n } }
 
       name : (a : Ask) → Wants a (cp.want_name a)
-      name (asks.Name sv k) = λ e. plain k sv e
+      name (asks.Name sv k) = λ e. plain k sv
       name (asks.Read f p) = tt
       name (asks.Write f p bytes) = tt
       name (asks.Patch f p at bytes) = tt
@@ -190,7 +201,7 @@ module _ (c : ClientId) (K : ℕ → Type 0) (G : List Output) (s : ServerId) (B
     pub known : ((o : Operation) → Has o os → K o.op) → (o : Operation) → Has o a.operations → K o.op
     pub others : (o : Operation) → Has o os → cs.is_of sv o ≡ false → Has o a.operations
     pub count : (k : ℕ) → pending k a.operations ≡ pending k os
-    pub owner : cs.asks_cut_or_remove a.wanted.body ≡ true → Owner sv (cp.file_cut a.wanted.cut) a.wanted.body a.operations
+    pub owner : cs.asks_cut_or_name a.wanted.body ≡ true → Owner sv (cp.file_cut a.wanted.cut) a.wanted.body a.operations
 
   asking_is : (t : Turn) (x : ClientSession) (now : Stamp) (os : List Operation) (a : cp.Asking) → cp.first_asking t x now os ≡ Some a → AskingOk t.here.server os a
   unfolding cp.first_asking cp.asks_or cp.asked_by
@@ -237,7 +248,7 @@ module _ (c : ClientId) (K : ℕ → Type 0) (G : List Output) (s : ServerId) (B
           others p (inl q) g = clash asks_it.0 (subst (λ r. cs.is_of sv r ≡ false) q g)
           others p (inr h) g = inr h
 
-          owner : cs.asks_cut_or_remove w.body ≡ true → Owner sv (cp.file_cut w.cut) w.body (cp.sent_if w.own o ∷ os)
+          owner : cs.asks_cut_or_name w.body ≡ true → Owner sv (cp.file_cut w.cut) w.body (cp.sent_if w.own o ∷ os)
           owner q = by (subst (Wants o.ask) asks_it.1 (want_is t x now o.ask) q)
             where
               by : OwnWant o.ask w → Owner sv (cp.file_cut w.cut) w.body (cp.sent_if w.own o ∷ os)
@@ -251,7 +262,7 @@ module _ (c : ClientId) (K : ℕ → Type 0) (G : List Output) (s : ServerId) (B
       go (Some w) e1 l e2 q k = here w e1 (sym (some_is q))
 
   -- Requests.
-  w_plain_ask : (t : Turn) (x : ClientSession) (now : Stamp) (body : Body) → cs.asks_cut_or_remove body ≡ false → CC t → WW (cp.ask t x now body None)
+  w_plain_ask : (t : Turn) (x : ClientSession) (now : Stamp) (body : Body) → cs.asks_cut_or_name body ≡ false → CC t → WW (cp.ask t x now body None)
   w_plain_ask t x now body n w = w_ask t x now body None (λ e. clash e n) w
 
   w_keep_alive : (t : Turn) (x : ClientSession) (now : Stamp) → WW t → WW (cp.keep_alive t x now)

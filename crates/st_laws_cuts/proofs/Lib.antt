@@ -1,5 +1,7 @@
 pub mod Counts
 pub mod Losing
+pub mod Naming
+pub mod Open
 pub mod Owning
 pub mod Client
 pub mod Step
@@ -9,3 +11,4 @@ pub mod Events
 pub mod World
 pub mod Law
 pub mod Acknowledged
+pub mod Changes

@@ -14,7 +14,6 @@ use Rattle.st_messages.specs.declared.ask.Ask.TheVariants as asks
 use Rattle.st_messages.specs.declared.message.Body.{Body}
 use Rattle.st_messages.specs.declared.message.Body.TheVariants as bodies
 use Rattle.st_messages.specs.declared.message.NameOp.{NameOp}
-use Rattle.st_messages.specs.declared.message.NameOp.TheVariants as ops
 use Rattle.st_rules.specs.declared.observation.Observation.{Observation}
 use Rattle.st_rules.specs.declared.observation.Observation.TheVariants as seen
 use Rattle.st_rules.specs.World.{numbered}
@@ -27,7 +26,7 @@ use Rattle.st_laws_pages.proofs.Asks.World.{asks_more}
 use Rattle.st_laws_requests.specs.Cuts.Cuts.{asks_of}
 use Rattle.st_promises.specs.Counts.{under_numbers}
 use Rattle.st_promises.specs.CutAsks.{is_uncertain, settles, settles_in}
-use Rattle.st_laws_cuts.specs.Over.{MeansGrant, MeansTo}
+use Rattle.st_laws_cuts.specs.Over.{MeansGrant, MeansOf, MeansTo}
 
 pub clash : {A : Type 0} {b : Bool} → b ≡ true → b ≡ false → A
 clash x y = cc
@@ -148,7 +147,10 @@ pub means_more : (G H : ℕ → GrantNo → Type 0) → ((i : ℕ) (g : GrantNo)
 means_more G H f s (asks.Cut g p) (bodies.Cut ino h q) m = m
 means_more G H f s (asks.Name sv n) (bodies.Name op) m = (m.0, name n op m.1)
   where
+    of : (n : NameAsk) (g : GrantNo) → MeansOf G n g → MeansOf H n g
+    of (names.Remove dir x ino) g k = λ l. f ino g (k l)
+    of n g k = tt
+
     name : (n : NameAsk) (op : NameOp) → MeansGrant G n op → MeansGrant H n op
-    name (names.Remove dir x ino) (ops.Remove d y g) k = λ l. f ino g (k l)
-    name n op k = absurd k
+    name n op k = record { g = k.g; is = k.is; none = k.none; of = of n k.g k.of }
 means_more G H f s a b m = absurd m

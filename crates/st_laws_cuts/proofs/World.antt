@@ -21,7 +21,7 @@ use Rattle.st_rules.specs.declared.client.Stage.TheVariants as stages
 use Rattle.st_rules.specs.declared.observation.Observation.TheVariants as seen
 use Rattle.st_rules.specs.Client as cl
 use Rattle.st_rules.specs.ClientState as cs
-use Rattle.st_rules.specs.ClientState.{Association, ClientSession, ClientState, ClientTurn, asks_cut_or_remove, client_turn}
+use Rattle.st_rules.specs.ClientState.{Association, ClientSession, ClientState, ClientTurn, asks_cut_or_name, client_turn}
 use Rattle.st_rules.specs.Events as ev
 use Rattle.st_rules.specs.Events.{WorldTurn, world_step}
 use Rattle.st_rules.specs.History.{Traced, traced_after}
@@ -131,7 +131,7 @@ module _ (k : Config) (count : ℕ) (past : List Step) (t : Traced) (e : Event) 
   abbrev Stood : ClientId → ClientSite → Association → Message → Type 0
   Stood c site a m = Over past (gifts k count t.world h.all c a.server) t.world c a.server site.node.state.operations m ⊎ ((site.node.running ≡ true) × (m.header.life ≡ a.life.0) × IsPending (gifts k count t.world h.all c a.server) a.server site.node.state.operations m)
 
-  stood : (c : ClientId) (site : ClientSite) → site_of t.world c ≡ Some site → (a : Association) → Has a site.node.state.associations → (m : Message) → Has m (messages t.world) → Between c a.server m → 1 ≤ m.header.number → asks_cut_or_remove m.body ≡ true → Stood c site a m
+  stood : (c : ClientId) (site : ClientSite) → site_of t.world c ≡ Some site → (a : Association) → Has a site.node.state.associations → (m : Message) → Has m (messages t.world) → Between c a.server m → 1 ≤ m.header.number → asks_cut_or_name m.body ≡ true → Stood c site a m
   stood c site at a i m among between pos own = go site.node.running refl (same_or_not m.header.life a.life.0)
     where
       up : m.header.life ≤ a.life.0
@@ -222,7 +222,7 @@ module _ (k : Config) (count : ℕ) (past : List Step) (t : Traced) (e : Event) 
       few y site (inr q) n = d.few y site q.1 n
       few y site (inl q) n = let w = ap (pending n) (ap (λ (u : ClientSite). u.node.state.operations) q.1 ∙ z.operations) in omega (arith, w)
 
-      over : (y : ClientId) (site : ClientSite) → Case y site → (a : Association) → Has a site.node.state.associations → (m : Message) → Has m (messages t.world) → Between y a.server m → 1 ≤ m.header.number → asks_cut_or_remove m.body ≡ true →
+      over : (y : ClientId) (site : ClientSite) → Case y site → (a : Association) → Has a site.node.state.associations → (m : Message) → Has m (messages t.world) → Between y a.server m → 1 ≤ m.header.number → asks_cut_or_name m.body ≡ true →
           (m.header.life < a.life.0) ⊎ (site.node.running ≡ false) → Over (past ++ step t e sc ∷ []) (gifts k count sc.world (followed k count past t e sc ranges h taken).after y a.server) sc.world y a.server site.node.state.operations m
       over y site (inr q) a i m among between pos own life = over_on silent y a.server site.node.state.operations m (d.over y site q.1 a i m among between pos own life)
       over y site (inl q) a i m among between pos own life = subst (λ (v : ServerId). Over (past ++ step t e sc ∷ []) (gifts k count sc.world (followed k count past t e sc ranges h taken).after y v) sc.world y v site.node.state.operations m) (sym b.2) (by (stood y old there b.0 b.1 m among (subst (λ (v : ServerId). Between y v m) b.2 between) pos own))
@@ -392,7 +392,7 @@ module _ (k : Config) (count : ℕ) (past : List Step) (t : Traced) (e : Event) 
     pair : (b : Association) → Has b u.state.associations → (a : Association) × Has a st.associations × LifeNext now st a b
     pair b j = pair_of (LifeNext now st) st.associations u.state.associations (step_lives c st now i node.fit).pairs b j
 
-    over_own : (b : Association) → Has b u.state.associations → (m : Message) → Has m (messages t.world) ⊎ Has (outputs.Send m) u.out → Between c b.server m → 1 ≤ m.header.number → asks_cut_or_remove m.body ≡ true → m.header.life < b.life.0 →
+    over_own : (b : Association) → Has b u.state.associations → (m : Message) → Has m (messages t.world) ⊎ Has (outputs.Send m) u.out → Between c b.server m → 1 ≤ m.header.number → asks_cut_or_name m.body ≡ true → m.header.life < b.life.0 →
         Over (past ++ step t e sc ∷ []) (gifts k count sc.world (followed k count past t e sc ranges h taken).after c b.server) sc.world c b.server u.state.operations m
     over_own b j m (inr p) between pos own life = let z = (ends.done b j).sent m p between in absurd (omega (arith, z, life))
     over_own b j m (inl p) between pos own life = subst (λ (w : ServerId). Over (past ++ step t e sc ∷ []) (gifts k count sc.world (followed k count past t e sc ranges h taken).after c w) sc.world c w u.state.operations m) q.2.server (by (stood c old at q.0 (old_at q.0 q.1) m p (subst (λ (w : ServerId). Between c w m) (sym q.2.server) between) pos own))
@@ -456,7 +456,7 @@ module _ (k : Config) (count : ℕ) (past : List Step) (t : Traced) (e : Event) 
             open_ a z = ap is_uncertain (told_once u.out w.2.operation.op a (answers.Uncertain said.0 0) (let g = ends.few w.2.operation.op in omega (arith, g)) (answered c w.2.operation.op a z).1 said.1)
 
     over_of : (y : ClientId) (s : ClientSite) → ((y.0 ≡ c.0) × (s ≡ SiteAfter v c i site)) ⊎ ((y.0 ≢ c.0) × (site_of t.world y ≡ Some s)) → (a : Association) → Has a s.node.state.associations → (m : Message) → Has m (messages sc.world) → Between y a.server m → 1 ≤ m.header.number →
-        asks_cut_or_remove m.body ≡ true → (m.header.life < a.life.0) ⊎ (s.node.running ≡ false) → Over (past ++ step t e sc ∷ []) (gifts k count sc.world (followed k count past t e sc ranges h taken).after y a.server) sc.world y a.server s.node.state.operations m
+        asks_cut_or_name m.body ≡ true → (m.header.life < a.life.0) ⊎ (s.node.running ≡ false) → Over (past ++ step t e sc ∷ []) (gifts k count sc.world (followed k count past t e sc ranges h taken).after y a.server) sc.world y a.server s.node.state.operations m
     over_of y s (inl q) a j m among between pos own life =
         subst (λ n. Over (past ++ step t e sc ∷ []) (gifts k count sc.world (followed k count past t e sc ranges h taken).after (record { 0 = n }) a.server) sc.world (record { 0 = n }) a.server s.node.state.operations m) (sym q.0)
         (subst (λ (w : ClientSite). Over (past ++ step t e sc ∷ []) (gifts k count sc.world (followed k count past t e sc ranges h taken).after c a.server) sc.world c a.server w.node.state.operations m) (sym q.1)

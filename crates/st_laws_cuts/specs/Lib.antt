@@ -1,3 +1,4 @@
 pub mod Owners
 pub mod Over
 pub mod Acknowledged
+pub mod Served

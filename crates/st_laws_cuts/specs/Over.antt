@@ -1,4 +1,4 @@
--- Requests to cut or to remove a file, of lives to which their clients do not come back.
+-- Requests to cut a file or for a name, of lives to which their clients do not come back.
 use Rattle.std.specs.Prelude.{◌≡◌, ℕ, ◌≤◌, ◌<◌, true, false, List, Some, length}
 use Rattle.std.proofs.Common.{◌⊎◌}
 use Rattle.std.specs.List.{list_any}
@@ -13,23 +13,30 @@ use Rattle.st_messages.specs.declared.message.Body.{Body}
 use Rattle.st_messages.specs.declared.message.Body.TheVariants as bodies
 use Rattle.st_messages.specs.declared.message.Message.{Message}
 use Rattle.st_messages.specs.declared.message.NameOp.{NameOp}
-use Rattle.st_messages.specs.declared.message.NameOp.TheVariants as ops
 use Rattle.st_rules.specs.declared.client.Operation.{Operation}
-use Rattle.st_rules.specs.ClientState.{Association, asks_cut_or_remove, is_asked}
+use Rattle.st_rules.specs.ClientPasses.{name_op}
+use Rattle.st_rules.specs.ClientState.{Association, asks_cut_or_name, is_asked}
 use Rattle.st_rules.specs.Server.{ServerNode, is_client_node}
 use Rattle.st_rules.specs.World.{ClientSite, World, node_of, numbered, site_of}
 use Rattle.st_rules.specs.Safety.{Step, answers_in}
 use Rattle.st_lemmas.specs.Lists.{Has}
 use Rattle.st_laws_leases.specs.Dates.Dates.{messages}
-use Rattle.st_laws_requests.specs.Cuts.Cuts.{Between, asks_of}
+use Rattle.st_laws_requests.specs.Cuts.Cuts.{Between, MeansNone, asks_of}
 use Rattle.st_laws_extents.specs.CutRequests.EndedLives.{IsPast}
 use Rattle.st_laws_extents.specs.CutRequests.World.{Gifts}
 use Rattle.st_promises.specs.CutAsks.{settles_in}
 
--- a request to remove under a grant means the file of which the grant was given
-abbrev pub MeansGrant : (ℕ → GrantNo → Type 0) → NameAsk → NameOp → Type 0
-MeansGrant G (names.Remove dir name ino) (ops.Remove d n g) = 1 ≤ g.0 → G ino g
-MeansGrant G ask op = ⊥
+-- a remove under a grant means the file of which the grant was given
+abbrev pub MeansOf : (ℕ → GrantNo → Type 0) → NameAsk → GrantNo → Type 0
+MeansOf G (names.Remove dir name ino) g = 1 ≤ g.0 → G ino g
+MeansOf G ask g = Unit {0}
+
+-- a request for a name is that of an ask
+pub record MeansGrant (G : ℕ → GrantNo → Type 0) (ask : NameAsk) (op : NameOp) : Type 0 where
+  pub g : GrantNo
+  pub is : op ≡ name_op ask g
+  pub none : MeansNone ask g
+  pub of : MeansOf G ask g
 
 -- a request to a server is that of an ask
 abbrev pub MeansTo : (ℕ → GrantNo → Type 0) → ServerId → Ask → Body → Type 0
@@ -54,11 +61,11 @@ pub record IsLeft (past : List Step) (G : ℕ → GrantNo → Type 0) (c : Clien
 abbrev pub Over : List Step → (ℕ → GrantNo → Type 0) → World → ClientId → ServerId → List Operation → Message → Type 0
 Over past G w c s os m = AllPast w c s m ⊎ IsLeft past G c s os m
 
--- each message of a client to a server, to cut or to remove a file, in a life to which the client does not come back
+-- each message of a client to a server, to cut a file or for a name, in a life to which the client does not come back
 abbrev pub AllOver : List Step → Gifts → World → Type 0
 AllOver past G w =
     (c : ClientId) (site : ClientSite) → site_of w c ≡ Some site → (a : Association) → Has a site.node.state.associations →
-    (m : Message) → Has m (messages w) → Between c a.server m → 1 ≤ m.header.number → asks_cut_or_remove m.body ≡ true →
+    (m : Message) → Has m (messages w) → Between c a.server m → 1 ≤ m.header.number → asks_cut_or_name m.body ≡ true →
     (m.header.life < a.life.0) ⊎ (site.node.running ≡ false) → Over past (G c a.server) w c a.server site.node.state.operations m
 
 -- a pending operation was not answered
