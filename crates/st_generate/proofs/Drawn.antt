@@ -8,7 +8,7 @@ use Rattle.st_messages.specs.Fits.{is_ask}
 use Rattle.st_messages.specs.declared.event.Event.{Event}
 use Rattle.st_messages.specs.declared.event.Event.TheVariants as events
 use Rattle.st_rules.specs.Safety.{is_event, is_increment}
-use Rattle.st_schedule.specs.Words.{MOST_NUMBER}
+use Rattle.st_schedule_words.specs.Words.{MOST_NUMBER}
 use Rattle.st_schedule.specs.Grammar.{Fits, IsNode, IsFile, IsEven, IsStep, byte_of}
 use Rattle.st_lemmas.proofs.Tables.{and_both}
 use Rattle.st_rules.specs.Generator as g

@@ -9,7 +9,7 @@ use Rattle.st_rules.specs.Report as report
 use Rattle.st_rules.specs.Run.{Run, run, go_on}
 use Rattle.st_rules.specs.Safety.{is_event}
 use Rattle.st_rules.specs.World.{World, fresh_world}
-use Rattle.st_schedule.specs.Words.{MOST_NUMBER}
+use Rattle.st_schedule_words.specs.Words.{MOST_NUMBER}
 use Rattle.st_schedule.specs.Grammar.{Fits}
 use Rattle.st_lemmas.proofs.Tables.{and_both}
 use Rattle.st_rules.specs.Generator as g

@@ -4,7 +4,7 @@ use Rattle.std.specs.List.{flat_map}
 use Rattle.st_messages.specs.declared.event.Counts.{Counts}
 use Rattle.st_messages.specs.declared.event.Event.{Event}
 use Rattle.st_rules.specs.Report.{ended, report_open}
-use Rattle.st_schedule.specs.Words.{line_of}
+use Rattle.st_schedule_words.specs.Words.{line_of}
 use Rattle.st_schedule.specs.Grammar.{head_words, words, words_after, ask_words, name_words}
 use Rattle.st_rules.specs.Generator.{settings, generate, work, generator_open}
 

@@ -9,7 +9,7 @@ use Rattle.st_rules.specs.World.{World}
 use Rattle.st_rules.specs.Report.{opening, lines_from, report, ended}
 use Rattle.st_rules.specs.Run.{Run, run}
 use Rattle.st_rules.specs.Safety.{IsHead, is_event}
-use Rattle.st_schedule.specs.Words.{MOST_NUMBER}
+use Rattle.st_schedule_words.specs.Words.{MOST_NUMBER}
 use Rattle.st_schedule.specs.Grammar.{Fits, FitsHead}
 use Rattle.st_rules.specs.Generator.{settings, generator_world, generate, work}
 use Rattle.st_generate.specs.GeneratedText.{counts}

@@ -17,7 +17,7 @@ use Rattle.st_schedule.specs.declared.reader.Line.{Line}
 use Rattle.st_schedule.specs.declared.reader.Line.TheVariants as said
 use Rattle.st_schedule.specs.declared.reader.Progress.{Progress}
 use Rattle.st_schedule.specs.declared.reader.Progress.TheVariants as progress
-use Rattle.st_schedule.specs.Words.{split, room, is_long}
+use Rattle.st_schedule_words.specs.Words.{split, room, is_long}
 use Rattle.st_schedule.specs.Grammar.{MOST_SETTING, grains, counts_of, head_numbers, head_words, AreCounts, IsForm, FitsHead}
 use Rattle.st_schedule.specs.Reading.{line_event, head_at}
 use Rattle.st_schedule.specs.Reader as head
@@ -36,7 +36,7 @@ use Rattle.st_schedule.specs.Reader.{
   MOST_EVENTS,
   SpellsLine,
 }
-use Rattle.st_schedule.proofs.Words.{room-split}
+use Rattle.st_schedule_words.proofs.Words.{room-split}
 use Rattle.st_schedule.proofs.ValuesWereWritten.{chosen}
 use Rattle.st_schedule.proofs.EventsWereWritten.{end_is_spelled}
 use Rattle.st_schedule.proofs.LinesAsSpelled.{line_is_spelled}

@@ -18,7 +18,7 @@ use Rattle.st_schedule.specs.declared.reader.Line.{Line}
 use Rattle.st_schedule.specs.declared.reader.Line.TheVariants as said
 use Rattle.st_schedule.specs.declared.reader.Progress.{Progress}
 use Rattle.st_schedule.specs.declared.reader.Progress.TheVariants as progress
-use Rattle.st_schedule.specs.Words.{split}
+use Rattle.st_schedule_words.specs.Words.{split}
 use Rattle.st_schedule.specs.Reading.{line_event}
 use Rattle.st_schedule.specs.Reader.{nodes_of, counted, with_line, later_line, read_line, read_end, HasNodes, HasRoom, after_line, MOST_EVENTS, SpellsLine}
 use Rattle.st_schedule.proofs.LinesAsSpelled.{line_is_read, line_is_spelled}

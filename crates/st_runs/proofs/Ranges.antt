@@ -21,7 +21,7 @@ use Rattle.st_messages.specs.Fits.{is_ask, is_name_ask, is_file, has_length}
 use Rattle.st_rules.specs.Safety.{IsHead, is_event, is_increment}
 use Rattle.st_rules.specs.Extents.{numbers}
 use Rattle.st_rules.specs.World.{fresh_world, client_clock, server_clock}
-use Rattle.st_schedule.specs.Words.{is_name}
+use Rattle.st_schedule_words.specs.Words.{is_name}
 use Rattle.st_schedule.specs.Grammar.{Fits, FitsAsk, FitsName, FitsHead, IsFile, IsWithin, IsAfter, IsForm, IsStep, byte_of}
 
 both : (a b : Bool) → a ≡ true → b ≡ true → (a && b) ≡ true

@@ -4,7 +4,7 @@ use Rattle.std.specs.Prelude.{Ok}
 use Rattle.std.proofs.lemmas.Bool.Decides.{nat_tests}
 use Rattle.st_schedule.specs.declared.reader.Line.{Line}
 use Rattle.st_schedule.specs.declared.reader.Progress.{Progress}
-use Rattle.st_schedule.specs.Words.{is_long}
+use Rattle.st_schedule_words.specs.Words.{is_long}
 use Rattle.st_schedule.specs.Reader.{short_line, read_line}
 use Rattle.st_schedule.proofs.ValuesWereWritten.{chosen}
 

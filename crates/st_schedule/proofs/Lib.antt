@@ -1,8 +1,5 @@
-pub mod Words
-pub mod LineFronts
 pub mod LineEnds
 pub mod Increments
-pub mod Numbers
 pub mod ValuesAreRead
 pub mod EventsAreRead
 pub mod LineRoom

@@ -17,9 +17,9 @@ use Rattle.st_messages.specs.declared.ask.Ask.{Ask}
 use Rattle.st_messages.specs.declared.ask.Ask.TheVariants as asks
 use Rattle.st_messages.specs.declared.event.Event.{Event}
 use Rattle.st_messages.specs.declared.event.Event.TheVariants as events
-use Rattle.st_schedule.specs.Words.{is_digit, is_visible, split, line_of, spaced, room, MOST_NODE, MOST_NUMBER}
+use Rattle.st_schedule_words.specs.Words.{is_digit, is_visible, split, line_of, spaced, room, MOST_NODE, MOST_NUMBER}
 use Rattle.st_schedule.specs.Grammar.{words, words_after, verb, ask_words, name_words, steps_words, in_full, are_equal, byte_of, file_text, file_name, node_text, after_text, result_text, link_words, IsWithin, IsNode, IsFile, IsPlace, IsName, IsAfter, FitsName, FitsAsk, Fits, least_step, MOST_PAGE}
-use Rattle.st_schedule.proofs.Numbers.{own}
+use Rattle.st_schedule_words.proofs.Numbers.{own}
 
 abbrev pub is_unspaced : List ℕ → Bool
 is_unspaced w = list_all (λ b. not (b == 32)) w

@@ -6,7 +6,7 @@ use Rattle.st_messages.specs.declared.event.Counts.{Counts}
 use Rattle.st_messages.specs.declared.event.Event.{Event}
 use Rattle.st_schedule.specs.declared.reader.Line.TheVariants as lines
 use Rattle.st_schedule.specs.declared.reader.Progress.TheVariants as progress
-use Rattle.st_schedule.specs.Words.{split, line_of, is_long}
+use Rattle.st_schedule_words.specs.Words.{split, line_of, is_long}
 use Rattle.st_schedule.specs.Grammar.{words, words_after, verb}
 use Rattle.st_schedule.specs.Reading.{line_event}
 use Rattle.st_schedule.specs.Reader.{later_line, nodes_of, MOST_EVENTS, IsReadAs}

@@ -18,7 +18,7 @@ use Rattle.st_messages.specs.declared.ask.Ask.TheVariants as asks
 use Rattle.st_messages.specs.declared.event.Counts.{Counts}
 use Rattle.st_messages.specs.declared.event.Event.{Event}
 use Rattle.st_messages.specs.declared.event.Event.TheVariants as events
-use Rattle.st_schedule.specs.Words.{MOST_NODE, MOST_SERVER, MOST_NUMBER, is_name}
+use Rattle.st_schedule_words.specs.Words.{MOST_NODE, MOST_SERVER, MOST_NUMBER, is_name}
 
 -- The words of an event.
 

@@ -1,5 +1,3 @@
-pub mod Words
-pub mod Lines
 pub mod Grammar
 pub mod Reading
 pub mod Reader

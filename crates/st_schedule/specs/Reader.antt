@@ -16,7 +16,7 @@ use Rattle.st_schedule.specs.declared.reader.Line.{Line}
 use Rattle.st_schedule.specs.declared.reader.Line.TheVariants as lines
 use Rattle.st_schedule.specs.declared.reader.Progress.{Progress}
 use Rattle.st_schedule.specs.declared.reader.Progress.TheVariants as progress
-use Rattle.st_schedule.specs.Words.{split, column, is_long}
+use Rattle.st_schedule_words.specs.Words.{split, column, is_long}
 use Rattle.st_schedule.specs.Grammar.{Fits, Spells, SpellsHead}
 use Rattle.st_schedule.specs.Reading.{line_event, head_at}
 

@@ -23,7 +23,7 @@ use Rattle.st_schedule.specs.declared.verb.Verb.{Verb}
 use Rattle.st_schedule.specs.declared.verb.Verb.TheVariants as verbs
 use Rattle.st_schedule.specs.declared.verb.AskVerb.{AskVerb}
 use Rattle.st_schedule.specs.declared.verb.AskVerb.TheVariants as ask_verbs
-use Rattle.st_schedule.specs.Words.{left, is_number, in_range, node_of, client_word, file_word, is_name, MOST_NUMBER}
+use Rattle.st_schedule_words.specs.Words.{left, is_number, in_range, node_of, client_word, file_word, is_name, MOST_NUMBER}
 use Rattle.st_schedule.specs.Grammar.{MOST_PAGE, MOST_SETTING, least_step}
 
 infixl 10 ◌>>=◌

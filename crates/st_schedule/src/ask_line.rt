@@ -1,14 +1,14 @@
 ghost use Rattle.std.specs.Prelude.{◌≡◌, ◌≤◌, ◌+◌, IfOk, replicate};
-ghost use Rattle.st_schedule.specs.Words.{words_behind};
+ghost use Rattle.st_schedule_words.specs.Words.{words_behind};
 ghost use Rattle.st_schedule.specs.Reading.{Gives};
 ghost use Rattle.st_schedule.specs.Reading as reading;
 
 use crate::fault::ReadError;
 use crate::next_word::{after_at, ask_verb_at, client_at, file_at, name_at, number_at, place_at};
 use crate::verb::AskVerb;
-use crate::word_values::MOST_NUMBER;
 use st_base::{FileId, Name, NameAsk, PageBytes};
 use st_messages::{Ask, Event, PatchBytes};
+use st_schedule_words::MOST_NUMBER;
 use std::alloc::{AllocError, Global};
 
 #[tactic(auto, unfolding(crate::specs::Reading::write_at))]

@@ -1,5 +1,5 @@
 ghost use Rattle.std.specs.Prelude.{◌≡◌};
-ghost use Rattle.st_schedule.specs.Words.{split, words_behind};
+ghost use Rattle.st_schedule_words.specs.Words.{split, words_behind};
 ghost use Rattle.st_schedule.specs.Grammar.{least_step as least_step_of};
 ghost use Rattle.st_schedule.specs.Reading.{Gives};
 ghost use Rattle.st_schedule.specs.Reading as reading;
@@ -8,9 +8,9 @@ use crate::ask_line::app_at;
 use crate::fault::ReadError;
 use crate::next_word::{ends, node_at, number_at, result_at, unknown_word};
 use crate::verb::{Verb, verb_of};
-use crate::word_values::{MOST_NUMBER, is, split_word};
 use st_base::NodeId;
 use st_messages::{Event, Steps};
+use st_schedule_words::{MOST_NUMBER, is, split_word};
 use std::alloc::Global;
 
 /// Reads `count` increments, each at least `least`.

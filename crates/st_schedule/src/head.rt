@@ -1,5 +1,5 @@
 ghost use Rattle.std.specs.Prelude.{◌≡◌, ◌<◌, ◌≤◌, ◌^◌, IfOk};
-ghost use Rattle.st_schedule.specs.Words.{words_behind};
+ghost use Rattle.st_schedule_words.specs.Words.{words_behind};
 ghost use Rattle.st_schedule.specs.Reading.{Gives};
 ghost use Rattle.st_schedule.specs.Reading as reading;
 

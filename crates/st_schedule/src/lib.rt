@@ -6,21 +6,18 @@ mod event_line;
 mod fault;
 mod head;
 mod law;
-mod lines;
 mod next_word;
 mod printer;
 mod reader;
 mod verb;
-mod word_values;
 
 pub use fault::{Fault, ReadError, ScheduleRefusal};
 pub use law::{
     lines_are_read_as_they_are_spelled, printed_lines_are_read_back, what_is_read_is_spelled_so,
     what_spells_an_event_is_read_so, words_spell_one_event,
 };
-pub use lines::take_line;
 pub use next_word::{ends, name_at, number_at, result_at, unknown_word, word_at};
 pub use printer::print;
 pub use reader::{Line, Progress, ScheduleReader};
 pub use st_messages::{Counts, Event, Steps};
-pub use word_values::{is_long, split_word};
+pub use st_schedule_words::{is_long, split_word, take_line};

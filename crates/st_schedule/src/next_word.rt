@@ -1,22 +1,22 @@
 ghost use Rattle.std.specs.Prelude.{◌≡◌, ◌≤◌, IfOk};
-ghost use Rattle.st_schedule.specs.Words.{split, words_behind};
-ghost use Rattle.st_schedule.specs.Words as words;
+ghost use Rattle.st_schedule_words.specs.Words.{split, words_behind};
+ghost use Rattle.st_schedule_words.specs.Words as words;
 ghost use Rattle.st_schedule.specs.Reading.{Gives};
 ghost use Rattle.st_schedule.specs.Reading as reading;
 
 use crate::fault::{Fault, ReadError};
 use crate::verb::{AskVerb, ask_verb_of, form_of, result_of};
-use crate::word_values::{
+use st_base::{ClientId, FileId, Name, NodeId, PageNo};
+use st_schedule_words::{
     client_word, file_word, in_range, is, is_name, is_number, node_of, split_word,
 };
-use st_base::{ClientId, FileId, Name, NodeId, PageNo};
 use std::alloc::Global;
 
 /// The greatest page number.
 const MOST_PAGE: u64 = 1_048_575;
 
 /// The number of bytes from the first byte of the next word to the end of the line.
-#[tactic(auto, using(crate::proofs::Words::left_behind))]
+#[tactic(auto, using(st_schedule_words::proofs::Words::left_behind))]
 fn left(rest: &[u8]) -> usize
     ensures { result ≡ words.left (words_behind rest.now) }
 {
@@ -31,7 +31,7 @@ pub(crate) fn syntax(rest: &[u8]) -> ReadError
 }
 
 /// The fault of a line whose first word is none of those that may stand there.
-#[tactic(auto, using(crate::proofs::Words::left_split))]
+#[tactic(auto, using(st_schedule_words::proofs::Words::left_split))]
 pub fn unknown_word(line: &[u8]) -> ReadError
     ensures { result ≡ ReadError.Fault (Fault.Syntax (words.left (split line.now))) }
 {

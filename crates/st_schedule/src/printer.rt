@@ -1,6 +1,6 @@
 ghost use Rattle.std.specs.Prelude.{◌≡◌, ◌∷◌, ◌++◌, IfOk, OnOk, get_or, length, map};
 ghost use Rattle.std.specs.Fmt.{decimal};
-ghost use Rattle.st_schedule.specs.Words.{line_of, spaced};
+ghost use Rattle.st_schedule_words.specs.Words.{line_of, spaced};
 ghost use Rattle.st_schedule.specs.Grammar as grammar;
 ghost use Rattle.st_schedule.specs.Reader.{IsReadAs};
 

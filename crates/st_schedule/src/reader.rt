@@ -1,16 +1,16 @@
 ghost use Rattle.std.specs.Prelude.{◌≡◌, ◌≤◌, IfOk, Ok, length};
 ghost use Rattle.st_base.specs.Config.{check};
 ghost use Rattle.st_schedule.specs.declared.reader.Line.{Line};
-ghost use Rattle.st_schedule.specs.Words as words;
+ghost use Rattle.st_schedule_words.specs.Words as words;
 ghost use Rattle.st_schedule.specs.Reader.{Answers, IsTold, Tells};
 ghost use Rattle.st_schedule.specs.Reader as reader;
 
 use crate::event_line::line_event;
 use crate::fault::{Fault, ReadError, ScheduleRefusal};
 use crate::head::head_at;
-use crate::word_values::{is, is_long, split_word};
 use st_base::Config;
 use st_messages::{Counts, Event};
+use st_schedule_words::{is, is_long, split_word};
 use std::alloc::Global;
 use std::marker::Model;
 

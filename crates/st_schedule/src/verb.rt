@@ -1,7 +1,7 @@
 ghost use Rattle.std.specs.Prelude.{◌≡◌};
 ghost use Rattle.st_schedule.specs.Reading as reading;
 
-use crate::word_values::is;
+use st_schedule_words::is;
 
 /// The first word of a line after the head.
 #[derive(Clone, Copy, Debug, PartialEq, Eq)]

@@ -7,7 +7,7 @@ use Rattle.std.proofs.Math.Seq.{take-append_seam}
 use Rattle.std.proofs.lemmas.List.{append_assoc}
 use Rattle.st_link.specs.Prefixes.{AppendsPrefix}
 use Rattle.st_schedule.specs.declared.fault.Fault.{Fault}
-use Rattle.st_schedule.specs.Lines.{lines_of}
+use Rattle.st_schedule_words.specs.Lines.{lines_of}
 use Rattle.st_script.specs.declared.fault.ScriptFault.{ScriptFault}
 use Rattle.st_script.specs.declared.fault.ScriptFault.TheVariants as faults
 use Rattle.st_script.specs.Scripts.{Ending, Outcome, Rules, Stopped, Whole, answer_lines, behind, begun, ended, first_line, headed_lines, play_from, read_line, stopped, stopped_text, whole, with_read}

@@ -6,7 +6,7 @@ use Rattle.std.specs.Str.{bytes_eq}
 use Rattle.st_base.specs.declared.ids.ServerId.{ServerId}
 use Rattle.st_rules.specs.Report.{field}
 use Rattle.st_schedule.specs.Reading.{◌>>=◌, Read, ends, number_at, syntax_at, word_at}
-use Rattle.st_schedule.specs.Words.{MOST_NUMBER, is_visible}
+use Rattle.st_schedule_words.specs.Words.{MOST_NUMBER, is_visible}
 use Rattle.st_schedule.specs.declared.fault.Fault.{Fault}
 use Rattle.st_script.specs.Scripts.{Rules}
 use Rattle.st_move.specs.Network.{MoveRun}

@@ -4,8 +4,8 @@ use Rattle.std.specs.Fmt.{decimal}
 use Rattle.std.specs.Str.{bytes_eq}
 use Rattle.st_rules.specs.Report.{refused}
 use Rattle.st_schedule.specs.declared.fault.Fault.{Fault}
-use Rattle.st_schedule.specs.Lines.{lines_of}
-use Rattle.st_schedule.specs.Words.{is_long, split}
+use Rattle.st_schedule_words.specs.Lines.{lines_of}
+use Rattle.st_schedule_words.specs.Words.{is_long, split}
 
 -- What a command is: the event that the words of a line spell, or why they spell none; the answers to an event, each of which is
 -- a text behind a space; the state after it; and the last line, behind so many events.

@@ -5,7 +5,7 @@ use Rattle.st_base.specs.Page.{filled}
 use Rattle.st_rules.specs.Report.{field, runs}
 use Rattle.st_schedule.specs.Grammar.{MOST_PAGE}
 use Rattle.st_schedule.specs.Reading.{◌>>=◌, ends, number_at, syntax_at}
-use Rattle.st_schedule.specs.Words.{MOST_NUMBER}
+use Rattle.st_schedule_words.specs.Words.{MOST_NUMBER}
 use Rattle.st_schedule.specs.declared.fault.Fault.{Fault}
 use Rattle.st_script.specs.Scripts.{Rules}
 use Rattle.st_script.specs.declared.snap_event.SnapEvent.{SnapEvent}

@@ -1,6 +1,6 @@
 ghost use Rattle.std.specs.Prelude.{◌≡◌, ◌<◌, IfOk, IfSome};
 ghost use Rattle.std.specs.Str.{bytes_eq};
-ghost use Rattle.st_schedule.specs.Words.{split};
+ghost use Rattle.st_schedule_words.specs.Words.{split};
 ghost use Rattle.st_script.specs.Playing.{IsRead};
 ghost use Rattle.st_script.specs.Scripts as scripts;
 

@@ -1,7 +1,7 @@
 ghost use Rattle.std.specs.Prelude.{ℕ, ◌≡◌, ◌≤◌, ◌<◌, ◌+◌, ◌++◌, OnOk, OnErr, IfErr, Err};
 ghost use Rattle.std.specs.Io.KnownBytes.{Appends};
 ghost use Rattle.st_link.specs.Prefixes.{AppendsPrefix};
-ghost use Rattle.st_schedule.specs.Lines.{lines_of};
+ghost use Rattle.st_schedule_words.specs.Lines.{lines_of};
 ghost use Rattle.st_script.specs.Ends.{Refuses, Reports, WriteCauses, Writes};
 ghost use Rattle.st_script.specs.Scripts as scripts;
 ghost use Rattle.st_script.specs.Scripts.{answer_lines, stopped_text};

@@ -1,6 +1,6 @@
 ghost use Rattle.std.specs.Prelude.{◌≡◌};
 ghost use Rattle.st_schedule.specs.Reading.{Gives};
-ghost use Rattle.st_schedule.specs.Words.{split, words_behind};
+ghost use Rattle.st_schedule_words.specs.Words.{split, words_behind};
 ghost use Rattle.st_script.specs.SharedScripts as scripts;
 
 use crate::lines::is;

@@ -1,7 +1,7 @@
 ghost use Rattle.std.specs.Prelude.{◌≡◌, ◌≤◌, IfOk};
 ghost use Rattle.std.specs.Str.{bytes_eq};
 ghost use Rattle.st_schedule.specs.Reading.{Gives};
-ghost use Rattle.st_schedule.specs.Words.{split, words_behind};
+ghost use Rattle.st_schedule_words.specs.Words.{split, words_behind};
 ghost use Rattle.st_script.specs.SnapScripts as scripts;
 
 use crate::lines::is;

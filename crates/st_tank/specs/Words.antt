@@ -3,7 +3,7 @@ use Rattle.std.specs.Prelude.{ℕ, ◌≡◌, ◌≤◌, ◌⊎◌, ◌==◌, Bo
 use Rattle.std.specs.Str.{bytes_eq}
 use Rattle.st_generate.specs.GeneratedText.{generate_text, work_text}
 use Rattle.st_link.specs.Causes.{Rose}
-use Rattle.st_schedule.specs.Words.{plain}
+use Rattle.st_schedule_words.specs.Words.{plain}
 use Rattle.st_tank.specs.declared.words.Command.{Command}
 use Rattle.st_tank.specs.declared.words.Command.TheVariants as commands
 use Rattle.st_tank.specs.declared.words.Job.{Job}

@@ -1,7 +1,7 @@
 // Numbers among the words.
 ghost use Rattle.std.specs.Prelude.{◌≡◌, ◌≤◌, IfSome};
 ghost use Rattle.std.specs.List.{list_all};
-ghost use Rattle.st_schedule.specs.Words as words;
+ghost use Rattle.st_schedule_words.specs.Words as words;
 
 fn is_digit(b: u8) -> bool
     ensures { result ≡ words.is_digit b }
@@ -32,7 +32,7 @@ fn has_leading_zero(word: &[u8]) -> bool
 }
 
 /// The value of these digits, if it is at most `most`.
-#[tactic(auto, using(st_schedule::proofs::Words::value_above))]
+#[tactic(auto, using(st_schedule_words::proofs::Words::value_above))]
 fn value_up_to(most: u64, word: &[u8]) -> Option<u64>
     ensures { result ≡ words.at_most most (words.value word.now) }
 {

@@ -16,9 +16,9 @@ use Rattle.st_messages.specs.declared.ask.Ask.{Ask}
 use Rattle.st_messages.specs.declared.ask.Ask.TheVariants as asks
 use Rattle.st_messages.specs.declared.event.Event.{Event}
 use Rattle.st_messages.specs.declared.event.Event.TheVariants as events
-use Rattle.st_schedule.specs.Words.{is_digit, is_visible, line_of, spaced, MOST_NUMBER}
+use Rattle.st_schedule_words.specs.Words.{is_digit, is_visible, line_of, spaced, MOST_NUMBER}
 use Rattle.st_schedule.specs.Grammar.{words, words_after, verb, ask_words, name_words, steps_words, in_full, are_equal, byte_of, file_text, node_text, after_text, result_text, IsWithin, IsNode, IsFile, IsPlace, IsName, IsAfter, FitsName, FitsAsk, Fits, least_step}
-use Rattle.st_schedule.proofs.Numbers.{own}
+use Rattle.st_schedule_words.proofs.Numbers.{own}
 use Rattle.st_lemmas.proofs.Tables.{and_true, and_both}
 
 -- no byte of these is a newline

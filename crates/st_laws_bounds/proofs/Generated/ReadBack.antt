@@ -6,7 +6,7 @@ use Rattle.std.specs.List.{flat_map, AllByRecursion}
 use Rattle.st_messages.specs.declared.event.Event.{Event}
 use Rattle.st_schedule.specs.declared.reader.Line.TheVariants as said
 use Rattle.st_schedule.specs.declared.reader.Progress.TheVariants as progress
-use Rattle.st_schedule.specs.Words.{line_of, split}
+use Rattle.st_schedule_words.specs.Words.{line_of, split}
 use Rattle.st_schedule.specs.Grammar.{Fits, head_words, words}
 use Rattle.st_schedule.specs.Reader.{MOST_EVENTS, read_line, later_line}
 use Rattle.st_schedule.specs.Reading.{line_event, end_of, ends}

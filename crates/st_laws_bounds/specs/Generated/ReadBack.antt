@@ -2,7 +2,7 @@
 use Rattle.std.specs.Prelude.{◌≡◌, ◌≤◌, ℕ, List, Ok}
 use Rattle.st_schedule.specs.declared.reader.Line.TheVariants as said
 use Rattle.st_schedule.specs.declared.reader.Progress.TheVariants as progress
-use Rattle.st_schedule.specs.Words.{line_of}
+use Rattle.st_schedule_words.specs.Words.{line_of}
 use Rattle.st_schedule.specs.Grammar.{head_words}
 use Rattle.st_schedule.specs.Reader.{MOST_EVENTS, read_line}
 use Rattle.st_rules.specs.Generator.{settings, generate}

@@ -1,5 +1,5 @@
 use Rattle.std.proofs.Common.{◌≡◌, ◌++◌, drop}
-use Rattle.st_schedule.specs.Words.{spaced}
+use Rattle.st_schedule_words.specs.Words.{spaced}
 use Rattle.st_schedule.specs.Grammar.{in_full}
 use Rattle.st_schedule.proofs.printer.put_all.Given as goal
 

@@ -1,5 +1,5 @@
 use Rattle.std.proofs.Common.{◌≡◌, ◌≤◌, drop}
-use Rattle.st_schedule.specs.Words.{value_from}
+use Rattle.st_schedule_words.specs.Words.{value_from}
 use Rattle.st_tank.proofs.numbers.value_up_to.Given as goal
 
 abbrev pub invariant-loop-b : goal.invariant-loop-b

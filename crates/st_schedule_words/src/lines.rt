@@ -1,5 +1,5 @@
 ghost use Rattle.std.specs.Prelude.{◌≡◌, ◌∷◌, ◌<◌, [], None, IfSome, length};
-ghost use Rattle.st_schedule.specs.Lines.{lines_of};
+ghost use Rattle.st_schedule_words.specs.Lines.{lines_of};
 
 /// The first line of some bytes, and what follows its newline. There is at least one byte.
 fn split_line(bytes: &[u8]) -> (&[u8], &[u8])

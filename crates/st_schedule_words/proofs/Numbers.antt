@@ -6,7 +6,7 @@ use Rattle.std.specs.List.{list_all}
 use Rattle.std.proofs.lemmas.Bool.Decides.{nat_tests}
 use Rattle.std.proofs.lemmas.Str.Parse.{IsNumeralModel, numerals_by_fold}
 use Rattle.std.proofs.lemmas.Fmt.{digits_decimal, digits_value-decimal, decimal_nonempty, first_decimal, decimal_digit}
-use Rattle.st_schedule.specs.Words.{is_digit, is_number, value_from, value, has_leading_zero, in_range, plain}
+use Rattle.st_schedule_words.specs.Words.{is_digit, is_number, value_from, value, has_leading_zero, in_range, plain}
 
 pub own : IsNumeralModel (λ ds. list_all is_digit ds ≡ true) (value_from 0)
 own = numerals_by_fold _ (search rules) value_from (search rules)

@@ -1,7 +1,7 @@
 ghost use Rattle.std.specs.Prelude.{◌≡◌, ◌∷◌, ◌≤◌, ◌<◌, ◌^◌, ◌==◌, IfSome, length, position};
 ghost use Rattle.std.specs.List.{list_all};
 ghost use Rattle.std.specs.Str.{bytes_eq};
-ghost use Rattle.st_schedule.specs.Words as words;
+ghost use Rattle.st_schedule_words.specs.Words as words;
 
 use st_base::{ClientId, FileId, NodeId, ServerId};
 
@@ -15,7 +15,7 @@ const MOST_NODE: u64 = 99;
 const MOST_SERVER: u64 = 65_535;
 
 /// The greatest value of most numbers in a line.
-pub(crate) const MOST_NUMBER: u64 = 4_294_967_295;
+pub const MOST_NUMBER: u64 = 4_294_967_295;
 
 /// Whether a line has more than 256 bytes.
 pub fn is_long(line: &[u8]) -> bool
@@ -39,7 +39,7 @@ pub fn split_word(bytes: &[u8]) -> (&[u8], &[u8])
 }
 
 /// Whether the word is this one.
-pub(crate) fn is(word: &[u8], text: &[u8]) -> bool
+pub fn is(word: &[u8], text: &[u8]) -> bool
     ensures { result ≡ bytes_eq word.now text.now }
 {
     word == text
@@ -58,7 +58,7 @@ fn are_digits(word: &[u8]) -> bool
 }
 
 /// Whether the word is not empty and all its bytes are digits.
-pub(crate) fn is_number(word: &[u8]) -> bool
+pub fn is_number(word: &[u8]) -> bool
     ensures { result ≡ words.is_number word.now }
 {
     !word.is_empty() && are_digits(word)
@@ -90,7 +90,7 @@ fn value_up_to(most: u64, word: &[u8]) -> Option<u64>
 }
 
 /// The value of a word of digits, if it has no leading zero and is from `least` to `most`.
-pub(crate) fn in_range(least: u64, most: u64, word: &[u8]) -> Option<u64>
+pub fn in_range(least: u64, most: u64, word: &[u8]) -> Option<u64>
     ensures value { result ≡ words.in_range least most word.now }
     ensures range { IfSome result (λ n. (least ≤ n) × (n ≤ most)) }
 {
@@ -114,7 +114,7 @@ fn plain(least: u64, most: u64, word: &[u8]) -> Option<u64>
 }
 
 /// The node that a word names: `c` or `s`, and a number from 1 to 99.
-pub(crate) fn node_of(word: &[u8]) -> Option<NodeId>
+pub fn node_of(word: &[u8]) -> Option<NodeId>
     ensures { result ≡ words.node_of word.now }
 {
     match word {
@@ -130,7 +130,8 @@ pub(crate) fn node_of(word: &[u8]) -> Option<NodeId>
     }
 }
 
-pub(crate) fn client_word(word: &[u8]) -> Option<ClientId>
+/// The client that a word names, as a node's word.
+pub fn client_word(word: &[u8]) -> Option<ClientId>
     ensures { result ≡ words.client_word word.now }
 {
     match node_of(word)? {
@@ -171,7 +172,7 @@ fn file_in(server: u16, ino: Option<u64>) -> Option<FileId>
 }
 
 /// The file that a word names: a server's number, a colon and an inode.
-pub(crate) fn file_word(word: &[u8]) -> Option<FileId>
+pub fn file_word(word: &[u8]) -> Option<FileId>
     ensures { result ≡ words.file_word word.now }
 {
     match colon(word) {
@@ -193,7 +194,7 @@ fn are_visible(word: &[u8]) -> bool
 }
 
 /// Whether the word has 1 to 100 visible bytes.
-pub(crate) fn is_name(word: &[u8]) -> bool
+pub fn is_name(word: &[u8]) -> bool
     ensures { result ≡ words.is_name word.now }
 {
     !word.is_empty() && word.len() <= 100 && are_visible(word)

@@ -1,7 +1,7 @@
 use Rattle.std.proofs.Common.{arith}
 use Rattle.std.proofs.lemmas.Grind.{common_steps}
-use Rattle.st_schedule.proofs.LineFronts.{one_more, at_newline, at_the_end}
-use Rattle.st_schedule.proofs.lines.split_line.Goals as goal
+use Rattle.st_schedule_words.proofs.LineFronts.{one_more, at_newline, at_the_end}
+use Rattle.st_schedule_words.proofs.lines.split_line.Goals as goal
 
 pub returns-then-bytes-at-eq10-clause-lines : goal.returns-then-bytes-at-eq10-clause-lines
 returns-then-bytes-at-eq10-clause-lines c = grind (arith, common_steps, at_newline c.args.bytes.now c.loop-at.at)

@@ -1,7 +1,7 @@
 use Rattle.std.proofs.Common.{◌≡◌, ◌≤◌, ◌-◌, length, take, drop}
-use Rattle.st_schedule.specs.Lines.{lines_of}
-use Rattle.st_schedule.proofs.Words.{front}
-use Rattle.st_schedule.proofs.lines.split_line.Given as goal
+use Rattle.st_schedule_words.specs.Lines.{lines_of}
+use Rattle.st_schedule_words.proofs.Words.{front}
+use Rattle.st_schedule_words.proofs.lines.split_line.Given as goal
 
 abbrev pub invariant-loop-at : goal.invariant-loop-at
 invariant-loop-at l = record {

@@ -1,6 +1,6 @@
 use Rattle.std.proofs.Common.{◌≡◌, ◌≤◌, drop}
-use Rattle.st_schedule.specs.Words.{value_from}
-use Rattle.st_schedule.proofs.word_values.value_up_to.Given as goal
+use Rattle.st_schedule_words.specs.Words.{value_from}
+use Rattle.st_schedule_words.proofs.word_values.value_up_to.Given as goal
 
 abbrev pub invariant-loop-b : goal.invariant-loop-b
 invariant-loop-b l = record {

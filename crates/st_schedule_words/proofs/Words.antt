@@ -3,7 +3,7 @@ use Rattle.std.proofs.Common.{◌≡◌, ℕ, ◌+◌, ◌-◌, ◌*◌, ◌<◌
 use Rattle.std.specs.Prelude.{◌==◌, None}
 use Rattle.std.proofs.lemmas.Bool.Decides.{nat_tests}
 use Rattle.std.proofs.lemmas.List.{take_more, take_all, drop_all}
-use Rattle.st_schedule.specs.Words.{onto, split, words_behind, room, left, value_from, at_most}
+use Rattle.st_schedule_words.specs.Words.{onto, split, words_behind, room, left, value_from, at_most}
 
 -- the words, with these bytes before the first
 abbrev pub front : List ℕ → List (List ℕ) → List (List ℕ)

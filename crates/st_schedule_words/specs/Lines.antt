@@ -1,6 +1,6 @@
 -- The lines of some bytes. docs/PROTOCOL.md, "Schedules".
 use Rattle.std.specs.Prelude.{ℕ, ◌==◌, if◌then◌else◌, List, [], ◌∷◌}
-use Rattle.st_schedule.specs.Words.{onto}
+use Rattle.st_schedule_words.specs.Words.{onto}
 
 -- lines, each ended by a newline, which the last may lack
 abbrev pub lines_of : List ℕ → List (List ℕ)

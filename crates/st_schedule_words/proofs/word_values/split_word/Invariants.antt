@@ -1,7 +1,7 @@
 use Rattle.std.proofs.Common.{◌≡◌, ◌≤◌, ◌-◌, length, take, drop}
-use Rattle.st_schedule.specs.Words.{split}
-use Rattle.st_schedule.proofs.Words.{front}
-use Rattle.st_schedule.proofs.word_values.split_word.Given as goal
+use Rattle.st_schedule_words.specs.Words.{split}
+use Rattle.st_schedule_words.proofs.Words.{front}
+use Rattle.st_schedule_words.proofs.word_values.split_word.Given as goal
 
 abbrev pub invariant-loop-at : goal.invariant-loop-at
 invariant-loop-at l = record {

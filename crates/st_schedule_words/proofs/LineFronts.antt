@@ -2,9 +2,9 @@
 use Rattle.std.proofs.Common.{◌≡◌, ℕ, ◌+◌, ◌<◌, ◌≤◌, true, false, cond, List, [], ◌∷◌, ◌++◌, length, take, drop, get_or, refl, sym, ◌∙◌, ap, arith, add-one, drop-cons, append-nil}
 use Rattle.std.specs.Prelude.{◌==◌}
 use Rattle.std.proofs.lemmas.List.{take_more, take_all, drop_all}
-use Rattle.st_schedule.specs.Words.{onto}
-use Rattle.st_schedule.specs.Lines.{lines_of}
-use Rattle.st_schedule.proofs.Words.{front, front-push, front-word, cond_false, cond_true}
+use Rattle.st_schedule_words.specs.Words.{onto}
+use Rattle.st_schedule_words.specs.Lines.{lines_of}
+use Rattle.st_schedule_words.proofs.Words.{front, front-push, front-word, cond_false, cond_true}
 
 lines_at : (bs : List ℕ) (at : ℕ) → at < length bs →
     lines_of (drop at bs) ≡ cond (get_or bs at 0 == 10) ([] ∷ lines_of (drop (at + 1) bs)) (onto (get_or bs at 0) (lines_of (drop (at + 1) bs)))

@@ -1,0 +1,3 @@
+pub mod Words
+pub mod LineFronts
+pub mod Numbers
