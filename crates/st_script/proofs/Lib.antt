@@ -1,11 +1,1 @@
 pub mod Outcomes
-pub mod SnapAnswers
-pub mod SharedPlays
-pub mod EveryScript
-pub mod MoveAnswers
-pub mod JournalTexts
-pub mod JournalBytes
-pub mod JournalRuns
-pub mod JournalChanges
-pub mod JournalStarved
-pub mod JournalEnds

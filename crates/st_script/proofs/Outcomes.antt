@@ -1,6 +1,6 @@
 -- What was written, next to the outcome of a script.
 use Rattle.std.proofs.Common.{◌≡◌, ℕ, ◌+◌, List, [], ◌∷◌, ◌++◌, length, take, drop, sym, ◌∙◌, ap, subst, arith, take-append-drop}
-use Rattle.std.specs.Prelude.{Option, Some, None, Result, Ok, Err, ⊤}
+use Rattle.std.specs.Prelude.{Option, Some, None, Result, Ok, Err, OnOk, ⊤}
 use Rattle.std.specs.Io.KnownBytes.{Appends}
 use Rattle.std.proofs.KnownBytes.{Appends-nil, Appends-trans}
 use Rattle.std.proofs.Math.Seq.{take-append_seam}
@@ -200,3 +200,8 @@ pub head_reports : {State Event : Type 0} (holds : State → Type 0) (head : Lis
     Reports holds r before now (play_from rules 0 2 s (lines_of after)) → Reports (λ s. ⊤) r before now (headed_lines head rules (lines_of bytes))
 head_reports holds head rules before now bytes line after s r is first h =
     subst (Reports (λ s. ⊤) r before now) (head_played head rules bytes line after (Some s) is first) (weaker holds (λ s. ⊤) r before now _ (λ s k. tt) h)
+
+-- where a call went well, a fact that stands anyway
+pub always : {A E : Type 0} (r : Result A E) (P : Type 0) → P → OnOk r P
+always (Ok x) P p = p
+always (Err e) P p = tt

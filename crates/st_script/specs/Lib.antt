@@ -1,10 +1,3 @@
 pub mod Scripts
 pub mod Ends
 pub mod Playing
-pub mod SnapScripts
-pub mod SharedScripts
-pub mod SharedCalls
-pub mod MoveScripts
-pub mod Stops
-pub mod JournalScripts
-pub mod JournalRuns

@@ -1,5 +1,4 @@
 ghost use Rattle.std.specs.Prelude.{◌≡◌, ◌<◌, IfOk, IfSome};
-ghost use Rattle.std.specs.Str.{bytes_eq};
 ghost use Rattle.st_schedule_words.specs.Words.{split};
 ghost use Rattle.st_script.specs.Playing.{IsRead};
 ghost use Rattle.st_script.specs.Scripts as scripts;
@@ -7,17 +6,11 @@ ghost use Rattle.st_script.specs.Scripts as scripts;
 use crate::fault::Stop;
 use crate::script::Script;
 use st_schedule::{ReadError, is_long};
+use st_schedule_words::is;
 use std::alloc::Global;
 
 /// The most events of a script.
 const MOST_EVENTS: u64 = 10_000;
-
-/// Whether the bytes are these.
-pub(crate) fn is(line: &[u8], text: &[u8]) -> bool
-    ensures { result ≡ bytes_eq line.now text.now }
-{
-    line == text
-}
 
 /// Reads an event behind so many others.
 fn read_event<S: Script>(alloc: Global, done: u64, line: &[u8]) -> Result<Option<S::Event>, Stop>

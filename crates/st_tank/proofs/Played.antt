@@ -7,8 +7,8 @@ use Rattle.st_link.specs.Causes.{Rose}
 use Rattle.st_link.specs.Prefixes.{AppendsPrefix}
 use Rattle.st_journal.specs.InMemory.{InMemory, fresh_contents}
 use Rattle.st_journal.specs.Plans as plans
-use Rattle.st_script.specs.JournalRuns.{HasChanges, IsFreshStore, Leaves, STORE_SIZE}
-use Rattle.st_script.specs.JournalScripts.{JournalState}
+use Rattle.st_script_journal.specs.JournalRuns.{HasChanges, IsFreshStore, Leaves, STORE_SIZE}
+use Rattle.st_script_journal.specs.JournalScripts.{JournalState}
 use Rattle.st_script.specs.declared.fault.ScriptFault.{ScriptFault}
 use Rattle.st_script.specs.declared.fault.ScriptFault.TheVariants as faults
 use Rattle.st_script.specs.Ends.{HasCauses, IsWhole, Reports}

@@ -5,11 +5,11 @@ use Rattle.st_link.specs.Causes.{Rose}
 use Rattle.st_link.specs.Prefixes.{AppendsPrefix}
 use Rattle.st_script.specs.declared.fault.ScriptFault.{ScriptFault}
 use Rattle.st_script.specs.declared.fault.ScriptFault.TheVariants as faults
-use Rattle.st_script.specs.JournalScripts as journals
-use Rattle.st_script.specs.MoveScripts as moves
+use Rattle.st_script_journal.specs.JournalScripts as journals
+use Rattle.st_script_containers.specs.MoveScripts as moves
 use Rattle.st_script.specs.Scripts.{Ending, Whole, Stopped, Outcome, script_from, script_of}
-use Rattle.st_script.specs.SharedScripts as shared
-use Rattle.st_script.specs.SnapScripts as snaps
+use Rattle.st_script_shared.specs.SharedScripts as shared
+use Rattle.st_script_containers.specs.SnapScripts as snaps
 use Rattle.st_tank.specs.declared.words.Command.{Command}
 use Rattle.st_tank.specs.declared.words.Command.TheVariants as commands
 

@@ -24,7 +24,8 @@ use st_clock::Clock;
 use st_generate_run::WorkFault;
 use st_link::{Link, Sink, Source, put_all};
 use st_replay::{ReplayFault, Summary, World, all_is_promised, schedules_run_safely};
-use st_script::{MemoryStore, ScriptFault};
+use st_script::ScriptFault;
+use st_script_journal::MemoryStore;
 use std::alloc::Global;
 
 const USAGE: &[u8] =
@@ -114,7 +115,7 @@ fn journal<I: Source, O: Sink>(alloc: Global, input: &mut I, out: &mut O) -> u8
     let fails = Vec::new(alloc);
     match MemoryStore::new(alloc, STORE_SIZE, fails) {
         Ok(store) => {
-            let ended = st_script::journal(alloc, input, out, store);
+            let ended = st_script_journal::journal(alloc, input, out, store);
             status_of_script(ended)
         }
         Err(_) => 5,
@@ -127,7 +128,7 @@ fn move_containers<I: Source, O: Sink>(alloc: Global, input: &mut I, out: &mut O
     ensures { IsPlayed result (I.left input.old) (I.left input.new) (O.written out.old) (O.written out.new) (I.faults input.old) (I.faults input.new)
         (O.faults out.old) (O.faults out.new) (played commands.Move) }
 {
-    let ended = st_script::move_containers(alloc, input, out);
+    let ended = st_script_containers::move_containers(alloc, input, out);
     status_of_script(ended)
 }
 
@@ -137,7 +138,7 @@ fn snap<I: Source, O: Sink>(alloc: Global, input: &mut I, out: &mut O) -> u8
     ensures { IsPlayed result (I.left input.old) (I.left input.new) (O.written out.old) (O.written out.new) (I.faults input.old) (I.faults input.new)
         (O.faults out.old) (O.faults out.new) (played commands.Snap) }
 {
-    let ended = st_script::snap(alloc, input, out);
+    let ended = st_script_containers::snap(alloc, input, out);
     status_of_script(ended)
 }
 
@@ -147,7 +148,7 @@ fn shared<I: Source, O: Sink>(alloc: Global, input: &mut I, out: &mut O) -> u8
     ensures { IsPlayed result (I.left input.old) (I.left input.new) (O.written out.old) (O.written out.new) (I.faults input.old) (I.faults input.new)
         (O.faults out.old) (O.faults out.new) (played commands.Shared) }
 {
-    let ended = st_script::shared(alloc, input, out);
+    let ended = st_script_shared::shared(alloc, input, out);
     status_of_script(ended)
 }
 

@@ -1,4 +1,4 @@
-use Rattle.st_script.specs.JournalScripts as journals
+use Rattle.st_script_journal.specs.JournalScripts as journals
 use Rattle.st_script.specs.Scripts.{script_from}
 use Rattle.st_tank.proofs.Played.{fresh_store, journal_is_played, unplayed}
 use Rattle.st_tank.specs.Scripts.{played}

@@ -1,4 +1,4 @@
-use Rattle.st_script.specs.SharedScripts as shared
+use Rattle.st_script_shared.specs.SharedScripts as shared
 use Rattle.st_script.specs.Scripts.{script_of}
 use Rattle.st_tank.proofs.Played.{is_played}
 use Rattle.st_tank.specs.Scripts.{played}

@@ -1,5 +1,0 @@
-use Rattle.st_script.specs.JournalScripts.{fresh_journal}
-use Rattle.st_script.proofs.journal_script.journal.Goals as goal
-
-pub returns-in-Ok-clause-report : goal.returns-in-Ok-clause-report
-returns-in-Ok-clause-report g c = c.run_script.ensures.report fresh_journal c.in-Ok.ensures

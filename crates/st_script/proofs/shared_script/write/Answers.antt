@@ -1,7 +1,0 @@
-use Rattle.std.proofs.Common.{refl}
-use Rattle.st_shared.specs.History.{Write}
-use Rattle.st_script.proofs.SharedPlays.{numbers_performs}
-use Rattle.st_script.proofs.shared_script.write.Goals as goal
-
-pub returns : goal.returns
-returns c = numbers_performs c.args.file.now c.write.new.self (Write c.args.client c.args.page c.args.bytes.now) c.write.result c.write.ensures.exact refl

@@ -1,5 +1,0 @@
-use Rattle.st_script.specs.SnapScripts.{fresh}
-use Rattle.st_script.proofs.snap_script.SnapScriptScript.begin.Goals as goal
-
-pub returns : goal.returns
-returns c = (fresh c.in_ok-blocks.blocks, (c.in_ok-blocks.ensures.value, c.in_ok-volume.ensures))

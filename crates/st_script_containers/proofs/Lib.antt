@@ -1,0 +1,2 @@
+pub mod SnapAnswers
+pub mod MoveAnswers

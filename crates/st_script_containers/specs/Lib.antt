@@ -1,0 +1,2 @@
+pub mod SnapScripts
+pub mod MoveScripts

@@ -1,0 +1,243 @@
+ghost use Rattle.std.specs.Prelude.{◌≡◌, ◌≤◌, IfOk, true};
+ghost use Rattle.std.specs.List.{list_all};
+ghost use Rattle.st_move.specs.Updates.{is_update};
+ghost use Rattle.st_schedule.specs.Reading.{Gives};
+ghost use Rattle.st_schedule_words.specs.Words as words;
+ghost use Rattle.st_schedule_words.specs.Words.{left, split, words_behind};
+ghost use Rattle.st_schedule.specs.declared.fault.Fault.{Fault};
+ghost use Rattle.st_schedule.specs.declared.fault.ReadError.{ReadError};
+ghost use Rattle.st_script_containers.specs.MoveScripts as scripts;
+
+use st_base::ServerId;
+use st_move::{MoveEvent, Update};
+use st_schedule::{Fault, ReadError, ends, number_at, split_word, unknown_word, word_at};
+use st_schedule_words::is;
+use std::alloc::Global;
+
+/// The greatest number of a server.
+const MOST_SERVER: u64 = 4;
+
+/// The greatest number of a container.
+const MOST_CONTAINER: u64 = 99;
+
+/// The greatest number of a message.
+const MOST_NUMBER: u64 = 4_294_967_295;
+
+#[tactic(auto, unfolding(crate::specs::MoveScripts::server_at))]
+fn server_at(rest: &[u8]) -> Result<(ServerId, &[u8]), ReadError>
+    ensures { Gives (λ x. (x.0, words_behind x.1.now)) result (scripts.server_at (words_behind rest.now)) }
+{
+    let (s, rest) = number_at(1, MOST_SERVER, rest)?;
+    Ok((ServerId(s as u16), rest))
+}
+
+/// A server and a container.
+#[tactic(auto, unfolding(crate::specs::MoveScripts::place_at))]
+fn place_at(rest: &[u8]) -> Result<((ServerId, u32), &[u8]), ReadError>
+    ensures { Gives (λ x. (x.0, words_behind x.1.now)) result (scripts.place_at (words_behind rest.now)) }
+{
+    let (s, rest) = server_at(rest)?;
+    let (c, rest) = number_at(1, MOST_CONTAINER, rest)?;
+    Ok(((s, c as u32), rest))
+}
+
+fn is_visible(b: u8) -> bool
+    ensures { result ≡ words.is_visible b }
+{
+    33 <= b && b <= 126
+}
+
+fn are_visible(word: &[u8]) -> bool
+    ensures { result ≡ list_all words.is_visible word.now }
+{
+    word.iter().all(|b| is_visible(*b))
+}
+
+/// Whether the word has 1 to 64 visible bytes.
+fn is_update_text(word: &[u8]) -> bool
+    ensures text { result ≡ scripts.is_update_text word.now }
+    ensures update { result ≡ true → is_update word.now ≡ true }
+{
+    1 <= word.len() && word.len() <= 64 && are_visible(word)
+}
+
+/// The fault of the next word, or of a line that has none.
+fn fault_at(rest: &[u8]) -> ReadError
+    ensures { result ≡ ReadError.Fault (Fault.Syntax (left (words_behind rest.now))) }
+{
+    match rest {
+        [] => ReadError::Fault(Fault::Syntax(0)),
+        [_, behind @ ..] => unknown_word(behind),
+    }
+}
+
+/// The text of an update.
+#[tactic(auto, unfolding(crate::specs::MoveScripts::update_at))]
+fn update_at(alloc: Global, rest: &[u8]) -> Result<(Update, &[u8]), ReadError>
+    ensures { Gives (λ x. (x.0, words_behind x.1.now)) result (scripts.update_at (words_behind rest.now)) }
+{
+    let (word, after) = word_at(rest)?;
+    if !is_update_text(word) {
+        return Err(fault_at(rest));
+    }
+    let update = Update::from_slice(alloc, word)?;
+    Ok((update, after))
+}
+
+#[tactic(auto, unfolding(crate::specs::MoveScripts::put_at))]
+fn put_at(alloc: Global, rest: &[u8]) -> Result<MoveEvent, ReadError>
+    ensures { Gives (λ x. x) result (scripts.put_at (words_behind rest.now)) }
+{
+    let ((s, c), rest) = place_at(rest)?;
+    let (update, rest) = update_at(alloc, rest)?;
+    ends(rest)?;
+    Ok(MoveEvent::Put(s, c, update))
+}
+
+/// A server and a container, and no more.
+#[tactic(auto, unfolding(crate::specs::MoveScripts::place_alone))]
+fn place_alone(rest: &[u8]) -> Result<(ServerId, u32), ReadError>
+    ensures { Gives (λ x. x) result (scripts.place_alone (words_behind rest.now)) }
+{
+    let (at, rest) = place_at(rest)?;
+    ends(rest)?;
+    Ok(at)
+}
+
+#[tactic(auto, unfolding(crate::specs::MoveScripts::list_at))]
+fn list_at(rest: &[u8]) -> Result<MoveEvent, ReadError>
+    ensures { Gives (λ x. x) result (scripts.list_at (words_behind rest.now)) }
+{
+    let (s, c) = place_alone(rest)?;
+    Ok(MoveEvent::List(s, c))
+}
+
+#[tactic(auto, unfolding(crate::specs::MoveScripts::lock_at))]
+fn lock_at(rest: &[u8]) -> Result<MoveEvent, ReadError>
+    ensures { Gives (λ x. x) result (scripts.lock_at (words_behind rest.now)) }
+{
+    let (s, c) = place_alone(rest)?;
+    Ok(MoveEvent::Lock(s, c))
+}
+
+#[tactic(auto, unfolding(crate::specs::MoveScripts::unlock_at))]
+fn unlock_at(rest: &[u8]) -> Result<MoveEvent, ReadError>
+    ensures { Gives (λ x. x) result (scripts.unlock_at (words_behind rest.now)) }
+{
+    let (s, c) = place_alone(rest)?;
+    Ok(MoveEvent::Unlock(s, c))
+}
+
+#[tactic(auto, unfolding(crate::specs::MoveScripts::order_at))]
+fn order_at(rest: &[u8]) -> Result<MoveEvent, ReadError>
+    ensures { Gives (λ x. x) result (scripts.order_at (words_behind rest.now)) }
+{
+    let ((s, c), rest) = place_at(rest)?;
+    let (to, rest) = server_at(rest)?;
+    ends(rest)?;
+    Ok(MoveEvent::Order(s, c, to))
+}
+
+#[tactic(auto, unfolding(crate::specs::MoveScripts::tick_at))]
+fn tick_at(rest: &[u8]) -> Result<MoveEvent, ReadError>
+    ensures { Gives (λ x. x) result (scripts.tick_at (words_behind rest.now)) }
+{
+    let (s, rest) = server_at(rest)?;
+    ends(rest)?;
+    Ok(MoveEvent::Tick(s))
+}
+
+/// The number of a message, and no more.
+#[tactic(auto, unfolding(crate::specs::MoveScripts::message_alone))]
+fn message_alone(rest: &[u8]) -> Result<u32, ReadError>
+    ensures { Gives (λ x. x) result (scripts.message_alone (words_behind rest.now)) }
+{
+    let (k, rest) = number_at(1, MOST_NUMBER, rest)?;
+    ends(rest)?;
+    Ok(k as u32)
+}
+
+#[tactic(auto, unfolding(crate::specs::MoveScripts::deliver_at))]
+fn deliver_at(rest: &[u8]) -> Result<MoveEvent, ReadError>
+    ensures { Gives (λ x. x) result (scripts.deliver_at (words_behind rest.now)) }
+{
+    let k = message_alone(rest)?;
+    Ok(MoveEvent::Deliver(k))
+}
+
+#[tactic(auto, unfolding(crate::specs::MoveScripts::lose_at))]
+fn lose_at(rest: &[u8]) -> Result<MoveEvent, ReadError>
+    ensures { Gives (λ x. x) result (scripts.lose_at (words_behind rest.now)) }
+{
+    let k = message_alone(rest)?;
+    Ok(MoveEvent::Lose(k))
+}
+
+#[tactic(auto, unfolding(crate::specs::MoveScripts::other_of))]
+fn other_of(word: &[u8], line: &[u8], rest: &[u8]) -> Result<MoveEvent, ReadError>
+    ensures { Gives (λ x. x) result (scripts.other_of word.now (split line.now) (words_behind rest.now)) }
+{
+    if is(word, b"order") {
+        order_at(rest)
+    } else if is(word, b"tick") {
+        tick_at(rest)
+    } else if is(word, b"deliver") {
+        deliver_at(rest)
+    } else if is(word, b"lose") {
+        lose_at(rest)
+    } else {
+        Err(unknown_word(line))
+    }
+}
+
+/// Reads the event of a line with this first word.
+#[tactic(auto, unfolding(crate::specs::MoveScripts::event_of))]
+fn event_of(alloc: Global, word: &[u8], line: &[u8], rest: &[u8]) -> Result<MoveEvent, ReadError>
+    ensures { Gives (λ x. x) result (scripts.event_of word.now (split line.now) (words_behind rest.now)) }
+{
+    if is(word, b"put") {
+        put_at(alloc, rest)
+    } else if is(word, b"list") {
+        list_at(rest)
+    } else if is(word, b"lock") {
+        lock_at(rest)
+    } else if is(word, b"unlock") {
+        unlock_at(rest)
+    } else {
+        other_of(word, line, rest)
+    }
+}
+
+/// Reads the event of a line.
+#[tactic(auto, unfolding(crate::specs::MoveScripts::event))]
+pub(crate) fn move_event(alloc: Global, line: &[u8]) -> Result<MoveEvent, ReadError>
+    ensures { Gives (λ x. x) result (scripts.event (split line.now)) }
+{
+    let (word, rest) = split_word(line);
+    event_of(alloc, word, line, rest)
+}
+
+#[tactic(auto, unfolding(crate::specs::MoveScripts::counts_at))]
+fn counts_at(rest: &[u8]) -> Result<(u16, u32), ReadError>
+    ensures value { Gives (λ x. x) result (scripts.counts_at (words_behind rest.now)) }
+    ensures range { IfOk result (λ x. (2 ≤ x.0) × (x.1 ≤ 64)) }
+{
+    let (servers, rest) = number_at(2, MOST_SERVER, rest)?;
+    let (containers, rest) = number_at(1, 64, rest)?;
+    ends(rest)?;
+    Ok((servers as u16, containers as u32))
+}
+
+/// Reads a first line: how many servers there are, and how many containers.
+#[tactic(auto, unfolding(crate::specs::MoveScripts::head))]
+pub(crate) fn counts_of(line: &[u8]) -> Result<(u16, u32), ReadError>
+    ensures value { Gives scripts.fresh result (scripts.head (split line.now)) }
+    ensures range { IfOk result (λ x. (2 ≤ x.0) × (x.1 ≤ 64)) }
+{
+    let (word, rest) = split_word(line);
+    if is(word, b"move") {
+        counts_at(rest)
+    } else {
+        Err(unknown_word(line))
+    }
+}

@@ -1,0 +1,69 @@
+-- How a script of a journal ended, with its store.
+use Rattle.std.proofs.Common.{◌≡◌, ℕ, List, refl, sym, subst, arith}
+use Rattle.std.specs.Prelude.{Option, Some, None, Result, Ok, Err, IsOk, IfErr, IfOk, OnOk, IfSome}
+use Rattle.st_journal.specs.InMemory.{InMemory}
+use Rattle.st_script.specs.declared.fault.ScriptFault.{ScriptFault}
+use Rattle.st_script.specs.declared.fault.ScriptFault.TheVariants as faults
+use Rattle.st_script.specs.Ends.{HasCauses, IsWhole, Reports}
+use Rattle.st_script_journal.specs.JournalRuns.{HasChanges, Leaves, Running, Stands}
+use Rattle.st_script_journal.specs.JournalScripts.{JournalState}
+use Rattle.st_script.specs.Scripts.{Ending, Outcome, Stopped, Whole}
+use Rattle.st_script.proofs.Outcomes.{unwritten, weaker}
+
+-- nothing was written
+pub unwritten_leaves : (left before : Option (List ℕ)) (o : List ℕ → Outcome JournalState) → IfSome left (λ bytes. Leaves (Err faults.Memory) before before (o bytes))
+unwritten_leaves None before o = tt
+unwritten_leaves (Some bytes) before o = unwritten before (o bytes).text
+
+-- the state of a script that went through its end
+record EndsIn {State : Type 0} (holds : State → Type 0) (e : Ending State) : Type 0 where
+  state : State
+  is : e ≡ Whole state
+  held : holds state
+
+ends_in : {State : Type 0} (holds : State → Type 0) (e : Ending State) → IsWhole holds e → EndsIn holds e
+ends_in holds (Whole s) h = record { state = s; is = refl; held = h }
+ends_in holds (Stopped line) h = absurd h
+
+-- the script's value stands for a state, behind some events
+abbrev pub Stood : Option Running → JournalState → Type 0
+Stood running s = (n : ℕ) × Stands s running
+
+module _ (running : Option Running) (before now : Option (List ℕ)) where
+  one_store : (r : Result InMemory ScriptFault) (o : Outcome JournalState) → ((s : JournalState) → Stands s running → IfOk r (HasChanges s)) → ((s : JournalState) → Stands s running → IsOk r) →
+      Reports (Stood running) (Ok tt) before now o → Leaves r before now o
+  one_store (Ok store) o has there h =
+      let e = ends_in (Stood running) o.ending h.0 in
+      (subst (IsWhole (λ s. HasChanges s store)) (sym e.is) (has e.state e.held.1), h.1)
+  one_store (Err f) o has there h = let e = ends_in (Stood running) o.ending h.0 in let no = there e.state e.held.1 in absurd cc
+
+  -- the store that is given back
+  pub store_leaves : (r : Result InMemory ScriptFault) (left : Option (List ℕ)) (o : List ℕ → Outcome JournalState) → ((s : JournalState) → Stands s running → IfOk r (HasChanges s)) →
+      ((s : JournalState) → Stands s running → IsOk r) → IfSome left (λ bytes. Reports (Stood running) (Ok tt) before now (o bytes)) → IfSome left (λ bytes. Leaves r before now (o bytes))
+  store_leaves r None o has there h = tt
+  store_leaves r (Some bytes) o has there h = one_store r (o bytes) has there h
+
+  -- a script that did not go through its end
+  pub fault_leaves : (f : ScriptFault) (left : Option (List ℕ)) (o : List ℕ → Outcome JournalState) → IfSome left (λ bytes. Reports (Stood running) (Err f) before now (o bytes)) →
+      IfSome left (λ bytes. Leaves (Err f) before now (o bytes))
+  fault_leaves f None o h = tt
+  fault_leaves f (Some bytes) o h = weaker (Stood running) (λ s. Unit {0}) (Err f) before now (o bytes) (λ s k. tt) h
+
+-- a fact that stands anyway
+pub where_ok : {A E : Type 0} (r : Result A E) (P : Type 0) → P → OnOk r P
+where_ok (Ok x) P p = p
+where_ok (Err f) P p = tt
+
+-- no count of faults rose
+pub store_causes : (r : Result InMemory ScriptFault) (a b c d : ℕ) → IfErr r (λ f. f ≡ faults.Memory) → (b ≡ a) × (d ≡ c) → HasCauses r a b c d
+store_causes (Ok store) a b c d f h = h
+store_causes (Err f) a b c d is h = subst (λ (k : ScriptFault). HasCauses {T = InMemory} (Err k) a b c d) (sym is) (omega (arith, h.0), omega (arith, h.1))
+
+pub fault_causes : (f : ScriptFault) (a b c d : ℕ) → HasCauses {T = Unit} (Err f) a b c d → HasCauses {T = InMemory} (Err f) a b c d
+fault_causes (faults.Line n) a b c d h = h
+fault_causes faults.Read a b c d h = h
+fault_causes faults.Write a b c d h = h
+fault_causes faults.Memory a b c d h = h
+
+pub no_causes : (a c : ℕ) → HasCauses {T = InMemory} (Err faults.Memory) a a c c
+no_causes a c = (omega arith, omega arith)

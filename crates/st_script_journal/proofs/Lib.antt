@@ -1,0 +1,6 @@
+pub mod JournalTexts
+pub mod JournalBytes
+pub mod JournalRuns
+pub mod JournalChanges
+pub mod JournalStarved
+pub mod JournalEnds

@@ -1,0 +1,2 @@
+pub mod SharedPlays
+pub mod EveryScript

@@ -1,0 +1,2 @@
+pub mod SharedScripts
+pub mod SharedCalls
