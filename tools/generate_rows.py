@@ -1,4 +1,4 @@
-"""Worked rows of generated schedules: crates/st_rows/src/generated_*.rt and their proofs, written by tools/write_rows.
+"""Worked rows of generated schedules: crates/st_rows_world/src/generated_*.rt and their proofs, written by tools/write_rows.
 
 The first draws of some seeds, a candidate of each kind, short schedules with their text, and what their runs count are written as contracts of
 functions, from the generator of reference/.
@@ -7,7 +7,7 @@ import row_records  # noqa: F401  (it makes reference/ known)
 from reference.generator import Draws, Generator, generate, work_text
 from reference.schedule import event_line
 
-CRATE = "crates/st_rows"
+CRATE = "crates/st_rows_world"
 SEEDS = {"seed_0": 0, "seed_7": 7, "seed_9": 9, "high_seed": 2**63 + 5, "last_seed": 2**64 - 1}
 OPEN = "#[tactic(auto, unfolding(crate::specs::GeneratedWords::rows_open))]"
 TEXTS = {"no_event": (0, 9), "seed_0": (40, 0), "seed_7": (40, 7), "seed_9": (40, 9), "last_seed": (40, 2**64 - 1)}
@@ -64,7 +64,7 @@ def candidates():
         FIRST,
         "ghost use Rattle.std.specs.Prelude.{◌≡◌, None, Some, codes};",
         "ghost use Rattle.st_rules.specs.Generator.{candidate};",
-        "ghost use Rattle.st_rows.specs.GeneratedWords.{line_of};",
+        "ghost use Rattle.st_rows_world.specs.GeneratedWords.{line_of};",
     ]
     for name, kind in KINDS.items():
         seed = seed_of(name, kind, 30, 4)
@@ -87,8 +87,8 @@ def text(n, seed):
 
 ANSWERS = """use Rattle.std.proofs.Common.{{refl}}
 use Rattle.st_base.specs.Page.{{filled}}
-use Rattle.st_rows.specs.GeneratedWords.{{rows_open}}
-use Rattle.st_rows.proofs.{path}.Goals as goal
+use Rattle.st_rows_world.specs.GeneratedWords.{{rows_open}}
+use Rattle.st_rows_world.proofs.{path}.Goals as goal
 """
 ANSWER = """
 pub returns-clause-{clause} : goal.returns-clause-{clause}

@@ -1,4 +1,4 @@
-"""Worked rows of the report's text: crates/st_rows/src/world_texts.rt, written by tools/write_rows.
+"""Worked rows of the report's text: crates/st_rows_world/src/world_texts.rt, written by tools/write_rows.
 
 Every kind of observation, body, answer and refusal has a row with the text that reference/ gives it, and two runs have their whole report. They
 are written as contracts of functions. A page stands here as a few bytes, since a text has the runs of whatever bytes there are.
@@ -138,7 +138,7 @@ def whole(name):
 def files():
     """The file of rows of the report's text."""
     uses = sorted([*USES, ("st_rules.specs.Report as text", "text.")])
-    return {"crates/st_rows/src/world_texts.rt": file_text_of("".join([
+    return {"crates/st_rows_world/src/world_texts.rt": file_text_of("".join([
         function("requests", "What clients send.", observations(REQUESTS)),
         function("replies", "What servers send.", observations(REPLIES)),
         function("answers_to_applications", "What applications are answered.", observations(ANSWERS)),

@@ -1,4 +1,4 @@
-"""The worked rows of the world: crates/st_rows/src/world_*.rt and the proofs of world_safety, written by tools/write_rows.
+"""The worked rows of the world: crates/st_rows_world/src/world_*.rt, and world_safety of crates/st_rows_promises with its proofs, written by tools/write_rows.
 
 Each row is a schedule of the repository with its report beside it. Its events, what is observed at each, and the counts or the refusal are written
 as the contract of a function. No number of a row is typed by hand: the world of reference/ runs it, and what is written has the row's report as its
@@ -133,7 +133,7 @@ def fate_text(entry):
 
 
 def entry_text(e):
-    """An entry of the log, in the words of crates/st_rows/proofs/WorldLogs.antt."""
+    """An entry of the log, in the words of crates/st_rows_promises/proofs/WorldLogs.antt."""
     file = f"{e.file[0]} {e.file[1]} {e.page}"
     match e.kind:
         case "write":
@@ -317,10 +317,10 @@ class Row:
         uses += ["use Rattle.st_base.specs.Page.{filled}"] if "filled " in lines else []
         uses += [f"use Rattle.st_rules.specs.declared.log.{x}.TheVariants as {x.lower()}s" for x in ("Cause", "Fate") if f"{x.lower()}s." in lines.replace("causes =", "")]
         uses += ["use Rattle.st_rows.specs.ClientWords.{lost_row}"] if "lost_row " in lines else []
-        uses += ["use Rattle.st_rows.specs.SafeWords.{safe_words_open}",
-                 f"use Rattle.st_rows.proofs.WorldLogs.{{{', '.join(sorted(there + ['through']))}}}"]
+        uses += ["use Rattle.st_rows_promises.specs.SafeWords.{safe_words_open}",
+                 f"use Rattle.st_rows_promises.proofs.WorldLogs.{{{', '.join(sorted(there + ['through']))}}}"]
         return ("\n".join(uses) + "\n"
-                f"use Rattle.st_rows.proofs.world_safety.{name}.Goals as goal\n\npub returns : goal.returns\n"
+                f"use Rattle.st_rows_promises.proofs.world_safety.{name}.Goals as goal\n\npub returns : goal.returns\n"
                 f"unfolding safe_words_open\nreturns c =\n    record {{\n{lines}    }}\n")
 
     def text(self, name, doc):
@@ -346,7 +346,7 @@ USES = [
     ("st_messages.specs.declared.message.NameOp.TheVariants as ops", "ops."),
     ("st_messages.specs.declared.message.NameReply.TheVariants as replies", "replies."),
     ("st_messages.specs.declared.message.Why.TheVariants as why", "why."),
-    ("st_rows.specs.SafeWords.{IsKeptRun}", "IsKeptRun "),
+    ("st_rows_promises.specs.SafeWords.{IsKeptRun}", "IsKeptRun "),
     ("st_rules.specs.FlatLog.{overlay}", "overlay "),
     ("st_rules.specs.Run.{run}", "run "),
     ("st_rules.specs.declared.observation.Observation.TheVariants as seen", "seen."),
@@ -355,7 +355,7 @@ USES = [
 WORDS = {
     "st_rows.specs.ClientWords": ["lost_row", "on", "server", "tag_of"],
     "st_rows.specs.Words": ["c", "entry", "extent", "g", "page", "stamp"],
-    "st_rows.specs.WorldWords": [
+    "st_rows_world.specs.WorldWords": [
         "answered", "ask", "client_node", "counts", "cut", "dropped", "failed", "grainy_world", "leased", "lost", "patched",
         "read_out", "sent", "server_node", "stolen", "suspected", "tells", "told", "world_of", "write_out", "wrote",
     ],
@@ -386,6 +386,7 @@ def files():
     """Each file that has worked rows of the world, and its text."""
     texts = {name: "".join(Row(path).text(title, doc) for path, title, doc in rows) for name, rows in FILES.items()}
     texts["world_safety"] = "".join(Row(path).safe_text(title, doc) for path, title, doc in SAFE)
-    answers = {f"crates/st_rows/proofs/world_safety/{title}/Answers.antt": "-- Written by tools/world_rows.py.\n" + Row(path).safe_answer(title)
+    answers = {f"crates/st_rows_promises/proofs/world_safety/{title}/Answers.antt": "-- Written by tools/world_rows.py.\n" + Row(path).safe_answer(title)
                for path, title, _ in SAFE}
-    return {**{f"crates/st_rows/src/{name}.rt": file_text_of(text) for name, text in texts.items()}, **answers}
+    crate_of = {"world_safety": "st_rows_promises"}
+    return {**{f"crates/{crate_of.get(name, 'st_rows_world')}/src/{name}.rt": file_text_of(text) for name, text in texts.items()}, **answers}

@@ -1,14 +1,10 @@
 pub mod Words
 pub mod Script
 pub mod Tables
+pub mod CrowdedServers
 pub mod Disks
 pub mod Logs
 pub mod Directories
 pub mod ClientWords
 pub mod ClientScript
 pub mod ClientTables
-pub mod WorldWords
-pub mod SafeWords
-pub mod CheckWords
-pub mod Broken
-pub mod GeneratedWords

@@ -1,8 +1,6 @@
-//! Worked rows of the definitions: equations that hold by computation. A wrong definition breaks one.
-//! Worked rows of generated schedules: equations that hold by computation. A wrong definition breaks one.
+//! Worked rows of the definitions of parts, of a server and of a client: equations that hold by computation. A wrong definition breaks one.
 #![tactic(auto)]
 
-pub mod broken;
 pub mod client_epochs;
 pub mod client_leases;
 pub mod client_limits;
@@ -13,10 +11,6 @@ pub mod client_parts;
 pub mod disks;
 pub mod extents;
 pub mod flat_log;
-pub mod generated_candidates;
-pub mod generated_choices;
-pub mod generated_draws;
-pub mod generated_texts;
 pub mod leases;
 pub mod locks;
 pub mod names;
@@ -24,22 +18,3 @@ pub mod server;
 pub mod server_refusals;
 pub mod sessions;
 pub mod suspicion;
-pub mod world_asks;
-pub mod world_checks;
-pub mod world_clocks;
-pub mod world_commands;
-pub mod world_cuts;
-pub mod world_disks;
-pub mod world_epochs;
-pub mod world_failures;
-pub mod world_leases;
-pub mod world_lives;
-pub mod world_locks;
-pub mod world_names;
-pub mod world_reads;
-pub mod world_reassertion;
-pub mod world_refusals;
-pub mod world_restarts;
-pub mod world_safety;
-pub mod world_texts;
-pub mod world_theft;

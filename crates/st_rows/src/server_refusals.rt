@@ -3,7 +3,7 @@ ghost use Rattle.st_base.specs.declared.mode.Mode.TheVariants as modes;
 ghost use Rattle.st_messages.specs.declared.message.Body.TheVariants as bodies;
 ghost use Rattle.st_messages.specs.declared.message.NameOp.TheVariants as ops;
 ghost use Rattle.st_messages.specs.declared.message.Why.TheVariants as why;
-ghost use Rattle.st_rows.specs.CheckWords.{crowded_server};
+ghost use Rattle.st_rows.specs.CrowdedServers.{crowded_server};
 ghost use Rattle.st_rows.specs.Script.{Input, said, server_with};
 ghost use Rattle.st_rows.specs.Words.{from, g, page, to};
 

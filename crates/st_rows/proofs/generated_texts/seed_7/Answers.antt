@@ -1,8 +1,0 @@
-use Rattle.std.proofs.Common.{refl}
-use Rattle.st_base.specs.Page.{filled}
-use Rattle.st_rows.specs.GeneratedWords.{rows_open}
-use Rattle.st_rows.proofs.generated_texts.seed_7.Goals as goal
-
-pub returns-clause-schedule : goal.returns-clause-schedule
-unfolding rows_open filled
-returns-clause-schedule c = refl

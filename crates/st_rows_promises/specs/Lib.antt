@@ -1,0 +1,2 @@
+pub mod SafeWords
+pub mod Broken

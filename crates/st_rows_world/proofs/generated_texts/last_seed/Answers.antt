@@ -1,0 +1,8 @@
+use Rattle.std.proofs.Common.{refl}
+use Rattle.st_base.specs.Page.{filled}
+use Rattle.st_rows_world.specs.GeneratedWords.{rows_open}
+use Rattle.st_rows_world.proofs.generated_texts.last_seed.Goals as goal
+
+pub returns-clause-schedule : goal.returns-clause-schedule
+unfolding rows_open filled
+returns-clause-schedule c = refl

@@ -1,0 +1,3 @@
+pub mod WorldWords
+pub mod CheckWords
+pub mod GeneratedWords
