@@ -3,8 +3,8 @@ use Rattle.std.proofs.Common.{◌≡◌, ℕ, Bool, true, false, List, [], ◌�
 use Rattle.std.specs.Prelude.{◌&&◌, ◌==◌, ◌^◌, nat_le, find, ⊤}
 use Rattle.std.proofs.lemmas.Bool.{and_parts, and_from, or_cases, eqb-true, ne_eqb, cases_Bool, lt-ltb}
 use Rattle.std.proofs.lemmas.List.{append-nil, nil_from_length}
-use Rattle.st_codec.specs.declared.fault.Fault.{Fault}
-use Rattle.st_codec.specs.declared.fault.Fault.TheVariants as faults
+use Rattle.st_codec_fields.specs.declared.fault.Fault.{Fault}
+use Rattle.st_codec_fields.specs.declared.fault.Fault.TheVariants as faults
 use Rattle.st_messages.specs.declared.kind.Kind.{Kind}
 use Rattle.st_messages.specs.declared.kind.Kind.TheVariants as kinds
 use Rattle.st_messages.specs.declared.kind.Need.{Need}
@@ -17,10 +17,12 @@ use Rattle.st_messages.specs.Fits.{is_word16, is_header, is_body, fits}
 use Rattle.st_codec.specs.Grammar.{Spells}
 use Rattle.st_messages.specs.Kinds.{between, is_word64, includes, allows, kind_of_body, sender, receiver, life_of, epoch_of, request_of, stamp_of}
 use Rattle.st_codec.specs.KindBytes.{version_of, number_of, all_kinds, is_kind, kind_of}
-use Rattle.st_codec.specs.Reading.{◌>>=◌, seq, found, byte_at, word16_at, word64_at, version_at, kind_at, party_at, needed_at, nodes_at, ages_at, marks_at, header_at, body_at, message_at, told, decoded}
-use Rattle.st_codec.specs.Spelling.{word16, word64, nodes, ages, marks, header, kind, body, spelling}
-use Rattle.st_codec.proofs.Exact.{IsBytes, Takes-then, Exact, Sound, bind_ok, guard_ok, ok_is, failed, pair_exact, triple_exact, checked_exact, renamed, byte_exact}
-use Rattle.st_codec.proofs.ExactFields.{word16_exact, word64_exact, at_most}
+use Rattle.st_codec_fields.specs.Reading.{◌>>=◌, seq, byte_at, word16_at, word64_at}
+use Rattle.st_codec.specs.Reading.{found, version_at, kind_at, party_at, needed_at, nodes_at, ages_at, marks_at, header_at, body_at, message_at, told, decoded}
+use Rattle.st_codec_fields.specs.Spelling.{word16, word64}
+use Rattle.st_codec.specs.Spelling.{nodes, ages, marks, header, kind, body, spelling}
+use Rattle.st_codec_fields.proofs.Exact.{IsBytes, Takes-then, Exact, Sound, bind_ok, guard_ok, ok_is, failed, pair_exact, triple_exact, checked_exact, renamed, byte_exact}
+use Rattle.st_codec_fields.proofs.ExactFields.{word16_exact, word64_exact, at_most}
 use Rattle.st_codec.proofs.ExactBody.{cells, found_ok, body_sound, body_again}
 
 -- ---- the two bytes of the kind

@@ -1,11 +1,6 @@
-pub mod Exact
 pub mod ExactBody
-pub mod ExactFields
 pub mod ExactLocal
 pub mod ExactMessage
-pub mod ExactNames
 pub mod Framed
-pub mod Loop
-pub mod Rows
 pub mod Sized
 pub mod Streams

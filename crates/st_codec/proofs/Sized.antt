@@ -29,7 +29,8 @@ use Rattle.st_messages.specs.declared.message.NameOp.TheVariants as ops
 use Rattle.st_messages.specs.declared.message.NameReply.{NameReply}
 use Rattle.st_messages.specs.declared.message.NameReply.TheVariants as replies
 use Rattle.st_messages.specs.Sizes.{name_size, name_rows_size, op_size, name_ask_size, reply_size, ask_size, answer_size, command_size, result_size, body_size, size_of}
-use Rattle.st_codec.specs.Spelling.{word16, word32, word64, name, file, block, tag, lock_row, extent_row, lost_row, name_row, rows, name_op, name_ask, name_reply, ask, answer, command, disk_result, body, kind, nodes, ages, marks, header, spelling}
+use Rattle.st_codec_fields.specs.Spelling.{word16, word32, word64, name, file, block, tag, lock_row, extent_row, lost_row, name_row, rows, name_op, name_ask, name_reply}
+use Rattle.st_codec.specs.Spelling.{ask, answer, command, disk_result, body, kind, nodes, ages, marks, header, spelling}
 use Rattle.st_messages.specs.Kinds.{kind_of_body}
 
 -- rows of one length

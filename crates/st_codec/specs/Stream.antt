@@ -7,7 +7,8 @@ use Rattle.st_codec.specs.declared.refusal.CodecRefusal.TheVariants as refusals
 use Rattle.st_messages.specs.Fits.{fits}
 use Rattle.st_codec.specs.Frames.{Frames, Answer, frame, fresh, fed, next}
 use Rattle.st_codec.specs.Reading.{decoded}
-use Rattle.st_codec.specs.Spelling.{word32, spelling}
+use Rattle.st_codec_fields.specs.Spelling.{word32}
+use Rattle.st_codec.specs.Spelling.{spelling}
 
 -- a message as a frame
 abbrev pub message_frame : Message → List ℕ

@@ -1,18 +1,17 @@
 ghost use Rattle.std.specs.Prelude.{◌≡◌, ◌⊎◌, IfOk};
 ghost use Rattle.st_codec.specs.Grammar.{Spells};
 ghost use Rattle.st_codec.specs.Reading as reading;
+ghost use Rattle.st_codec_fields.specs.Reading as fields;
 
 use crate::decoding_local::{read_answer, read_ask, read_command, read_disk_result, read_patch};
-use crate::decoding_names::{read_name_op, read_name_reply};
-use crate::fault::{Fault, ReadError};
-use crate::field::{
-    out_of_range, read_any_block, read_byte, read_grant, read_ino, read_mode, read_page,
-    read_word16, read_word32, read_word64,
-};
 use crate::kind_bytes::kind_of;
-use crate::refusal::CodecRefusal;
-use crate::row::{read_extents, read_locks};
+use crate::refusal::{CodecRefusal, refusal_of};
 use st_base::PageNo;
+use st_codec_fields::{
+    Fault, ReadError, out_of_range, read_any_block, read_byte, read_extents, read_grant, read_ino,
+    read_locks, read_mode, read_name_op, read_name_reply, read_page, read_word16, read_word32,
+    read_word64,
+};
 use st_messages::range::is_count;
 use st_messages::{Body, Header, Kind, Message, Need, Party, Why};
 use std::alloc::Global;
@@ -37,7 +36,7 @@ fn why_numbered(number: u8) -> Option<Why>
 
 #[tactic(auto, unfolding(crate::specs::Reading::why_at))]
 fn read_why(bytes: &[u8]) -> Result<(Why, &[u8]), ReadError>
-    ensures { reading.Gives (λ x. (x.0, x.1.now)) result (reading.why_at bytes.now) }
+    ensures { fields.Gives (λ x. (x.0, x.1.now)) result (reading.why_at bytes.now) }
 {
     let (number, rest) = read_byte(bytes)?;
     match why_numbered(number) {
@@ -48,7 +47,7 @@ fn read_why(bytes: &[u8]) -> Result<(Why, &[u8]), ReadError>
 
 #[tactic(auto, unfolding(crate::specs::Reading::acquire_at))]
 fn read_acquire(bytes: &[u8]) -> Result<(Body, &[u8]), ReadError>
-    ensures { reading.Gives (λ x. (x.0, x.1.now)) result (reading.acquire_at bytes.now) }
+    ensures { fields.Gives (λ x. (x.0, x.1.now)) result (reading.acquire_at bytes.now) }
 {
     let (ino, rest) = read_ino(bytes)?;
     let (mode, rest) = read_mode(1, 2, rest)?;
@@ -57,7 +56,7 @@ fn read_acquire(bytes: &[u8]) -> Result<(Body, &[u8]), ReadError>
 
 #[tactic(auto, unfolding(crate::specs::Reading::released_at))]
 fn read_released(bytes: &[u8]) -> Result<(Body, &[u8]), ReadError>
-    ensures { reading.Gives (λ x. (x.0, x.1.now)) result (reading.released_at bytes.now) }
+    ensures { fields.Gives (λ x. (x.0, x.1.now)) result (reading.released_at bytes.now) }
 {
     let (ino, rest) = read_ino(bytes)?;
     let (g, rest) = read_grant(rest)?;
@@ -67,7 +66,7 @@ fn read_released(bytes: &[u8]) -> Result<(Body, &[u8]), ReadError>
 
 #[tactic(auto, unfolding(crate::specs::Reading::map_at))]
 fn read_map(bytes: &[u8]) -> Result<(Body, &[u8]), ReadError>
-    ensures { reading.Gives (λ x. (x.0, x.1.now)) result (reading.map_at bytes.now) }
+    ensures { fields.Gives (λ x. (x.0, x.1.now)) result (reading.map_at bytes.now) }
 {
     let (ino, rest) = read_ino(bytes)?;
     let (g, rest) = read_grant(rest)?;
@@ -77,7 +76,7 @@ fn read_map(bytes: &[u8]) -> Result<(Body, &[u8]), ReadError>
 
 #[tactic(auto, unfolding(crate::specs::Reading::count_at))]
 fn read_count(page: PageNo, bytes: &[u8]) -> Result<(u16, &[u8]), ReadError>
-    ensures { reading.Gives (λ x. (x.0, x.1.now)) result (reading.count_at page bytes.now) }
+    ensures { fields.Gives (λ x. (x.0, x.1.now)) result (reading.count_at page bytes.now) }
 {
     let (count, rest) = read_word16(bytes)?;
     if !is_count(page.0, count) {
@@ -88,7 +87,7 @@ fn read_count(page: PageNo, bytes: &[u8]) -> Result<(u16, &[u8]), ReadError>
 
 #[tactic(auto, unfolding(crate::specs::Reading::allocate_at))]
 fn read_allocate(bytes: &[u8]) -> Result<(Body, &[u8]), ReadError>
-    ensures { reading.Gives (λ x. (x.0, x.1.now)) result (reading.allocate_at bytes.now) }
+    ensures { fields.Gives (λ x. (x.0, x.1.now)) result (reading.allocate_at bytes.now) }
 {
     let (ino, rest) = read_ino(bytes)?;
     let (g, rest) = read_grant(rest)?;
@@ -105,7 +104,7 @@ fn read_allocate(bytes: &[u8]) -> Result<(Body, &[u8]), ReadError>
 
 #[tactic(auto, unfolding(crate::specs::Reading::cut_at))]
 fn read_cut(bytes: &[u8]) -> Result<(Body, &[u8]), ReadError>
-    ensures { reading.Gives (λ x. (x.0, x.1.now)) result (reading.cut_at bytes.now) }
+    ensures { fields.Gives (λ x. (x.0, x.1.now)) result (reading.cut_at bytes.now) }
 {
     let (ino, rest) = read_ino(bytes)?;
     let (g, rest) = read_grant(rest)?;
@@ -115,7 +114,7 @@ fn read_cut(bytes: &[u8]) -> Result<(Body, &[u8]), ReadError>
 
 #[tactic(auto, unfolding(crate::specs::Reading::name_body_at))]
 fn read_name_body(alloc: Global, bytes: &[u8]) -> Result<(Body, &[u8]), ReadError>
-    ensures { reading.Gives (λ x. (x.0, x.1.now)) result (reading.name_body_at bytes.now) }
+    ensures { fields.Gives (λ x. (x.0, x.1.now)) result (reading.name_body_at bytes.now) }
 {
     let (op, rest) = read_name_op(alloc, bytes)?;
     Ok((Body::Name(op), rest))
@@ -123,7 +122,7 @@ fn read_name_body(alloc: Global, bytes: &[u8]) -> Result<(Body, &[u8]), ReadErro
 
 #[tactic(auto, unfolding(crate::specs::Reading::reassert_at))]
 fn read_reassert(alloc: Global, bytes: &[u8]) -> Result<(Body, &[u8]), ReadError>
-    ensures { reading.Gives (λ x. (x.0, x.1.now)) result (reading.reassert_at bytes.now) }
+    ensures { fields.Gives (λ x. (x.0, x.1.now)) result (reading.reassert_at bytes.now) }
 {
     let (rows, rest) = read_locks(alloc, bytes)?;
     Ok((Body::Reassert(rows), rest))
@@ -131,7 +130,7 @@ fn read_reassert(alloc: Global, bytes: &[u8]) -> Result<(Body, &[u8]), ReadError
 
 #[tactic(auto, unfolding(crate::specs::Reading::demand_seen_at))]
 fn read_demand_seen(bytes: &[u8]) -> Result<(Body, &[u8]), ReadError>
-    ensures { reading.Gives (λ x. (x.0, x.1.now)) result (reading.demand_seen_at bytes.now) }
+    ensures { fields.Gives (λ x. (x.0, x.1.now)) result (reading.demand_seen_at bytes.now) }
 {
     let (ino, rest) = read_ino(bytes)?;
     let (g, rest) = read_grant(rest)?;
@@ -140,7 +139,7 @@ fn read_demand_seen(bytes: &[u8]) -> Result<(Body, &[u8]), ReadError>
 
 #[tactic(auto, unfolding(crate::specs::Reading::nack_at))]
 fn read_nack(bytes: &[u8]) -> Result<(Body, &[u8]), ReadError>
-    ensures { reading.Gives (λ x. (x.0, x.1.now)) result (reading.nack_at bytes.now) }
+    ensures { fields.Gives (λ x. (x.0, x.1.now)) result (reading.nack_at bytes.now) }
 {
     let (why, rest) = read_why(bytes)?;
     let (a, rest) = read_word64(rest)?;
@@ -150,7 +149,7 @@ fn read_nack(bytes: &[u8]) -> Result<(Body, &[u8]), ReadError>
 
 #[tactic(auto, unfolding(crate::specs::Reading::granted_at))]
 fn read_granted(bytes: &[u8]) -> Result<(Body, &[u8]), ReadError>
-    ensures { reading.Gives (λ x. (x.0, x.1.now)) result (reading.granted_at bytes.now) }
+    ensures { fields.Gives (λ x. (x.0, x.1.now)) result (reading.granted_at bytes.now) }
 {
     let (ino, rest) = read_ino(bytes)?;
     let (g, rest) = read_grant(rest)?;
@@ -160,7 +159,7 @@ fn read_granted(bytes: &[u8]) -> Result<(Body, &[u8]), ReadError>
 
 #[tactic(auto, unfolding(crate::specs::Reading::queued_at))]
 fn read_queued(bytes: &[u8]) -> Result<(Body, &[u8]), ReadError>
-    ensures { reading.Gives (λ x. (x.0, x.1.now)) result (reading.queued_at bytes.now) }
+    ensures { fields.Gives (λ x. (x.0, x.1.now)) result (reading.queued_at bytes.now) }
 {
     let (ino, rest) = read_ino(bytes)?;
     let (mode, rest) = read_mode(1, 2, rest)?;
@@ -169,7 +168,7 @@ fn read_queued(bytes: &[u8]) -> Result<(Body, &[u8]), ReadError>
 
 #[tactic(auto, unfolding(crate::specs::Reading::demand_at))]
 fn read_demand(bytes: &[u8]) -> Result<(Body, &[u8]), ReadError>
-    ensures { reading.Gives (λ x. (x.0, x.1.now)) result (reading.demand_at bytes.now) }
+    ensures { fields.Gives (λ x. (x.0, x.1.now)) result (reading.demand_at bytes.now) }
 {
     let (ino, rest) = read_ino(bytes)?;
     let (g, rest) = read_grant(rest)?;
@@ -179,7 +178,7 @@ fn read_demand(bytes: &[u8]) -> Result<(Body, &[u8]), ReadError>
 
 #[tactic(auto, unfolding(crate::specs::Reading::extents_body_at))]
 fn read_extents_body(alloc: Global, bytes: &[u8]) -> Result<(Body, &[u8]), ReadError>
-    ensures { reading.Gives (λ x. (x.0, x.1.now)) result (reading.extents_body_at bytes.now) }
+    ensures { fields.Gives (λ x. (x.0, x.1.now)) result (reading.extents_body_at bytes.now) }
 {
     let (ino, rest) = read_ino(bytes)?;
     let (rows, rest) = read_extents(alloc, rest)?;
@@ -188,7 +187,7 @@ fn read_extents_body(alloc: Global, bytes: &[u8]) -> Result<(Body, &[u8]), ReadE
 
 #[tactic(auto, unfolding(crate::specs::Reading::named_at))]
 fn read_named(alloc: Global, bytes: &[u8]) -> Result<(Body, &[u8]), ReadError>
-    ensures { reading.Gives (λ x. (x.0, x.1.now)) result (reading.named_at bytes.now) }
+    ensures { fields.Gives (λ x. (x.0, x.1.now)) result (reading.named_at bytes.now) }
 {
     let (reply, rest) = read_name_reply(alloc, bytes)?;
     Ok((Body::Named(reply), rest))
@@ -196,7 +195,7 @@ fn read_named(alloc: Global, bytes: &[u8]) -> Result<(Body, &[u8]), ReadError>
 
 #[tactic(auto, unfolding(crate::specs::Reading::app_at))]
 fn read_app(alloc: Global, bytes: &[u8]) -> Result<(Body, &[u8]), ReadError>
-    ensures { reading.Gives (λ x. (x.0, x.1.now)) result (reading.app_at bytes.now) }
+    ensures { fields.Gives (λ x. (x.0, x.1.now)) result (reading.app_at bytes.now) }
 {
     let (op, rest) = read_word32(bytes)?;
     let (ask, rest) = read_ask(alloc, rest)?;
@@ -205,7 +204,7 @@ fn read_app(alloc: Global, bytes: &[u8]) -> Result<(Body, &[u8]), ReadError>
 
 #[tactic(auto, unfolding(crate::specs::Reading::app_patch_at))]
 fn read_app_patch(alloc: Global, bytes: &[u8]) -> Result<(Body, &[u8]), ReadError>
-    ensures { reading.Gives (λ x. (x.0, x.1.now)) result (reading.app_patch_at bytes.now) }
+    ensures { fields.Gives (λ x. (x.0, x.1.now)) result (reading.app_patch_at bytes.now) }
 {
     let (op, rest) = read_word32(bytes)?;
     let (ask, rest) = read_patch(alloc, rest)?;
@@ -214,7 +213,7 @@ fn read_app_patch(alloc: Global, bytes: &[u8]) -> Result<(Body, &[u8]), ReadErro
 
 #[tactic(auto, unfolding(crate::specs::Reading::app_done_at))]
 fn read_app_done(alloc: Global, bytes: &[u8]) -> Result<(Body, &[u8]), ReadError>
-    ensures { reading.Gives (λ x. (x.0, x.1.now)) result (reading.app_done_at bytes.now) }
+    ensures { fields.Gives (λ x. (x.0, x.1.now)) result (reading.app_done_at bytes.now) }
 {
     let (op, rest) = read_word32(bytes)?;
     let (answer, rest) = read_answer(alloc, rest)?;
@@ -223,7 +222,7 @@ fn read_app_done(alloc: Global, bytes: &[u8]) -> Result<(Body, &[u8]), ReadError
 
 #[tactic(auto, unfolding(crate::specs::Reading::submit_at))]
 fn read_submit(alloc: Global, bytes: &[u8]) -> Result<(Body, &[u8]), ReadError>
-    ensures { reading.Gives (λ x. (x.0, x.1.now)) result (reading.submit_at bytes.now) }
+    ensures { fields.Gives (λ x. (x.0, x.1.now)) result (reading.submit_at bytes.now) }
 {
     let (command, rest) = read_word64(bytes)?;
     let (at, rest) = read_any_block(rest)?;
@@ -233,7 +232,7 @@ fn read_submit(alloc: Global, bytes: &[u8]) -> Result<(Body, &[u8]), ReadError>
 
 #[tactic(auto, unfolding(crate::specs::Reading::done_at))]
 fn read_done(alloc: Global, bytes: &[u8]) -> Result<(Body, &[u8]), ReadError>
-    ensures { reading.Gives (λ x. (x.0, x.1.now)) result (reading.done_at bytes.now) }
+    ensures { fields.Gives (λ x. (x.0, x.1.now)) result (reading.done_at bytes.now) }
 {
     let (command, rest) = read_word64(bytes)?;
     let (result, rest) = read_disk_result(alloc, rest)?;
@@ -242,7 +241,7 @@ fn read_done(alloc: Global, bytes: &[u8]) -> Result<(Body, &[u8]), ReadError>
 
 #[tactic(auto, unfolding(crate::specs::Reading::body_at))]
 fn read_body(alloc: Global, kind: Kind, bytes: &[u8]) -> Result<(Body, &[u8]), ReadError>
-    ensures { reading.Gives (λ x. (x.0, x.1.now)) result (reading.body_at kind bytes.now) }
+    ensures { fields.Gives (λ x. (x.0, x.1.now)) result (reading.body_at kind bytes.now) }
 {
     match kind {
         Kind::Hello => Ok((Body::Hello, bytes)),
@@ -275,7 +274,7 @@ fn read_body(alloc: Global, kind: Kind, bytes: &[u8]) -> Result<(Body, &[u8]), R
 
 #[tactic(auto, unfolding(crate::specs::Reading::version_at))]
 fn read_version(bytes: &[u8]) -> Result<(u8, &[u8]), ReadError>
-    ensures { reading.Gives (λ x. (x.0, x.1.now)) result (reading.version_at bytes.now) }
+    ensures { fields.Gives (λ x. (x.0, x.1.now)) result (reading.version_at bytes.now) }
 {
     let (version, rest) = read_byte(bytes)?;
     if version < 1 || 2 < version {
@@ -286,7 +285,7 @@ fn read_version(bytes: &[u8]) -> Result<(u8, &[u8]), ReadError>
 
 #[tactic(auto, unfolding(crate::specs::Reading::kind_at))]
 fn read_kind(bytes: &[u8]) -> Result<(Kind, &[u8]), ReadError>
-    ensures { reading.Gives (λ x. (x.0, x.1.now)) result (reading.kind_at bytes.now) }
+    ensures { fields.Gives (λ x. (x.0, x.1.now)) result (reading.kind_at bytes.now) }
 {
     let (version, rest) = read_version(bytes)?;
     let (number, rest) = read_byte(rest)?;
@@ -298,7 +297,7 @@ fn read_kind(bytes: &[u8]) -> Result<(Kind, &[u8]), ReadError>
 
 #[tactic(auto, unfolding(crate::specs::Reading::party_at))]
 fn read_party(party: Party, bytes: &[u8]) -> Result<(u16, &[u8]), ReadError>
-    ensures { reading.Gives (λ x. (x.0, x.1.now)) result (reading.party_at party bytes.now) }
+    ensures { fields.Gives (λ x. (x.0, x.1.now)) result (reading.party_at party bytes.now) }
 {
     let (node, rest) = read_word16(bytes)?;
     if !party.includes(node) {
@@ -309,7 +308,7 @@ fn read_party(party: Party, bytes: &[u8]) -> Result<(u16, &[u8]), ReadError>
 
 #[tactic(auto, unfolding(crate::specs::Reading::needed_at))]
 fn read_needed(need: Need, bytes: &[u8]) -> Result<(u64, &[u8]), ReadError>
-    ensures { reading.Gives (λ x. (x.0, x.1.now)) result (reading.needed_at need bytes.now) }
+    ensures { fields.Gives (λ x. (x.0, x.1.now)) result (reading.needed_at need bytes.now) }
 {
     let (number, rest) = read_word64(bytes)?;
     if !need.allows(number) {
@@ -320,7 +319,7 @@ fn read_needed(need: Need, bytes: &[u8]) -> Result<(u64, &[u8]), ReadError>
 
 #[tactic(auto, unfolding(crate::specs::Reading::nodes_at))]
 fn read_nodes(kind: Kind, bytes: &[u8]) -> Result<((u16, u16), &[u8]), ReadError>
-    ensures { reading.Gives (λ x. (x.0, x.1.now)) result (reading.nodes_at kind bytes.now) }
+    ensures { fields.Gives (λ x. (x.0, x.1.now)) result (reading.nodes_at kind bytes.now) }
 {
     let (from, rest) = read_party(kind.sender(), bytes)?;
     let (to, rest) = read_party(kind.receiver(), rest)?;
@@ -329,7 +328,7 @@ fn read_nodes(kind: Kind, bytes: &[u8]) -> Result<((u16, u16), &[u8]), ReadError
 
 #[tactic(auto, unfolding(crate::specs::Reading::ages_at))]
 fn read_ages(kind: Kind, bytes: &[u8]) -> Result<((u64, u64), &[u8]), ReadError>
-    ensures { reading.Gives (λ x. (x.0, x.1.now)) result (reading.ages_at kind bytes.now) }
+    ensures { fields.Gives (λ x. (x.0, x.1.now)) result (reading.ages_at kind bytes.now) }
 {
     let (life, rest) = read_needed(kind.life(), bytes)?;
     let (epoch, rest) = read_needed(kind.epoch(), rest)?;
@@ -338,7 +337,7 @@ fn read_ages(kind: Kind, bytes: &[u8]) -> Result<((u64, u64), &[u8]), ReadError>
 
 #[tactic(auto, unfolding(crate::specs::Reading::marks_at))]
 fn read_marks(kind: Kind, bytes: &[u8]) -> Result<((u64, u64), &[u8]), ReadError>
-    ensures { reading.Gives (λ x. (x.0, x.1.now)) result (reading.marks_at kind bytes.now) }
+    ensures { fields.Gives (λ x. (x.0, x.1.now)) result (reading.marks_at kind bytes.now) }
 {
     let (number, rest) = read_needed(kind.request(), bytes)?;
     let (stamp, rest) = read_needed(kind.stamp(), rest)?;
@@ -347,7 +346,7 @@ fn read_marks(kind: Kind, bytes: &[u8]) -> Result<((u64, u64), &[u8]), ReadError
 
 #[tactic(auto, unfolding(crate::specs::Reading::header_at))]
 fn read_header(kind: Kind, bytes: &[u8]) -> Result<(Header, &[u8]), ReadError>
-    ensures { reading.Gives (λ x. (x.0, x.1.now)) result (reading.header_at kind bytes.now) }
+    ensures { fields.Gives (λ x. (x.0, x.1.now)) result (reading.header_at kind bytes.now) }
 {
     let ((from, to), rest) = read_nodes(kind, bytes)?;
     let ((life, epoch), rest) = read_ages(kind, rest)?;
@@ -365,7 +364,7 @@ fn read_header(kind: Kind, bytes: &[u8]) -> Result<(Header, &[u8]), ReadError>
 
 #[tactic(auto, unfolding(crate::specs::Reading::message_at))]
 pub(crate) fn read_message(alloc: Global, bytes: &[u8]) -> Result<Message, ReadError>
-    ensures { reading.Gives (λ m. m) result (reading.message_at bytes.now) }
+    ensures { fields.Gives (λ m. m) result (reading.message_at bytes.now) }
 {
     let (kind, rest) = read_kind(bytes)?;
     let (header, rest) = read_header(kind, rest)?;
@@ -390,6 +389,6 @@ pub fn decode(alloc: Global, bytes: &[u8]) -> Result<Message, CodecRefusal>
     match read_message(alloc, bytes) {
         Ok(message) => Ok(message),
         Err(ReadError::Memory) => Err(CodecRefusal::Memory),
-        Err(ReadError::Fault(fault)) => Err(fault.in_message(bytes.len())),
+        Err(ReadError::Fault(fault)) => Err(refusal_of(bytes.len(), fault)),
     }
 }

@@ -1,22 +1,20 @@
 ghost use Rattle.std.specs.Prelude.{◌≡◌};
 ghost use Rattle.st_codec.specs.Reading as reading;
+ghost use Rattle.st_codec_fields.specs.Reading as fields;
 ghost use Rattle.st_messages.specs.declared.answer.AppAnswer.TheVariants as answers;
 ghost use Rattle.st_messages.specs.declared.ask.Ask.TheVariants as asks;
 
-use crate::decoding_names::read_name_ask;
-use crate::fault::{Fault, ReadError};
-use crate::field::{
-    read_byte, read_file, read_ino, read_page, read_patch_bytes, read_tag, read_whole_page,
-    read_word16_in, read_word64,
-};
-use crate::row::{read_lost, read_names};
 use st_base::{BlockAt, Command, FileId, PageBytes, PageNo, ServerId, Tag};
+use st_codec_fields::{
+    Fault, ReadError, read_byte, read_file, read_ino, read_lost, read_name_ask, read_names,
+    read_page, read_patch_bytes, read_tag, read_whole_page, read_word16_in, read_word64,
+};
 use st_messages::{AppAnswer, Ask, DiskResult};
 use std::alloc::Global;
 
 #[tactic(auto, unfolding(crate::specs::Reading::file_page_at))]
 fn read_file_page(bytes: &[u8]) -> Result<((FileId, PageNo), &[u8]), ReadError>
-    ensures { reading.Gives (λ x. (x.0, x.1.now)) result (reading.file_page_at bytes.now) }
+    ensures { fields.Gives (λ x. (x.0, x.1.now)) result (reading.file_page_at bytes.now) }
 {
     let (file, rest) = read_file(1, bytes)?;
     let (page, rest) = read_page(0, rest)?;
@@ -25,7 +23,7 @@ fn read_file_page(bytes: &[u8]) -> Result<((FileId, PageNo), &[u8]), ReadError>
 
 #[tactic(auto, unfolding(crate::specs::Reading::write_at))]
 fn read_write(alloc: Global, bytes: &[u8]) -> Result<(Ask, &[u8]), ReadError>
-    ensures { reading.Gives (λ x. (x.0, x.1.now)) result (reading.write_at bytes.now) }
+    ensures { fields.Gives (λ x. (x.0, x.1.now)) result (reading.write_at bytes.now) }
 {
     let (file, rest) = read_file(1, bytes)?;
     let (page, rest) = read_page(0, rest)?;
@@ -34,21 +32,21 @@ fn read_write(alloc: Global, bytes: &[u8]) -> Result<(Ask, &[u8]), ReadError>
 }
 
 fn read_read(bytes: &[u8]) -> Result<(Ask, &[u8]), ReadError>
-    ensures { reading.Gives (λ x. (x.0, x.1.now)) result (reading.made (λ t. asks.Read t.0 t.1) reading.file_page_at bytes.now) }
+    ensures { fields.Gives (λ x. (x.0, x.1.now)) result (fields.made (λ t. asks.Read t.0 t.1) reading.file_page_at bytes.now) }
 {
     let ((file, page), rest) = read_file_page(bytes)?;
     Ok((Ask::Read(file, page), rest))
 }
 
 fn read_sync(bytes: &[u8]) -> Result<(Ask, &[u8]), ReadError>
-    ensures { reading.Gives (λ x. (x.0, x.1.now)) result (reading.made asks.Sync (reading.file_at 1) bytes.now) }
+    ensures { fields.Gives (λ x. (x.0, x.1.now)) result (fields.made asks.Sync (fields.file_at 1) bytes.now) }
 {
     let (file, rest) = read_file(1, bytes)?;
     Ok((Ask::Sync(file), rest))
 }
 
 fn read_cut(bytes: &[u8]) -> Result<(Ask, &[u8]), ReadError>
-    ensures { reading.Gives (λ x. (x.0, x.1.now)) result (reading.made (λ t. asks.Cut t.0 t.1) reading.file_page_at bytes.now) }
+    ensures { fields.Gives (λ x. (x.0, x.1.now)) result (fields.made (λ t. asks.Cut t.0 t.1) reading.file_page_at bytes.now) }
 {
     let ((file, page), rest) = read_file_page(bytes)?;
     Ok((Ask::Cut(file, page), rest))
@@ -56,7 +54,7 @@ fn read_cut(bytes: &[u8]) -> Result<(Ask, &[u8]), ReadError>
 
 #[tactic(auto, unfolding(crate::specs::Reading::ask_names_at))]
 fn read_ask_names(alloc: Global, bytes: &[u8]) -> Result<(Ask, &[u8]), ReadError>
-    ensures { reading.Gives (λ x. (x.0, x.1.now)) result (reading.ask_names_at bytes.now) }
+    ensures { fields.Gives (λ x. (x.0, x.1.now)) result (reading.ask_names_at bytes.now) }
 {
     let (server, rest) = read_word16_in(1, 65_535, bytes)?;
     let (ask, rest) = read_name_ask(alloc, rest)?;
@@ -70,7 +68,7 @@ fn read_ask_numbered(
     left: usize,
     bytes: &[u8],
 ) -> Result<(Ask, &[u8]), ReadError>
-    ensures { reading.Gives (λ x. (x.0, x.1.now)) result (reading.ask_numbered number left bytes.now) }
+    ensures { fields.Gives (λ x. (x.0, x.1.now)) result (reading.ask_numbered number left bytes.now) }
 {
     match number {
         1 => read_write(alloc, bytes),
@@ -85,7 +83,7 @@ fn read_ask_numbered(
 /// A request of version 1.
 #[tactic(auto, unfolding(crate::specs::Reading::ask_at))]
 pub(crate) fn read_ask(alloc: Global, bytes: &[u8]) -> Result<(Ask, &[u8]), ReadError>
-    ensures { reading.Gives (λ x. (x.0, x.1.now)) result (reading.ask_at bytes.now) }
+    ensures { fields.Gives (λ x. (x.0, x.1.now)) result (reading.ask_at bytes.now) }
 {
     let (number, rest) = read_byte(bytes)?;
     read_ask_numbered(alloc, number, bytes.len(), rest)
@@ -93,7 +91,7 @@ pub(crate) fn read_ask(alloc: Global, bytes: &[u8]) -> Result<(Ask, &[u8]), Read
 
 #[tactic(auto, unfolding(crate::specs::Reading::patch_fields_at))]
 fn read_patch_fields(alloc: Global, bytes: &[u8]) -> Result<(Ask, &[u8]), ReadError>
-    ensures { reading.Gives (λ x. (x.0, x.1.now)) result (reading.patch_fields_at bytes.now) }
+    ensures { fields.Gives (λ x. (x.0, x.1.now)) result (reading.patch_fields_at bytes.now) }
 {
     let (file, rest) = read_file(1, bytes)?;
     let (page, rest) = read_page(0, rest)?;
@@ -109,7 +107,7 @@ fn read_patch_numbered(
     left: usize,
     bytes: &[u8],
 ) -> Result<(Ask, &[u8]), ReadError>
-    ensures { reading.Gives (λ x. (x.0, x.1.now)) result (reading.patch_numbered number left bytes.now) }
+    ensures { fields.Gives (λ x. (x.0, x.1.now)) result (reading.patch_numbered number left bytes.now) }
 {
     match number {
         6 => read_patch_fields(alloc, bytes),
@@ -120,7 +118,7 @@ fn read_patch_numbered(
 /// The request of version 2.
 #[tactic(auto, unfolding(crate::specs::Reading::patch_at))]
 pub(crate) fn read_patch(alloc: Global, bytes: &[u8]) -> Result<(Ask, &[u8]), ReadError>
-    ensures { reading.Gives (λ x. (x.0, x.1.now)) result (reading.patch_at bytes.now) }
+    ensures { fields.Gives (λ x. (x.0, x.1.now)) result (reading.patch_at bytes.now) }
 {
     let (number, rest) = read_byte(bytes)?;
     read_patch_numbered(alloc, number, bytes.len(), rest)
@@ -128,7 +126,7 @@ pub(crate) fn read_patch(alloc: Global, bytes: &[u8]) -> Result<(Ask, &[u8]), Re
 
 #[tactic(auto, unfolding(crate::specs::Reading::two_words_at))]
 fn read_two_words(bytes: &[u8]) -> Result<((u64, u64), &[u8]), ReadError>
-    ensures { reading.Gives (λ x. (x.0, x.1.now)) result (reading.two_words_at bytes.now) }
+    ensures { fields.Gives (λ x. (x.0, x.1.now)) result (reading.two_words_at bytes.now) }
 {
     let (a, rest) = read_word64(bytes)?;
     let (b, rest) = read_word64(rest)?;
@@ -137,7 +135,7 @@ fn read_two_words(bytes: &[u8]) -> Result<((u64, u64), &[u8]), ReadError>
 
 #[tactic(auto, unfolding(crate::specs::Reading::plain_answer))]
 fn read_plain_answer(number: u8, left: usize, bytes: &[u8]) -> Result<(AppAnswer, &[u8]), ReadError>
-    ensures { reading.Gives (λ x. (x.0, x.1.now)) result (reading.plain_answer number left bytes.now) }
+    ensures { fields.Gives (λ x. (x.0, x.1.now)) result (reading.plain_answer number left bytes.now) }
 {
     match number {
         0 => Ok((AppAnswer::Written, bytes)),
@@ -154,56 +152,56 @@ fn read_plain_answer(number: u8, left: usize, bytes: &[u8]) -> Result<(AppAnswer
 }
 
 fn read_page_answer(alloc: Global, bytes: &[u8]) -> Result<(AppAnswer, &[u8]), ReadError>
-    ensures { reading.Gives (λ x. (x.0, x.1.now)) result (reading.made answers.Read reading.whole_page_at bytes.now) }
+    ensures { fields.Gives (λ x. (x.0, x.1.now)) result (fields.made answers.Read fields.whole_page_at bytes.now) }
 {
     let (text, rest) = read_whole_page(alloc, bytes)?;
     Ok((AppAnswer::Read(text), rest))
 }
 
 fn read_named(bytes: &[u8]) -> Result<(AppAnswer, &[u8]), ReadError>
-    ensures { reading.Gives (λ x. (x.0, x.1.now)) result (reading.made answers.Named reading.ino_at bytes.now) }
+    ensures { fields.Gives (λ x. (x.0, x.1.now)) result (fields.made answers.Named fields.ino_at bytes.now) }
 {
     let (ino, rest) = read_ino(bytes)?;
     Ok((AppAnswer::Named(ino), rest))
 }
 
 fn read_listed(alloc: Global, bytes: &[u8]) -> Result<(AppAnswer, &[u8]), ReadError>
-    ensures { reading.Gives (λ x. (x.0, x.1.now)) result (reading.made answers.Listed reading.names_at bytes.now) }
+    ensures { fields.Gives (λ x. (x.0, x.1.now)) result (fields.made answers.Listed fields.names_at bytes.now) }
 {
     let (rows, rest) = read_names(alloc, bytes)?;
     Ok((AppAnswer::Listed(rows), rest))
 }
 
 fn read_refused(bytes: &[u8]) -> Result<(AppAnswer, &[u8]), ReadError>
-    ensures { reading.Gives (λ x. (x.0, x.1.now)) result (reading.made answers.Refused reading.byte_at bytes.now) }
+    ensures { fields.Gives (λ x. (x.0, x.1.now)) result (fields.made answers.Refused fields.byte_at bytes.now) }
 {
     let (code, rest) = read_byte(bytes)?;
     Ok((AppAnswer::Refused(code), rest))
 }
 
 fn read_no_space(bytes: &[u8]) -> Result<(AppAnswer, &[u8]), ReadError>
-    ensures { reading.Gives (λ x. (x.0, x.1.now)) result (reading.made (λ t. answers.NoSpace t.0 t.1) reading.two_words_at bytes.now) }
+    ensures { fields.Gives (λ x. (x.0, x.1.now)) result (fields.made (λ t. answers.NoSpace t.0 t.1) reading.two_words_at bytes.now) }
 {
     let ((free, asked), rest) = read_two_words(bytes)?;
     Ok((AppAnswer::NoSpace(free, asked), rest))
 }
 
 fn read_disk_fault(bytes: &[u8]) -> Result<(AppAnswer, &[u8]), ReadError>
-    ensures { reading.Gives (λ x. (x.0, x.1.now)) result (reading.made answers.DiskFault reading.word64_at bytes.now) }
+    ensures { fields.Gives (λ x. (x.0, x.1.now)) result (fields.made answers.DiskFault fields.word64_at bytes.now) }
 {
     let (command, rest) = read_word64(bytes)?;
     Ok((AppAnswer::DiskFault(command), rest))
 }
 
 fn read_uncertain(bytes: &[u8]) -> Result<(AppAnswer, &[u8]), ReadError>
-    ensures { reading.Gives (λ x. (x.0, x.1.now)) result (reading.made (λ t. answers.Uncertain t.0 t.1) reading.two_words_at bytes.now) }
+    ensures { fields.Gives (λ x. (x.0, x.1.now)) result (fields.made (λ t. answers.Uncertain t.0 t.1) reading.two_words_at bytes.now) }
 {
     let ((old, new), rest) = read_two_words(bytes)?;
     Ok((AppAnswer::Uncertain(old, new), rest))
 }
 
 fn read_lost_pages(alloc: Global, bytes: &[u8]) -> Result<(AppAnswer, &[u8]), ReadError>
-    ensures { reading.Gives (λ x. (x.0, x.1.now)) result (reading.made answers.Lost reading.lost_at bytes.now) }
+    ensures { fields.Gives (λ x. (x.0, x.1.now)) result (fields.made answers.Lost fields.lost_at bytes.now) }
 {
     let (rows, rest) = read_lost(alloc, bytes)?;
     Ok((AppAnswer::Lost(rows), rest))
@@ -216,7 +214,7 @@ fn read_answer_numbered(
     left: usize,
     bytes: &[u8],
 ) -> Result<(AppAnswer, &[u8]), ReadError>
-    ensures { reading.Gives (λ x. (x.0, x.1.now)) result (reading.answer_numbered number left bytes.now) }
+    ensures { fields.Gives (λ x. (x.0, x.1.now)) result (reading.answer_numbered number left bytes.now) }
 {
     match number {
         1 => read_page_answer(alloc, bytes),
@@ -233,7 +231,7 @@ fn read_answer_numbered(
 
 #[tactic(auto, unfolding(crate::specs::Reading::answer_at))]
 pub(crate) fn read_answer(alloc: Global, bytes: &[u8]) -> Result<(AppAnswer, &[u8]), ReadError>
-    ensures { reading.Gives (λ x. (x.0, x.1.now)) result (reading.answer_at bytes.now) }
+    ensures { fields.Gives (λ x. (x.0, x.1.now)) result (reading.answer_at bytes.now) }
 {
     let (number, rest) = read_byte(bytes)?;
     read_answer_numbered(alloc, number, bytes.len(), rest)
@@ -245,7 +243,7 @@ fn read_tagged_page(
     least: u64,
     bytes: &[u8],
 ) -> Result<((Tag, PageBytes), &[u8]), ReadError>
-    ensures { reading.Gives (λ x. (x.0, x.1.now)) result (reading.tagged_page_at least bytes.now) }
+    ensures { fields.Gives (λ x. (x.0, x.1.now)) result (reading.tagged_page_at least bytes.now) }
 {
     let (tag, rest) = read_tag(least, bytes)?;
     let (text, rest) = read_whole_page(alloc, rest)?;
@@ -260,7 +258,7 @@ fn read_command_numbered(
     left: usize,
     bytes: &[u8],
 ) -> Result<(Command, &[u8]), ReadError>
-    ensures { reading.Gives (λ x. (x.0, x.1.now)) result (reading.command_numbered at number left bytes.now) }
+    ensures { fields.Gives (λ x. (x.0, x.1.now)) result (reading.command_numbered at number left bytes.now) }
 {
     match number {
         0 => Ok((Command::Read { at }, bytes)),
@@ -279,7 +277,7 @@ pub(crate) fn read_command(
     at: BlockAt,
     bytes: &[u8],
 ) -> Result<(Command, &[u8]), ReadError>
-    ensures { reading.Gives (λ x. (x.0, x.1.now)) result (reading.command_at at bytes.now) }
+    ensures { fields.Gives (λ x. (x.0, x.1.now)) result (reading.command_at at bytes.now) }
 {
     let (number, rest) = read_byte(bytes)?;
     read_command_numbered(alloc, at, number, bytes.len(), rest)
@@ -292,7 +290,7 @@ fn read_result_numbered(
     left: usize,
     bytes: &[u8],
 ) -> Result<(DiskResult, &[u8]), ReadError>
-    ensures { reading.Gives (λ x. (x.0, x.1.now)) result (reading.result_numbered number left bytes.now) }
+    ensures { fields.Gives (λ x. (x.0, x.1.now)) result (reading.result_numbered number left bytes.now) }
 {
     match number {
         0 => Ok((DiskResult::Failed, bytes)),
@@ -310,7 +308,7 @@ pub(crate) fn read_disk_result(
     alloc: Global,
     bytes: &[u8],
 ) -> Result<(DiskResult, &[u8]), ReadError>
-    ensures { reading.Gives (λ x. (x.0, x.1.now)) result (reading.disk_result_at bytes.now) }
+    ensures { fields.Gives (λ x. (x.0, x.1.now)) result (reading.disk_result_at bytes.now) }
 {
     let (number, rest) = read_byte(bytes)?;
     read_result_numbered(alloc, number, bytes.len(), rest)

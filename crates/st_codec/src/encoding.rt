@@ -1,13 +1,15 @@
 ghost use Rattle.std.specs.Prelude.{◌≡◌, ◌++◌, true, IfOk, OnOk};
 ghost use Rattle.st_messages.specs.Fits as fits;
 ghost use Rattle.st_codec.specs.Spelling as spells;
+ghost use Rattle.st_codec_fields.specs.Spelling as field_spells;
 
 use crate::encoding_local::{put_answer, put_ask, put_command, put_disk_result};
-use crate::encoding_names::{put_name_op, put_name_reply};
 use crate::kind_bytes::{number_of, version_of};
-use crate::row::{put_extents, put_locks};
-use crate::spell::{put_block, put_byte, put_grant, put_mode, put_word16, put_word32, put_word64};
 use st_base::{BlockAt, Command, ExtentRows, GrantNo, Mode, PageNo};
+use st_codec_fields::{
+    put_block, put_byte, put_extents, put_grant, put_locks, put_mode, put_name_op, put_name_reply,
+    put_word16, put_word32, put_word64,
+};
 use st_messages::{AppAnswer, Ask, Body, DiskResult, Header, Kind, Message, Why};
 use std::alloc::{AllocError, Global};
 
@@ -30,7 +32,7 @@ fn why_number(why: Why) -> u8
 }
 
 fn put_wish(out: &mut Vec<u8>, ino: u32, mode: Mode) -> Result<(), AllocError>
-    ensures { OnOk result (out.new.items ≡ out.old.items ++ (spells.word32 ino ++ spells.mode mode)) }
+    ensures { OnOk result (out.new.items ≡ out.old.items ++ (field_spells.word32 ino ++ field_spells.mode mode)) }
 {
     put_word32(out, ino)?;
     put_mode(out, mode)?;
@@ -38,7 +40,7 @@ fn put_wish(out: &mut Vec<u8>, ino: u32, mode: Mode) -> Result<(), AllocError>
 }
 
 fn put_held(out: &mut Vec<u8>, ino: u32, g: GrantNo) -> Result<(), AllocError>
-    ensures { OnOk result (out.new.items ≡ out.old.items ++ (spells.word32 ino ++ spells.grant g)) }
+    ensures { OnOk result (out.new.items ≡ out.old.items ++ (field_spells.word32 ino ++ field_spells.grant g)) }
 {
     put_word32(out, ino)?;
     put_grant(out, g)?;
@@ -46,7 +48,7 @@ fn put_held(out: &mut Vec<u8>, ino: u32, g: GrantNo) -> Result<(), AllocError>
 }
 
 fn put_lock(out: &mut Vec<u8>, ino: u32, g: GrantNo, mode: Mode) -> Result<(), AllocError>
-    ensures { OnOk result (out.new.items ≡ out.old.items ++ (spells.word32 ino ++ spells.grant g ++ spells.mode mode)) }
+    ensures { OnOk result (out.new.items ≡ out.old.items ++ (field_spells.word32 ino ++ field_spells.grant g ++ field_spells.mode mode)) }
 {
     put_word32(out, ino)?;
     put_grant(out, g)?;
@@ -55,7 +57,7 @@ fn put_lock(out: &mut Vec<u8>, ino: u32, g: GrantNo, mode: Mode) -> Result<(), A
 }
 
 fn put_place(out: &mut Vec<u8>, ino: u32, g: GrantNo, page: PageNo) -> Result<(), AllocError>
-    ensures { OnOk result (out.new.items ≡ out.old.items ++ (spells.word32 ino ++ spells.grant g ++ spells.word32 page.0)) }
+    ensures { OnOk result (out.new.items ≡ out.old.items ++ (field_spells.word32 ino ++ field_spells.grant g ++ field_spells.word32 page.0)) }
 {
     put_word32(out, ino)?;
     put_grant(out, g)?;
@@ -70,7 +72,7 @@ fn put_run(
     page: PageNo,
     count: u16,
 ) -> Result<(), AllocError>
-    ensures { OnOk result (out.new.items ≡ out.old.items ++ (spells.word32 ino ++ spells.grant g ++ spells.word32 page.0 ++ spells.word16 count)) }
+    ensures { OnOk result (out.new.items ≡ out.old.items ++ (field_spells.word32 ino ++ field_spells.grant g ++ field_spells.word32 page.0 ++ field_spells.word16 count)) }
 {
     put_word32(out, ino)?;
     put_grant(out, g)?;
@@ -80,7 +82,7 @@ fn put_run(
 }
 
 fn put_nack(out: &mut Vec<u8>, why: Why, a: u64, b: u64) -> Result<(), AllocError>
-    ensures { OnOk result (out.new.items ≡ out.old.items ++ (spells.byte (spells.why_number why) ++ spells.word64 a ++ spells.word64 b)) }
+    ensures { OnOk result (out.new.items ≡ out.old.items ++ (field_spells.byte (spells.why_number why) ++ field_spells.word64 a ++ field_spells.word64 b)) }
 {
     put_byte(out, why_number(why))?;
     put_word64(out, a)?;
@@ -90,7 +92,7 @@ fn put_nack(out: &mut Vec<u8>, why: Why, a: u64, b: u64) -> Result<(), AllocErro
 
 fn put_mapped(out: &mut Vec<u8>, ino: u32, rows: &ExtentRows) -> Result<(), AllocError>
     requires { fits.are_extents rows.now ≡ true }
-    ensures { OnOk result (out.new.items ≡ out.old.items ++ (spells.word32 ino ++ spells.rows spells.extent_row rows.now)) }
+    ensures { OnOk result (out.new.items ≡ out.old.items ++ (field_spells.word32 ino ++ field_spells.rows field_spells.extent_row rows.now)) }
 {
     put_word32(out, ino)?;
     put_extents(out, rows)?;
@@ -99,7 +101,7 @@ fn put_mapped(out: &mut Vec<u8>, ino: u32, rows: &ExtentRows) -> Result<(), Allo
 
 fn put_app(out: &mut Vec<u8>, op: u32, ask: &Ask) -> Result<(), AllocError>
     requires { fits.is_ask ask.now ≡ true }
-    ensures { OnOk result (out.new.items ≡ out.old.items ++ (spells.word32 op ++ spells.ask ask.now)) }
+    ensures { OnOk result (out.new.items ≡ out.old.items ++ (field_spells.word32 op ++ spells.ask ask.now)) }
 {
     put_word32(out, op)?;
     put_ask(out, ask)?;
@@ -108,7 +110,7 @@ fn put_app(out: &mut Vec<u8>, op: u32, ask: &Ask) -> Result<(), AllocError>
 
 fn put_app_done(out: &mut Vec<u8>, op: u32, answer: &AppAnswer) -> Result<(), AllocError>
     requires { fits.is_answer answer.now ≡ true }
-    ensures { OnOk result (out.new.items ≡ out.old.items ++ (spells.word32 op ++ spells.answer answer.now)) }
+    ensures { OnOk result (out.new.items ≡ out.old.items ++ (field_spells.word32 op ++ spells.answer answer.now)) }
 {
     put_word32(out, op)?;
     put_answer(out, answer)?;
@@ -116,7 +118,7 @@ fn put_app_done(out: &mut Vec<u8>, op: u32, answer: &AppAnswer) -> Result<(), Al
 }
 
 fn put_submit(out: &mut Vec<u8>, number: u64, at: BlockAt, what: &Command) -> Result<(), AllocError>
-    ensures { OnOk result (out.new.items ≡ out.old.items ++ (spells.word64 number ++ spells.block at ++ spells.command what.now)) }
+    ensures { OnOk result (out.new.items ≡ out.old.items ++ (field_spells.word64 number ++ field_spells.block at ++ spells.command what.now)) }
 {
     put_word64(out, number)?;
     put_block(out, at)?;
@@ -125,7 +127,7 @@ fn put_submit(out: &mut Vec<u8>, number: u64, at: BlockAt, what: &Command) -> Re
 }
 
 fn put_done(out: &mut Vec<u8>, number: u64, ending: &DiskResult) -> Result<(), AllocError>
-    ensures { OnOk result (out.new.items ≡ out.old.items ++ (spells.word64 number ++ spells.disk_result ending.now)) }
+    ensures { OnOk result (out.new.items ≡ out.old.items ++ (field_spells.word64 number ++ spells.disk_result ending.now)) }
 {
     put_word64(out, number)?;
     put_disk_result(out, ending)?;

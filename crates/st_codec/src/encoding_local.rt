@@ -1,16 +1,18 @@
 ghost use Rattle.std.specs.Prelude.{◌≡◌, ◌++◌, ◌≤◌, true, length, OnOk};
 ghost use Rattle.st_messages.specs.Fits as fits;
 ghost use Rattle.st_codec.specs.Spelling as spells;
+ghost use Rattle.st_codec_fields.specs.Spelling as field_spells;
 
-use crate::encoding_names::put_name_ask;
-use crate::row::{put_lost, put_names};
-use crate::spell::{put_byte, put_file, put_tag, put_word16, put_word32, put_word64};
 use st_base::{Command, FileId, PageBytes, PageNo, Tag};
+use st_codec_fields::{
+    put_byte, put_file, put_lost, put_name_ask, put_names, put_tag, put_word16, put_word32,
+    put_word64,
+};
 use st_messages::{AppAnswer, Ask, DiskResult, PatchBytes};
 use std::alloc::AllocError;
 
 fn put_ask_place(out: &mut Vec<u8>, ask: u8, file: FileId, page: PageNo) -> Result<(), AllocError>
-    ensures { OnOk result (out.new.items ≡ out.old.items ++ (spells.byte ask ++ spells.file file ++ spells.word32 page.0)) }
+    ensures { OnOk result (out.new.items ≡ out.old.items ++ (field_spells.byte ask ++ field_spells.file file ++ field_spells.word32 page.0)) }
 {
     put_byte(out, ask)?;
     put_file(out, file)?;
@@ -24,7 +26,7 @@ fn put_write(
     page: PageNo,
     bytes: &PageBytes,
 ) -> Result<(), AllocError>
-    ensures { OnOk result (out.new.items ≡ out.old.items ++ (spells.byte 1 ++ spells.file file ++ spells.word32 page.0 ++ bytes.now)) }
+    ensures { OnOk result (out.new.items ≡ out.old.items ++ (field_spells.byte 1 ++ field_spells.file file ++ field_spells.word32 page.0 ++ bytes.now)) }
 {
     put_ask_place(out, 1, file, page)?;
     bytes.put(out)?;
@@ -38,7 +40,7 @@ fn put_patch(
     at: u16,
     bytes: &PatchBytes,
 ) -> Result<(), AllocError>
-    ensures { OnOk result (out.new.items ≡ out.old.items ++ (spells.byte 6 ++ spells.patch file page at bytes.now)) }
+    ensures { OnOk result (out.new.items ≡ out.old.items ++ (field_spells.byte 6 ++ spells.patch file page at bytes.now)) }
 {
     put_ask_place(out, 6, file, page)?;
     put_word16(out, at)?;
@@ -47,7 +49,7 @@ fn put_patch(
 }
 
 fn put_patch_bytes(out: &mut Vec<u8>, bytes: &PatchBytes) -> Result<(), AllocError>
-    ensures { OnOk result (out.new.items ≡ out.old.items ++ (spells.word16 (length bytes.now) ++ bytes.now)) }
+    ensures { OnOk result (out.new.items ≡ out.old.items ++ (field_spells.word16 (length bytes.now) ++ bytes.now)) }
 {
     let piece = bytes.as_slice();
     put_word16(out, piece.len() as u16)?;
@@ -80,7 +82,7 @@ pub(crate) fn put_ask(out: &mut Vec<u8>, ask: &Ask) -> Result<(), AllocError>
 }
 
 fn put_two(out: &mut Vec<u8>, tag: u8, a: u64, b: u64) -> Result<(), AllocError>
-    ensures { OnOk result (out.new.items ≡ out.old.items ++ (spells.byte tag ++ spells.word64 a ++ spells.word64 b)) }
+    ensures { OnOk result (out.new.items ≡ out.old.items ++ (field_spells.byte tag ++ field_spells.word64 a ++ field_spells.word64 b)) }
 {
     put_byte(out, tag)?;
     put_word64(out, a)?;
@@ -139,7 +141,7 @@ pub(crate) fn put_answer(out: &mut Vec<u8>, answer: &AppAnswer) -> Result<(), Al
 }
 
 fn put_tagged(out: &mut Vec<u8>, kind: u8, tag: Tag, bytes: &PageBytes) -> Result<(), AllocError>
-    ensures { OnOk result (out.new.items ≡ out.old.items ++ (spells.byte kind ++ spells.tag tag ++ bytes.now)) }
+    ensures { OnOk result (out.new.items ≡ out.old.items ++ (field_spells.byte kind ++ field_spells.tag tag ++ bytes.now)) }
 {
     put_byte(out, kind)?;
     put_tag(out, tag)?;

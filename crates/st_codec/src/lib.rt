@@ -3,18 +3,12 @@
 
 mod decoding;
 mod decoding_local;
-mod decoding_names;
 mod encoding;
 mod encoding_local;
-mod encoding_names;
-mod fault;
-mod field;
 mod frames;
 mod kind_bytes;
 mod law;
 mod refusal;
-mod row;
-mod spell;
 
 pub use decoding::decode;
 pub use encoding::encode;

@@ -1,3 +1,7 @@
+ghost use Rattle.std.specs.Prelude.{◌≡◌};
+ghost use Rattle.st_codec.specs.Reading as reading;
+
+use st_codec_fields::Fault;
 use thiserror::Error;
 
 /// Why bytes are not a message. `docs/PROTOCOL.md`, "Wire", says which refusal is returned.
@@ -24,4 +28,17 @@ pub enum CodecRefusal {
     /// Reading ran out of memory for the lists of the message.
     #[error("out of memory")]
     Memory,
+}
+
+/// Returns the fault as a refusal of a message of `len` bytes.
+pub(crate) fn refusal_of(len: usize, fault: Fault) -> CodecRefusal
+    ensures { result ≡ reading.refusal_of len fault }
+{
+    match fault {
+        Fault::Short => CodecRefusal::Short,
+        Fault::Long => CodecRefusal::Long,
+        Fault::Kind => CodecRefusal::Kind,
+        Fault::Value(left) => CodecRefusal::Value(len.saturating_sub(left) as u64),
+        Fault::Version => CodecRefusal::Version,
+    }
 }

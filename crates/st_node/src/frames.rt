@@ -9,7 +9,7 @@ use st_messages::Message;
 use std::alloc::AllocError;
 
 /// Appends a message as a frame: its length in four bytes, and its bytes.
-#[tactic(auto, unfolding(st_codec::specs::Spelling::word32))]
+#[tactic(auto, unfolding(st_codec_fields::specs::Spelling::word32))]
 pub(crate) fn put_frame(out: &mut Vec<u8>, message: &Message) -> Result<(), AllocError>
     requires { fits message.now ≡ true }
     ensures { OnOk result (out.new.items ≡ out.old.items ++ message_frame message.now) }

@@ -1,5 +1,5 @@
 ghost use Rattle.std.specs.Prelude.{◌≡◌};
-ghost use Rattle.st_codec.specs.Reading as reading;
+ghost use Rattle.st_codec_fields.specs.Reading as reading;
 
 use crate::fault::{Fault, ReadError};
 use crate::field::{read_byte, read_byte_in, read_grant, read_ino, read_name, read_word32};
@@ -75,8 +75,9 @@ fn read_op_numbered(
     }
 }
 
+/// Reads an operation on names from the front of the bytes. Returns it and the bytes behind it, or the first fault.
 #[tactic(auto, unfolding(crate::specs::Reading::name_op_at))]
-pub(crate) fn read_name_op(alloc: Global, bytes: &[u8]) -> Result<(NameOp, &[u8]), ReadError>
+pub fn read_name_op(alloc: Global, bytes: &[u8]) -> Result<(NameOp, &[u8]), ReadError>
     ensures { reading.Gives (λ x. (x.0, x.1.now)) result (reading.name_op_at bytes.now) }
 {
     let (number, rest) = read_byte(bytes)?;
@@ -140,8 +141,9 @@ fn read_ask_numbered(
     }
 }
 
+/// Reads an ask on names from the front of the bytes. Returns it and the bytes behind it, or the first fault.
 #[tactic(auto, unfolding(crate::specs::Reading::name_ask_at))]
-pub(crate) fn read_name_ask(alloc: Global, bytes: &[u8]) -> Result<(NameAsk, &[u8]), ReadError>
+pub fn read_name_ask(alloc: Global, bytes: &[u8]) -> Result<(NameAsk, &[u8]), ReadError>
     ensures { reading.Gives (λ x. (x.0, x.1.now)) result (reading.name_ask_at bytes.now) }
 {
     let (number, rest) = read_byte(bytes)?;
@@ -174,8 +176,9 @@ fn read_reply_numbered(
     }
 }
 
+/// Reads the reply to an operation on names from the front of the bytes. Returns it and the bytes behind it, or the first fault.
 #[tactic(auto, unfolding(crate::specs::Reading::name_reply_at))]
-pub(crate) fn read_name_reply(alloc: Global, bytes: &[u8]) -> Result<(NameReply, &[u8]), ReadError>
+pub fn read_name_reply(alloc: Global, bytes: &[u8]) -> Result<(NameReply, &[u8]), ReadError>
     ensures { reading.Gives (λ x. (x.0, x.1.now)) result (reading.name_reply_at bytes.now) }
 {
     let (number, rest) = read_byte(bytes)?;

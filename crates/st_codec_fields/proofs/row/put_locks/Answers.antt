@@ -1,6 +1,6 @@
 use Rattle.st_messages.specs.Fits.{are_locks, is_lock_row, after_lock}
-use Rattle.st_codec.proofs.Rows.{both_true, each_fits}
-use Rattle.st_codec.proofs.row.put_locks.Goals as goal
+use Rattle.st_codec_fields.proofs.Rows.{both_true, each_fits}
+use Rattle.st_codec_fields.proofs.row.put_locks.Goals as goal
 
 pub put_rows-requires-clause-each : goal.put_rows-requires-clause-each
 unfolding are_locks

@@ -1,6 +1,6 @@
 use Rattle.st_messages.specs.Fits.{are_lost, is_lost_row, after_lost}
-use Rattle.st_codec.proofs.Rows.{both_true, each_fits}
-use Rattle.st_codec.proofs.row.put_lost.Goals as goal
+use Rattle.st_codec_fields.proofs.Rows.{both_true, each_fits}
+use Rattle.st_codec_fields.proofs.row.put_lost.Goals as goal
 
 pub put_rows-requires-clause-each : goal.put_rows-requires-clause-each
 unfolding are_lost

@@ -1,7 +1,7 @@
 use Rattle.std.proofs.lemmas.Result.{err_from_is_err_and}
-use Rattle.st_codec.specs.Reading.{rows_at}
-use Rattle.st_codec.proofs.Loop.{goes_on, ends, is_done}
-use Rattle.st_codec.proofs.row.read_rows.Goals as goal
+use Rattle.st_codec_fields.specs.Reading.{rows_at}
+use Rattle.st_codec_fields.proofs.Loop.{goes_on, ends, is_done}
+use Rattle.st_codec_fields.proofs.row.read_rows.Goals as goal
 
 pub returns-in_err-row : goal.returns-in_err-row
 returns-in_err-row g c =

@@ -1,6 +1,6 @@
 ghost use Rattle.std.specs.Prelude.{◌≡◌, ◌++◌, ◌≤◌, true, length, OnOk};
 ghost use Rattle.st_messages.specs.Fits as fits;
-ghost use Rattle.st_codec.specs.Spelling as spells;
+ghost use Rattle.st_codec_fields.specs.Spelling as spells;
 
 use crate::row::put_names;
 use crate::spell::{put_byte, put_grant, put_name, put_word32};
@@ -53,8 +53,9 @@ fn put_rename(
     Ok(())
 }
 
+/// Appends an operation on names.
 #[tactic(auto, unfolding(crate::specs::Spelling::name_op, st_messages::specs::Fits::is_name_op))]
-pub(crate) fn put_name_op(out: &mut Vec<u8>, op: &NameOp) -> Result<(), AllocError>
+pub fn put_name_op(out: &mut Vec<u8>, op: &NameOp) -> Result<(), AllocError>
     requires { fits.is_name_op op.now ≡ true }
     ensures { OnOk result (out.new.items ≡ out.old.items ++ spells.name_op op.now) }
 {
@@ -73,8 +74,9 @@ pub(crate) fn put_name_op(out: &mut Vec<u8>, op: &NameOp) -> Result<(), AllocErr
     }
 }
 
+/// Appends an ask on names.
 #[tactic(auto, unfolding(crate::specs::Spelling::name_ask, st_messages::specs::Fits::is_name_ask))]
-pub(crate) fn put_name_ask(out: &mut Vec<u8>, ask: &NameAsk) -> Result<(), AllocError>
+pub fn put_name_ask(out: &mut Vec<u8>, ask: &NameAsk) -> Result<(), AllocError>
     requires { fits.is_name_ask ask.now ≡ true }
     ensures { OnOk result (out.new.items ≡ out.old.items ++ spells.name_ask ask.now) }
 {
@@ -93,8 +95,9 @@ pub(crate) fn put_name_ask(out: &mut Vec<u8>, ask: &NameAsk) -> Result<(), Alloc
     }
 }
 
+/// Appends the reply to an operation on names.
 #[tactic(auto, unfolding(crate::specs::Spelling::name_reply, st_messages::specs::Fits::is_name_reply))]
-pub(crate) fn put_name_reply(out: &mut Vec<u8>, reply: &NameReply) -> Result<(), AllocError>
+pub fn put_name_reply(out: &mut Vec<u8>, reply: &NameReply) -> Result<(), AllocError>
     requires { fits.is_name_reply reply.now ≡ true }
     ensures { OnOk result (out.new.items ≡ out.old.items ++ spells.name_reply reply.now) }
 {

@@ -1,43 +1,49 @@
 ghost use Rattle.std.specs.Prelude.{◌≡◌, ◌++◌, ◌≤◌, ◌<◌, ◌^◌, OnOk, length};
-ghost use Rattle.st_codec.specs.Spelling as spells;
+ghost use Rattle.st_codec_fields.specs.Spelling as spells;
 
 use st_base::{BlockAt, FileId, GrantNo, Mode, Name, Tag};
 use std::alloc::AllocError;
 
+/// Appends a number of two bytes.
 #[tactic(auto, unfolding(crate::specs::Spelling::word16))]
-pub(crate) fn put_word16(out: &mut Vec<u8>, number: u16) -> Result<(), AllocError>
+pub fn put_word16(out: &mut Vec<u8>, number: u16) -> Result<(), AllocError>
     ensures { OnOk result (out.new.items ≡ out.old.items ++ spells.word16 number) }
 {
     out.extend_from_slice(&number.to_be_bytes())
 }
 
+/// Appends a number of four bytes.
 #[tactic(auto, unfolding(crate::specs::Spelling::word32))]
-pub(crate) fn put_word32(out: &mut Vec<u8>, number: u32) -> Result<(), AllocError>
+pub fn put_word32(out: &mut Vec<u8>, number: u32) -> Result<(), AllocError>
     ensures { OnOk result (out.new.items ≡ out.old.items ++ spells.word32 number) }
 {
     out.extend_from_slice(&number.to_be_bytes())
 }
 
+/// Appends a number of eight bytes.
 #[tactic(auto, unfolding(crate::specs::Spelling::word64))]
-pub(crate) fn put_word64(out: &mut Vec<u8>, number: u64) -> Result<(), AllocError>
+pub fn put_word64(out: &mut Vec<u8>, number: u64) -> Result<(), AllocError>
     ensures { OnOk result (out.new.items ≡ out.old.items ++ spells.word64 number) }
 {
     out.extend_from_slice(&number.to_be_bytes())
 }
 
-pub(crate) fn put_byte(out: &mut Vec<u8>, byte: u8) -> Result<(), AllocError>
+/// Appends a byte.
+pub fn put_byte(out: &mut Vec<u8>, byte: u8) -> Result<(), AllocError>
     ensures { OnOk result (out.new.items ≡ out.old.items ++ spells.byte byte) }
 {
     Ok(out.push(byte)?)
 }
 
-pub(crate) fn put_grant(out: &mut Vec<u8>, g: GrantNo) -> Result<(), AllocError>
+/// Appends a grant's number.
+pub fn put_grant(out: &mut Vec<u8>, g: GrantNo) -> Result<(), AllocError>
     ensures { OnOk result (out.new.items ≡ out.old.items ++ spells.grant g) }
 {
     put_word64(out, g.0)
 }
 
-pub(crate) fn put_mode(out: &mut Vec<u8>, mode: Mode) -> Result<(), AllocError>
+/// Appends a mode in this range.
+pub fn put_mode(out: &mut Vec<u8>, mode: Mode) -> Result<(), AllocError>
     ensures { OnOk result (out.new.items ≡ out.old.items ++ spells.mode mode) }
 {
     put_byte(out, mode.number())
@@ -52,24 +58,27 @@ pub(crate) fn put_name(out: &mut Vec<u8>, name: &Name) -> Result<(), AllocError>
     out.extend_from_slice(name.as_slice())
 }
 
+/// Appends a file.
 #[tactic(auto, unfolding(crate::specs::Spelling::file))]
-pub(crate) fn put_file(out: &mut Vec<u8>, file: FileId) -> Result<(), AllocError>
+pub fn put_file(out: &mut Vec<u8>, file: FileId) -> Result<(), AllocError>
     ensures { OnOk result (out.new.items ≡ out.old.items ++ spells.file file) }
 {
     put_word16(out, file.server.0)?;
     put_word32(out, file.ino)
 }
 
+/// Appends a block.
 #[tactic(auto, unfolding(crate::specs::Spelling::block))]
-pub(crate) fn put_block(out: &mut Vec<u8>, at: BlockAt) -> Result<(), AllocError>
+pub fn put_block(out: &mut Vec<u8>, at: BlockAt) -> Result<(), AllocError>
     ensures { OnOk result (out.new.items ≡ out.old.items ++ spells.block at) }
 {
     put_word16(out, at.disk.0)?;
     put_word32(out, at.block)
 }
 
+/// Appends a tag.
 #[tactic(auto, unfolding(crate::specs::Spelling::tag))]
-pub(crate) fn put_tag(out: &mut Vec<u8>, tag: Tag) -> Result<(), AllocError>
+pub fn put_tag(out: &mut Vec<u8>, tag: Tag) -> Result<(), AllocError>
     ensures { OnOk result (out.new.items ≡ out.old.items ++ spells.tag tag) }
 {
     put_file(out, tag.file)?;

@@ -1,5 +1,5 @@
 ghost use Rattle.std.specs.Prelude.{◌≡◌, ◌≤◌, IfOk, length};
-ghost use Rattle.st_codec.specs.Reading as reading;
+ghost use Rattle.st_codec_fields.specs.Reading as reading;
 
 use crate::fault::{Fault, ReadError};
 use st_base::{BlockAt, DiskId, FileId, GrantNo, Mode, Name, PageBytes, PageNo, ServerId, Tag};
@@ -8,13 +8,14 @@ use st_messages::range::within;
 use std::alloc::Global;
 
 /// Returns the fault of a field that begins where these bytes begin.
-pub(crate) fn out_of_range(bytes: &[u8]) -> ReadError
+pub fn out_of_range(bytes: &[u8]) -> ReadError
     ensures { result ≡ reading.out_of_range bytes.now }
 {
     ReadError::Fault(Fault::Value(bytes.len()))
 }
 
-pub(crate) fn read_byte(bytes: &[u8]) -> Result<(u8, &[u8]), ReadError>
+/// Reads a byte from the front of the bytes. Returns it and the bytes behind it, or the first fault.
+pub fn read_byte(bytes: &[u8]) -> Result<(u8, &[u8]), ReadError>
     ensures { reading.Gives (λ x. (x.0, x.1.now)) result (reading.byte_at bytes.now) }
 {
     match bytes {
@@ -23,8 +24,9 @@ pub(crate) fn read_byte(bytes: &[u8]) -> Result<(u8, &[u8]), ReadError>
     }
 }
 
+/// Reads a number of two bytes from the front of the bytes. Returns it and the bytes behind it, or the first fault.
 #[tactic(auto, unfolding(crate::specs::Reading::word16_at))]
-pub(crate) fn read_word16(bytes: &[u8]) -> Result<(u16, &[u8]), ReadError>
+pub fn read_word16(bytes: &[u8]) -> Result<(u16, &[u8]), ReadError>
     ensures { reading.Gives (λ x. (x.0, x.1.now)) result (reading.word16_at bytes.now) }
 {
     if bytes.len() < 2 {
@@ -35,8 +37,9 @@ pub(crate) fn read_word16(bytes: &[u8]) -> Result<(u16, &[u8]), ReadError>
     Ok((number, rest))
 }
 
+/// Reads a number of four bytes from the front of the bytes. Returns it and the bytes behind it, or the first fault.
 #[tactic(auto, unfolding(crate::specs::Reading::word32_at))]
-pub(crate) fn read_word32(bytes: &[u8]) -> Result<(u32, &[u8]), ReadError>
+pub fn read_word32(bytes: &[u8]) -> Result<(u32, &[u8]), ReadError>
     ensures { reading.Gives (λ x. (x.0, x.1.now)) result (reading.word32_at bytes.now) }
 {
     if bytes.len() < 4 {
@@ -47,8 +50,9 @@ pub(crate) fn read_word32(bytes: &[u8]) -> Result<(u32, &[u8]), ReadError>
     Ok((number, rest))
 }
 
+/// Reads a number of eight bytes from the front of the bytes. Returns it and the bytes behind it, or the first fault.
 #[tactic(auto, unfolding(crate::specs::Reading::word64_at))]
-pub(crate) fn read_word64(bytes: &[u8]) -> Result<(u64, &[u8]), ReadError>
+pub fn read_word64(bytes: &[u8]) -> Result<(u64, &[u8]), ReadError>
     ensures { reading.Gives (λ x. (x.0, x.1.now)) result (reading.word64_at bytes.now) }
 {
     if bytes.len() < 8 {
@@ -73,8 +77,9 @@ pub(crate) fn read_byte_in(least: u64, most: u64, bytes: &[u8]) -> Result<(u8, &
     Ok((number, rest))
 }
 
+/// Reads a number of two bytes in this range from the front of the bytes. Returns it and the bytes behind it, or the first fault.
 #[tactic(auto, unfolding(crate::specs::Reading::word16_in))]
-pub(crate) fn read_word16_in(least: u64, most: u64, bytes: &[u8]) -> Result<(u16, &[u8]), ReadError>
+pub fn read_word16_in(least: u64, most: u64, bytes: &[u8]) -> Result<(u16, &[u8]), ReadError>
     ensures number { reading.Gives (λ x. (x.0, x.1.now)) result (reading.word16_in least most bytes.now) }
     ensures least { IfOk result (λ x. least ≤ x.0) }
     ensures most { IfOk result (λ x. x.0 ≤ most) }
@@ -97,14 +102,16 @@ pub(crate) fn read_word32_in(least: u64, most: u64, bytes: &[u8]) -> Result<(u32
     Ok((number, rest))
 }
 
-pub(crate) fn read_ino(bytes: &[u8]) -> Result<(u32, &[u8]), ReadError>
+/// Reads an inode above 0 from the front of the bytes. Returns it and the bytes behind it, or the first fault.
+pub fn read_ino(bytes: &[u8]) -> Result<(u32, &[u8]), ReadError>
     ensures { reading.Gives (λ x. (x.0, x.1.now)) result (reading.ino_at bytes.now) }
 {
     read_word32_in(1, 4_294_967_295, bytes)
 }
 
+/// Reads a grant's number from the front of the bytes. Returns it and the bytes behind it, or the first fault.
 #[tactic(auto, unfolding(crate::specs::Reading::grant_at))]
-pub(crate) fn read_grant(bytes: &[u8]) -> Result<(GrantNo, &[u8]), ReadError>
+pub fn read_grant(bytes: &[u8]) -> Result<(GrantNo, &[u8]), ReadError>
     ensures { reading.Gives (λ x. (x.0, x.1.now)) result (reading.grant_at bytes.now) }
 {
     let (number, rest) = read_word64(bytes)?;
@@ -113,7 +120,7 @@ pub(crate) fn read_grant(bytes: &[u8]) -> Result<(GrantNo, &[u8]), ReadError>
 
 /// Reads a page number that is at least `least`.
 #[tactic(auto, unfolding(crate::specs::Reading::page_at))]
-pub(crate) fn read_page(least: u64, bytes: &[u8]) -> Result<(PageNo, &[u8]), ReadError>
+pub fn read_page(least: u64, bytes: &[u8]) -> Result<(PageNo, &[u8]), ReadError>
     ensures { reading.Gives (λ x. (x.0, x.1.now)) result (reading.page_at least bytes.now) }
 {
     let (number, rest) = read_word32_in(least, 1_048_575, bytes)?;
@@ -130,8 +137,9 @@ fn mode_numbered(number: u8) -> Mode
     }
 }
 
+/// Reads a mode in this range from the front of the bytes. Returns it and the bytes behind it, or the first fault.
 #[tactic(auto, unfolding(crate::specs::Reading::mode_at))]
-pub(crate) fn read_mode(least: u64, most: u64, bytes: &[u8]) -> Result<(Mode, &[u8]), ReadError>
+pub fn read_mode(least: u64, most: u64, bytes: &[u8]) -> Result<(Mode, &[u8]), ReadError>
     ensures { reading.Gives (λ x. (x.0, x.1.now)) result (reading.mode_at least most bytes.now) }
 {
     let (number, rest) = read_byte_in(least, most, bytes)?;
@@ -162,8 +170,9 @@ pub(crate) fn read_name(
     Ok((Name::from_slice(alloc, text)?, rest))
 }
 
+/// Reads the bytes of a page from the front of the bytes. Returns it and the bytes behind it, or the first fault.
 #[tactic(auto, unfolding(crate::specs::Reading::whole_page_at))]
-pub(crate) fn read_whole_page(alloc: Global, bytes: &[u8]) -> Result<(PageBytes, &[u8]), ReadError>
+pub fn read_whole_page(alloc: Global, bytes: &[u8]) -> Result<(PageBytes, &[u8]), ReadError>
     ensures { reading.Gives (λ x. (x.0, x.1.now)) result (reading.whole_page_at bytes.now) }
 {
     let (text, rest) = read_text(4096, bytes)?;
@@ -171,8 +180,9 @@ pub(crate) fn read_whole_page(alloc: Global, bytes: &[u8]) -> Result<(PageBytes,
     Ok((page, rest))
 }
 
+/// Reads the bytes of a patch that begins at this byte of its page from the front of the bytes. Returns it and the bytes behind it, or the first fault.
 #[tactic(auto, unfolding(crate::specs::Reading::patch_bytes_at))]
-pub(crate) fn read_patch_bytes(
+pub fn read_patch_bytes(
     alloc: Global,
     at: u16,
     bytes: &[u8],
@@ -185,8 +195,9 @@ pub(crate) fn read_patch_bytes(
     Ok((PatchBytes::from_vec(Vec::from_slice(alloc, text)?), rest))
 }
 
+/// Reads a file from the front of the bytes. Returns it and the bytes behind it, or the first fault.
 #[tactic(auto, unfolding(crate::specs::Reading::file_at))]
-pub(crate) fn read_file(least: u64, bytes: &[u8]) -> Result<(FileId, &[u8]), ReadError>
+pub fn read_file(least: u64, bytes: &[u8]) -> Result<(FileId, &[u8]), ReadError>
     ensures { reading.Gives (λ x. (x.0, x.1.now)) result (reading.file_at least bytes.now) }
 {
     let (server, rest) = read_word16_in(least, 65_535, bytes)?;
@@ -205,8 +216,9 @@ pub(crate) fn read_block(bytes: &[u8]) -> Result<(BlockAt, &[u8]), ReadError>
     Ok((BlockAt { disk, block }, rest))
 }
 
+/// Reads a block of any numbers from the front of the bytes. Returns it and the bytes behind it, or the first fault.
 #[tactic(auto, unfolding(crate::specs::Reading::any_block_at))]
-pub(crate) fn read_any_block(bytes: &[u8]) -> Result<(BlockAt, &[u8]), ReadError>
+pub fn read_any_block(bytes: &[u8]) -> Result<(BlockAt, &[u8]), ReadError>
     ensures { reading.Gives (λ x. (x.0, x.1.now)) result (reading.any_block_at bytes.now) }
 {
     let (disk, rest) = read_word16(bytes)?;
@@ -215,8 +227,9 @@ pub(crate) fn read_any_block(bytes: &[u8]) -> Result<(BlockAt, &[u8]), ReadError
     Ok((BlockAt { disk, block }, rest))
 }
 
+/// Reads a tag from the front of the bytes. Returns it and the bytes behind it, or the first fault.
 #[tactic(auto, unfolding(crate::specs::Reading::tag_at))]
-pub(crate) fn read_tag(least: u64, bytes: &[u8]) -> Result<(Tag, &[u8]), ReadError>
+pub fn read_tag(least: u64, bytes: &[u8]) -> Result<(Tag, &[u8]), ReadError>
     ensures { reading.Gives (λ x. (x.0, x.1.now)) result (reading.tag_at least bytes.now) }
 {
     let (file, rest) = read_file(least, bytes)?;

@@ -1,8 +1,8 @@
 ghost use Rattle.std.specs.Prelude.{◌≡◌, ◌++◌, ◌∷◌, ◌≤◌, ℕ, true, List, OnOk, Result, length, All};
 ghost use Rattle.st_messages.specs.Fits as fits;
-ghost use Rattle.st_codec.specs.Reading as reading;
-ghost use Rattle.st_codec.specs.Spelling as spells;
-ghost use Rattle.st_codec.specs.declared.fault.Fault.{Fault};
+ghost use Rattle.st_codec_fields.specs.Reading as reading;
+ghost use Rattle.st_codec_fields.specs.Spelling as spells;
+ghost use Rattle.st_codec_fields.specs.declared.fault.Fault.{Fault};
 
 use crate::fault::ReadError;
 use crate::field::{
@@ -142,32 +142,36 @@ pub(crate) fn put_rows<T: RowBytes>(out: &mut Vec<u8>, rows: &Rows<T>) -> Result
     Ok(())
 }
 
+/// Appends the rows of locks, at most 1,024.
 #[tactic(auto, unfolding(st_messages::specs::Fits::are_locks))]
-pub(crate) fn put_locks(out: &mut Vec<u8>, rows: &LockRows) -> Result<(), AllocError>
+pub fn put_locks(out: &mut Vec<u8>, rows: &LockRows) -> Result<(), AllocError>
     requires { fits.are_locks rows.now ≡ true }
     ensures { OnOk result (out.new.items ≡ out.old.items ++ spells.rows spells.lock_row rows.now) }
 {
     put_rows(out, rows)
 }
 
+/// Appends the rows of extents, at most 64.
 #[tactic(auto, unfolding(st_messages::specs::Fits::are_extents))]
-pub(crate) fn put_extents(out: &mut Vec<u8>, rows: &ExtentRows) -> Result<(), AllocError>
+pub fn put_extents(out: &mut Vec<u8>, rows: &ExtentRows) -> Result<(), AllocError>
     requires { fits.are_extents rows.now ≡ true }
     ensures { OnOk result (out.new.items ≡ out.old.items ++ spells.rows spells.extent_row rows.now) }
 {
     put_rows(out, rows)
 }
 
+/// Appends the rows of lost pages, 1 to 1,024.
 #[tactic(auto, unfolding(st_messages::specs::Fits::are_lost))]
-pub(crate) fn put_lost(out: &mut Vec<u8>, rows: &LostRows) -> Result<(), AllocError>
+pub fn put_lost(out: &mut Vec<u8>, rows: &LostRows) -> Result<(), AllocError>
     requires { fits.are_lost rows.now ≡ true }
     ensures { OnOk result (out.new.items ≡ out.old.items ++ spells.rows spells.lost_row rows.now) }
 {
     put_rows(out, rows)
 }
 
+/// Appends the rows of names, at most 256.
 #[tactic(auto, unfolding(st_messages::specs::Fits::are_names))]
-pub(crate) fn put_names(out: &mut Vec<u8>, rows: &NameRows) -> Result<(), AllocError>
+pub fn put_names(out: &mut Vec<u8>, rows: &NameRows) -> Result<(), AllocError>
     requires { fits.are_names rows.now ≡ true }
     ensures { OnOk result (out.new.items ≡ out.old.items ++ spells.rows spells.name_row rows.now) }
 {
@@ -203,32 +207,36 @@ fn read_rows<T: RowBytes + Drop>(
     Ok((Rows::from_vec(rows), rest))
 }
 
+/// Reads the rows of locks, at most 1,024 from the front of the bytes. Returns it and the bytes behind it, or the first fault.
 #[tactic(auto, unfolding(crate::specs::Reading::locks_at))]
-pub(crate) fn read_locks(alloc: Global, bytes: &[u8]) -> Result<(LockRows, &[u8]), ReadError>
+pub fn read_locks(alloc: Global, bytes: &[u8]) -> Result<(LockRows, &[u8]), ReadError>
     ensures { reading.Gives (λ x. (x.0, x.1.now)) result (reading.locks_at bytes.now) }
 {
     let (count, rest) = read_word16_in(0, 1_024, bytes)?;
     read_rows(alloc, count, 1, rest)
 }
 
+/// Reads the rows of extents, at most 64 from the front of the bytes. Returns it and the bytes behind it, or the first fault.
 #[tactic(auto, unfolding(crate::specs::Reading::extents_at))]
-pub(crate) fn read_extents(alloc: Global, bytes: &[u8]) -> Result<(ExtentRows, &[u8]), ReadError>
+pub fn read_extents(alloc: Global, bytes: &[u8]) -> Result<(ExtentRows, &[u8]), ReadError>
     ensures { reading.Gives (λ x. (x.0, x.1.now)) result (reading.extents_at bytes.now) }
 {
     let (count, rest) = read_word16_in(0, 64, bytes)?;
     read_rows(alloc, count, 0, rest)
 }
 
+/// Reads the rows of lost pages, 1 to 1,024 from the front of the bytes. Returns it and the bytes behind it, or the first fault.
 #[tactic(auto, unfolding(crate::specs::Reading::lost_at))]
-pub(crate) fn read_lost(alloc: Global, bytes: &[u8]) -> Result<(LostRows, &[u8]), ReadError>
+pub fn read_lost(alloc: Global, bytes: &[u8]) -> Result<(LostRows, &[u8]), ReadError>
     ensures { reading.Gives (λ x. (x.0, x.1.now)) result (reading.lost_at bytes.now) }
 {
     let (count, rest) = read_word16_in(1, 1_024, bytes)?;
     read_rows(alloc, count, 0, rest)
 }
 
+/// Reads the rows of names, at most 256 from the front of the bytes. Returns it and the bytes behind it, or the first fault.
 #[tactic(auto, unfolding(crate::specs::Reading::names_at))]
-pub(crate) fn read_names(alloc: Global, bytes: &[u8]) -> Result<(NameRows, &[u8]), ReadError>
+pub fn read_names(alloc: Global, bytes: &[u8]) -> Result<(NameRows, &[u8]), ReadError>
     ensures { reading.Gives (λ x. (x.0, x.1.now)) result (reading.names_at bytes.now) }
 {
     let (count, rest) = read_word16_in(0, 256, bytes)?;
