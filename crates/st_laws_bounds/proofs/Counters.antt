@@ -14,3 +14,4 @@ pub mod Stepping
 pub mod Tallies
 pub mod Thefts
 pub mod Weights
+pub mod Within

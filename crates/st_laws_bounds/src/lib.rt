@@ -2,7 +2,7 @@
 #![tactic(auto)]
 
 ghost use Rattle.st_laws_bounds.specs.Counters.Counts.{ClientsFew, LocksFew, ReadsFew, ServersFew, TheftsFew};
-ghost use Rattle.st_laws_bounds.specs.Counters.Raised.{FreshClientsBegin, StepsRaiseLittle};
+ghost use Rattle.st_laws_bounds.specs.Counters.Raised.{ClientsWithin, FreshClientsBegin, StepsRaiseLittle};
 ghost use Rattle.st_laws_bounds.specs.Counters.Reached.{InEveryReached};
 ghost use Rattle.st_laws_bounds.specs.FewMessages.Few.{EventsHaveLines, RunsAreFew};
 ghost use Rattle.st_laws_bounds.specs.Generated.ReadBack.{HeadIsRead, TextIsRead, TextIsReplayed, TextIsReported};
@@ -44,6 +44,11 @@ pub fn thefts_are_few()
 pub fn client_steps_raise_little()
     ensures steps { StepsRaiseLittle }
     ensures fresh { FreshClientsBegin }
+{}
+
+/// In every reached world the counters of each client are within 1 and 2^15 for each event.
+pub fn clients_stay_within()
+    ensures { InEveryReached ClientsWithin }
 {}
 
 /// The run of a generated schedule of at most 100,000 events sends at most 4,294,967,295 messages and submits at most as many commands.

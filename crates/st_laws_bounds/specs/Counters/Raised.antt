@@ -1,11 +1,12 @@
 -- How far the counters of a client may rise in a step, in whatever world it is.
-use Rattle.std.specs.Prelude.{◌≤◌, ◌+◌, ◌^◌, ℕ, length}
+use Rattle.std.specs.Prelude.{◌≡◌, ◌≤◌, ◌+◌, ◌*◌, ◌^◌, ℕ, length, Some}
 use Rattle.st_base.specs.declared.config.Config.{Config}
 use Rattle.st_base.specs.declared.ids.ClientId.{ClientId}
 use Rattle.st_base.specs.declared.ids.Stamp.{Stamp}
 use Rattle.st_rules.specs.declared.client.ClientInput.{ClientInput}
 use Rattle.st_rules.specs.Client.{client_step, fresh_client}
 use Rattle.st_rules.specs.ClientState.{Association, ClientState}
+use Rattle.st_rules.specs.World.{World, ClientSite, site_of}
 use Rattle.st_lemmas.specs.Lists.{Has}
 use Rattle.st_laws_bounds.specs.Counters.Counts.{AsksLow}
 
@@ -30,3 +31,7 @@ StepsRaiseLittle = (s : ClientState) (now : Stamp) (input : ClientInput) (most :
 -- The counters of a fresh client are 1.
 abbrev pub FreshClientsBegin : Type 0
 FreshClientsBegin = (id : ClientId) (config : Config) (servers : ℕ) → servers ≤ 4 → IsWithin 1 (fresh_client id config servers)
+
+-- Each client's counters are within 2^15 for each event.
+abbrev pub ClientsWithin : World → Type 0
+ClientsWithin w = (c : ClientId) (site : ClientSite) → site_of w c ≡ Some site → IsWithin (1 + 32768 * w.tally.events) site.node.state
