@@ -8,7 +8,7 @@ use Rattle.st_base.specs.declared.ids.ClientId.{ClientId}
 use Rattle.st_base.specs.declared.ids.GrantNo.{GrantNo}
 use Rattle.st_base.specs.declared.ids.Life.{Life}
 use Rattle.st_base.specs.declared.ids.Stamp.{Stamp}
-use Rattle.st_locks.specs.Calls.{demanding}
+use Rattle.st_lock_tables.specs.Calls.{demanding}
 use Rattle.st_base.specs.declared.config.Config.{Config}
 use Rattle.st_base.specs.declared.mode.Mode.{Mode}
 use Rattle.st_base.specs.Mode.{conflicts, number_of}
@@ -18,8 +18,9 @@ use Rattle.st_rules.specs.declared.locks.Waiter.{Waiter}
 use Rattle.st_rules.specs.Keys.{client, rising, same_client}
 use Rattle.st_rules.specs.Locks.{Locks, Demanding, client_of_row, demand_again, demand_clients, demand_files, demand_for, demand_lower, demand_now, demand_of, demand_row, demand_with, demanded, demands_due, first_demand, grantable, ino_of_wait, is_among, is_below, is_row_of, is_row_on, is_wait_on, next_waiter, nothing_demanded, row_of, sent_again, stands_against, to_demand, waited_files, wish, with_demand}
 use Rattle.st_tables.proofs.RisingKeys.{has, has_rising, any_map_filter}
-use Rattle.st_locks.specs.Settled.{AreDemanded, AreTimed, EachInWay, IsQuiet, KeepsAll, Moments, Times, TimesRows, is_by, is_one_of, is_in_way, is_kept, is_low, is_old, is_timed}
-use Rattle.st_locks.proofs.Overdue.{some_one}
+use Rattle.st_lock_tables.specs.Waited.{is_one_of, to_demand_for, to_demand_on}
+use Rattle.st_locks.specs.Settled.{AreDemanded, AreTimed, EachInWay, IsQuiet, KeepsAll, Moments, Times, TimesRows, is_by, is_in_way, is_kept, is_low, is_old, is_timed}
+use Rattle.st_lock_tables.proofs.Overdue.{some_one}
 use Rattle.st_locks.proofs.Settled.{SameOn, any_mapped, each_same, found_passes, map_apart, none_found, other_file, same_itself, same_over}
 
 eq_turn : (a b : ℕ) → (a == b) ≡ (b == a)
@@ -465,7 +466,7 @@ module _ (k : Config) (now : Stamp) (tick : Bool) (cs : List ClientId) (ino : �
       (cases_Bool (ino == j))
 
 -- where nobody waits for the file, nothing is to be timed
-pub times_none : (cs : List ClientId) (ino : ℕ) (l : Locks) (ms : Moments) → find (is_wait_on ino) l.waiters ≡ None → Times cs (λ j. ino == j) l ms l ms
+times_none : (cs : List ClientId) (ino : ℕ) (l : Locks) (ms : Moments) → find (is_wait_on ino) l.waiters ≡ None → Times cs (λ j. ino == j) l ms l ms
 times_none cs ino l ms q j a =
     ⊎_elim
     (λ e. subst (AreTimed ms l cs) (eqb-true ino j e) (none_waits l cs ino (λ w o. is_timed ms ino o) q))
@@ -489,12 +490,27 @@ module _ (k : Config) (now : Stamp) (tick : Bool) (cs : List ClientId) where
   files_step xs i d p q z l e h = ap (demand_files k now tick cs (drop (i + 1) xs)) e ∙ ap (λ ys. demand_files k now tick cs ys p) (sym (drop_next xs i d l)) ∙ h
 
   -- a wait whose rows in the way are demanded and timed
-  pub times_done : (ino : ℕ) (p : Demanding) (was ms : Moments) (v : Waiter) (m : Locks) (due : List (ClientId × Life × ℕ × GrantNo × Mode)) → find (is_wait_on ino) p.locks.waiters ≡ Some v → demanding m due ≡ demand_for k now tick cs (Some v) p
+  times_done : (ino : ℕ) (p : Demanding) (was ms : Moments) (v : Waiter) (m : Locks) (due : List (ClientId × Life × ℕ × GrantNo × Mode)) → find (is_wait_on ino) p.locks.waiters ≡ Some v → demanding m due ≡ demand_for k now tick cs (Some v) p
       → KeepsAll was ms → TimesRows m (to_demand p.locks cs v) v.ino ms → Times cs (λ j. ino == j) p.locks was m ms
   times_done ino p was ms v m due q w more h =
       let e : m ≡ (demand_for k now tick cs (Some v) p).locks = ap (λ x. x.locks) w in
       subst (λ (x : Locks). Times cs (λ j. ino == j) p.locks was x ms) (sym e)
       (times_wait k now tick cs ino p was ms more v q (subst (λ (x : Locks). TimesRows x (to_demand p.locks cs v) v.ino ms) e h))
+
+  times_by : (ino : ℕ) (p : Demanding) (was ms : Moments) (m : Locks) (due : List (ClientId × Life × ℕ × GrantNo × Mode)) (o : Option Waiter) → find (is_wait_on ino) p.locks.waiters ≡ o → demanding m due ≡ demand_for k now tick cs o p
+      → KeepsAll was ms → TimesRows m (to_demand_for p.locks cs o) ino ms → Times cs (λ j. ino == j) p.locks was m ms
+  unfolding demand_for
+  times_by ino p was ms m due None q w more h =
+      subst (λ (x : Locks). Times cs (λ j. ino == j) p.locks was x ms) (sym (ap (λ x. x.locks) w))
+      (λ j a. timed_same k now tick cs ino p was ms more j p.locks (same_itself j p.locks) (times_none cs ino p.locks was q j a))
+  times_by ino p was ms m due (Some v) q w more h =
+      times_done ino p was ms v m due q w more
+      (subst (λ i. TimesRows m (to_demand p.locks cs v) i ms) (sym (eqb-true v.ino ino (found_passes (is_wait_on ino) v p.locks.waiters q))) h)
+
+  -- a file whose rows in the way are demanded and timed
+  pub times_file : (ino : ℕ) (p : Demanding) (was ms : Moments) (m : Locks) (due : List (ClientId × Life × ℕ × GrantNo × Mode)) → demanding m due ≡ demand_for k now tick cs (find (is_wait_on ino) p.locks.waiters) p
+      → KeepsAll was ms → TimesRows m (to_demand_on p.locks cs ino) ino ms → Times cs (λ j. ino == j) p.locks was m ms
+  times_file ino p was ms m due w more h = times_by ino p was ms m due (find (is_wait_on ino) p.locks.waiters) refl w more h
 
 pub times_step : (cs : List ClientId) (xs : List ℕ) (i d : ℕ) (l m : Locks) (was ms : Moments) (j : ℕ) → i < length xs → (is_one_of (drop i xs) j ≡ false → AreTimed was l cs j)
     → Times cs (λ z. get_or xs i d == z) l was m ms → is_one_of (drop (i + 1) xs) j ≡ false → AreTimed ms m cs j
@@ -515,9 +531,9 @@ rows_step l ino cs i d was ms n more h x c a b r e =
     (λ f. timed_more was ms ino r.demand more (h c a (ap (λ ys. is_among ys c) (drop_next cs i d n) ∙ (λ z. f z || b z)) r e))
     (cases_Bool (same_client c y))
 
-pub on_three : {X E : Type 0} {A B C D : Type 0} (r : Result X E) → (A → B → C → D) → OnOk r A → OnOk r B → OnOk r C → OnOk r D
-on_three (Ok x) f a b c = f a b c
-on_three (Err e) f a b c = tt
+pub on_two : {X E : Type 0} {A B C : Type 0} (r : Result X E) → (A → B → C) → OnOk r A → OnOk r B → OnOk r C
+on_two (Ok x) f a b = f a b
+on_two (Err e) f a b = tt
 
 pub on_true : {P : Type 0} (r : Bool) → (r ≡ true → P) → OnTrue r P
 on_true true h = h refl

@@ -1,15 +1,5 @@
-pub mod SinceKeys
-pub mod SinceRows
-pub mod Found
-pub mod Grants
-pub mod Installing
-pub mod Ways
-pub mod Files
-pub mod Overdue
-pub mod Sound
 pub mod Settled
 pub mod Demanded
 pub mod Rests
 pub mod Walks
-pub mod AloneFiles
 pub mod Moments

@@ -9,8 +9,8 @@ use Rattle.std.proofs.lemmas.Bool.{and_parts, eqb-true, eq-eqb, leb-false, lt-le
 use Rattle.st_base.specs.declared.config.Config.{Config}
 use Rattle.st_base.specs.declared.ids.Stamp.{Stamp}
 use Rattle.st_locks.specs.Settled.{is_by, is_kept, is_old, moment_order}
-use Rattle.st_locks.proofs.Overdue.{some_one}
-use Rattle.st_locks.proofs.SinceKeys.{equal_numbers, then_equal}
+use Rattle.st_lock_tables.proofs.Overdue.{some_one}
+use Rattle.st_lock_tables.proofs.SinceKeys.{equal_numbers, then_equal}
 
 same_moment : (k q : Stamp × ℕ) → is_eq (moment_order k q) ≡ (q.0.0 == k.0.0) && (q.1 == k.1)
 same_moment k q = then_equal (nat_cmp k.0.0 q.0.0) (nat_cmp k.1 q.1) ∙ (λ i. equal_numbers k.0.0 q.0.0 i && equal_numbers k.1 q.1 i)

@@ -14,7 +14,8 @@ use Rattle.st_rules.specs.declared.locks.RowDemand.{RowDemand}
 use Rattle.st_rules.specs.declared.locks.Waiter.{Waiter}
 use Rattle.st_rules.specs.Locks.{Locks, drop_file_waits, drop_waits, first_conflict, forget, grantable, install, install_at, installed, is_row_by, is_row_of, is_row_on, is_wait_by, is_wait_of, is_wait_on, next_waiter, wish, with_rows}
 use Rattle.st_tables.proofs.RisingKeys.{any_same, some_in, some_filter, some_map}
-use Rattle.st_locks.specs.Settled.{EachInWay, IsSettled, Marked, Marks, MarksAll, MarksWaited, Moments, is_file_of, is_held_up, is_low, is_marked, is_one_of, is_shared_wait, is_timed, is_waited, is_waited_besides}
+use Rattle.st_lock_tables.specs.Waited.{is_one_of, is_waited, is_waited_besides}
+use Rattle.st_locks.specs.Settled.{EachInWay, IsSettled, Marked, Marks, MarksAll, MarksWaited, Moments, is_file_of, is_held_up, is_low, is_marked, is_shared_wait, is_timed}
 use Rattle.st_locks.proofs.Demanded.{none_waits}
 use Rattle.st_locks.proofs.Settled.{SameOn, each_same, next_same, none_found, same_dropped}
 
@@ -210,19 +211,3 @@ module _ {A : Type 0} (f : A → ℕ) (w : ℕ → Bool) where
             ∙ ap (λ z. z && w j) (list_any-append (λ r. f r == j) (take i xs) (get_or xs i d ∷ []))
             ∙ both (list_any (λ r. f r == j) (take i xs)) (f (get_or xs i d) == j) (w j) (w (f (get_or xs i d))) (λ s. ap w (eqb-true (f (get_or xs i d)) j s)) was.1 (q j e).1,
       )
-
--- Who waits.
-
-some_long : (xs : List ℕ) → not (length xs == 0) ≡ some_in xs
-some_long [] = refl
-some_long (x ∷ xs) = ap not (ne_eqb (length (x ∷ xs)) 0 (λ (e : length (x ∷ xs) ≡ 0). omega (arith, e)))
-
-pub waited_long : {A : Type 0} (f : A → ℕ) (p : A → Bool) (xs : List A) → not (length (map f (filter p xs)) == 0) ≡ list_any p xs
-waited_long f p xs = some_long (map f (filter p xs)) ∙ some_map f (filter p xs) ∙ some_filter p xs
-
-turn : (a b : ℕ) → (a == b) ≡ (b == a)
-turn a b = grind arith
-
--- whichever way the file is compared
-pub one_turned : (ks : List ℕ) (i : ℕ) → is_one_of ks i ≡ list_any (λ k. i == k) ks
-one_turned ks i = any_same (λ k. k == i) (λ k. i == k) ks (λ k. turn k i)

@@ -11,9 +11,9 @@ use Rattle.st_base.specs.declared.ids.GrantNo.{GrantNo}
 use Rattle.st_base.specs.Mode.{conflicts, covers}
 use Rattle.st_rules.specs.declared.locks.Verdict.{Verdict}
 use Rattle.st_rules.specs.declared.locks.AcquireRefusal.TheVariants as acquiring
-use Rattle.st_locks.specs.declared.refusal.LockRefusal.{LockRefusal}
-use Rattle.st_locks.specs.declared.refusal.LockRefusal.TheVariants as refusing
-use Rattle.st_locks.specs.Calls.{Answers, acquired}
+use Rattle.st_lock_tables.specs.declared.refusal.LockRefusal.{LockRefusal}
+use Rattle.st_lock_tables.specs.declared.refusal.LockRefusal.TheVariants as refusing
+use Rattle.st_lock_tables.specs.Calls.{Answers, acquired}
 use Rattle.st_rules.specs.declared.locks.LockRow.{LockRow}
 use Rattle.st_rules.specs.declared.locks.Waiter.{Waiter}
 use Rattle.st_rules.specs.Keys.{put, same_client}
@@ -21,7 +21,7 @@ use Rattle.st_rules.specs.Locks.{Locks, Acquired, Granting, is_among, wish, acqu
 use Rattle.st_tables.proofs.RisingKeys.{has, has_rising}
 use Rattle.st_rules.specs.declared.locks.RowDemand.{RowDemand}
 use Rattle.st_locks.specs.Settled.{EachInWay, IsSettled, Marked, Marks, Moments, is_in_way, is_low, is_marked, is_timed}
-use Rattle.st_locks.proofs.Grants.{grantable_found, length_without, same_wait}
+use Rattle.st_lock_tables.proofs.Grants.{grantable_found, length_without, same_wait}
 
 -- Lists, and the part of them that is of one file.
 

@@ -12,7 +12,8 @@ use Rattle.st_rules.specs.declared.locks.LockRow.{LockRow}
 use Rattle.st_rules.specs.declared.locks.RowDemand.{RowDemand}
 use Rattle.st_rules.specs.declared.locks.Waiter.{Waiter}
 use Rattle.st_rules.specs.Keys.{rising, same_client}
-use Rattle.st_rules.specs.Locks.{Locks, is_among, is_below, is_row_of, is_wait_of, is_wait_on, next_waiter, row_of, stands_against, waits_besides, wish}
+use Rattle.st_rules.specs.Locks.{Locks, is_among, is_below, is_row_of, is_wait_of, is_wait_on, next_waiter, row_of, stands_against, wish}
+use Rattle.st_lock_tables.specs.Waited.{is_one_of, is_waited, is_waited_besides}
 
 -- marked files: all, or those of a list
 pub record Marked : Type 0 where
@@ -110,18 +111,6 @@ AreDemanded l besides ino = EachInWay l besides ino (λ w d. is_low (wish w.mode
 -- the file is looked at again as soon as the demand on a client in the way is old
 abbrev pub AreTimed : Moments → Locks → List ClientId → ℕ → Type 0
 AreTimed ms l besides ino = EachInWay l besides ino (λ w d. is_timed ms ino d)
-
--- the file is one of these
-abbrev pub is_one_of : List ℕ → ℕ → Bool
-is_one_of files j = list_any (λ k. k == j) files
-
--- somebody waits for the file
-abbrev pub is_waited : Locks → ℕ → Bool
-is_waited l ino = list_any (is_wait_on ino) l.waiters
-
--- another client waits for the file
-abbrev pub is_waited_besides : Locks → ClientId → ℕ → Bool
-is_waited_besides l c ino = list_any (waits_besides c ino) l.waiters
 
 -- the file is one of these, and another client waits for it
 abbrev pub is_wanted_of : Locks → ClientId → List ℕ → ℕ → Bool

@@ -7,16 +7,14 @@ ghost use Rattle.st_base.specs.declared.ids.Stamp.{Stamp};
 ghost use Rattle.st_rules.specs.Locks as locks;
 ghost use Rattle.st_rules.specs.ServerInvariants.{IsLockTable};
 ghost use Rattle.st_locks.specs.Since.{IsClient, is_since, since_of, wait_order};
-ghost use Rattle.st_locks.specs.Calls.{Answers, Installs, demanding, file_demanded, file_granted, granting, is_lock, is_lock_row, is_old_row, is_row_from, same_file, told};
+ghost use Rattle.st_lock_tables.specs.Calls.{file_granted};
+ghost use Rattle.st_locks.specs.Calls.{Answers, Installs, demanding, granting, is_lock, is_lock_row, is_old_row, is_row_from, same_file, told};
 
 use crate::parts::{Parts, touch_locks, touch_rows, touch_waited, touch_waits, walked};
-use crate::passes::{Pass, Sent};
-use crate::refusal::LockRefusal;
-use crate::since::Unanswered;
-use crate::table::PlainTable;
 use crate::touched::Touched;
 use crate::waking::Waking;
 use st_base::{ClientId, Config, Epoch, GrantNo, Life, Mode, ServerId, Stamp};
+use st_lock_tables::{LockRefusal, Pass, PlainTable, Sent, Unanswered};
 use st_rules::Verdict;
 use std::alloc::{AllocError, Global};
 use std::collections::BTreeSet;
@@ -49,6 +47,7 @@ impl LockTable {
     {
         LockTable {
             parts: Parts {
+                alloc,
                 table: PlainTable::new(alloc, server, epoch),
                 granting: Touched::new(alloc),
                 demanding: Touched::new(alloc),
@@ -280,8 +279,8 @@ impl LockTable {
         requires { self.old.grants + length self.old.waiters < 2 ^ 32 }
         ensures { IfOk result (λ v. locks.next_grants self.old ≡ granting self.new v.items) }
     {
-        let mut granted = Vec::new(self.parts.table.alloc);
-        let files = walked(&self.parts.table, &self.parts.granting)?;
+        let mut granted = Vec::new(self.parts.alloc);
+        let files = walked(self.parts.alloc, &self.parts.table, &self.parts.granting)?;
         self.grant_each(&mut granted, files.as_slice())?;
         Ok(granted)
     }

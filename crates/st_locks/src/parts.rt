@@ -3,19 +3,21 @@ ghost use Rattle.std.specs.Prelude.{◌≡◌, ◌&&◌, IfOk, OnOk};
 ghost use Rattle.std.specs.Bool.{OnTrue};
 ghost use Rattle.st_rules.specs.Locks as locks;
 ghost use Rattle.st_locks.specs.Calls.{demanding};
-ghost use Rattle.st_locks.specs.Settled.{Heeds, IsSettled, MarksAll, MarksWaited, is_file_of, is_held_up, is_shared_wait, is_waited, is_wanted_of, walked};
+ghost use Rattle.st_lock_tables.specs.Waited.{is_waited};
+ghost use Rattle.st_locks.specs.Settled.{Heeds, IsSettled, MarksAll, MarksWaited, is_file_of, is_held_up, is_shared_wait, is_wanted_of, walked};
 
-use crate::passes::{Pass, Sent};
-use crate::table::PlainTable;
+use crate::demands::demand_files;
 use crate::touched::Touched;
 use crate::waking::Waking;
 use st_base::{ClientId, GrantNo, Mode};
-use std::alloc::AllocError;
+use st_lock_tables::{Pass, PlainTable, Sent};
+use std::alloc::{AllocError, Global};
 
 /// A lock table; the files that calls touched since each pass; when the demanding pass looks at files again; and the clients of
 /// which it demanded nothing when it last ran.
 #[derive(Drop)]
 pub(crate) struct Parts {
+    pub(crate) alloc: Global,
     pub(crate) table: PlainTable,
     pub(crate) granting: Touched,
     pub(crate) demanding: Touched,
@@ -24,13 +26,17 @@ pub(crate) struct Parts {
 }
 
 /// The files that a pass walks, in rising order: all that are waited for, or those that were touched.
-pub(crate) fn walked(table: &PlainTable, marks: &Touched) -> Result<Vec<u32>, AllocError>
+pub(crate) fn walked(
+    alloc: Global,
+    table: &PlainTable,
+    marks: &Touched,
+) -> Result<Vec<u32>, AllocError>
     ensures { IfOk result (λ v. v.items ≡ walked marks.now (locks.waited_files table.now)) }
 {
     if marks.is_all() {
         table.waited_files()
     } else {
-        marks.rising(table.alloc)
+        marks.rising(alloc)
     }
 }
 
@@ -120,9 +126,10 @@ impl Parts {
     {
         heed(&mut self.besides, &mut self.demanding, suspects)?;
         self.waking.wake(&mut self.demanding, pass)?;
-        let files = walked(&self.table, &self.demanding)?;
-        let mut due = Vec::new(self.table.alloc);
-        match self.table.demand_files(
+        let files = walked(self.alloc, &self.table, &self.demanding)?;
+        let mut due = Vec::new(self.alloc);
+        match demand_files(
+            &mut self.table,
             &mut self.waking,
             &mut due,
             pass,

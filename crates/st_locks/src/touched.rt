@@ -1,10 +1,10 @@
 // The files that were touched since a pass last walked them.
-ghost use Rattle.std.specs.Prelude.{◌≡◌, ◌==◌, ◌&&◌, ◌<◌, ◌-◌, ℕ, IfOk, false};
+ghost use Rattle.std.specs.Prelude.{◌≡◌, ◌==◌, ◌&&◌, ℕ, IfOk, false};
 ghost use Rattle.std.specs.List.{list_any};
 ghost use Rattle.st_rules.specs.Keys as keys;
 ghost use Rattle.st_locks.specs.Settled.{IsClear, IsFull, Marks, MarksAll, is_marked};
 
-use st_tables::put_key;
+use st_tables::rising;
 use std::alloc::{AllocError, Global};
 use std::marker::Model;
 
@@ -60,13 +60,7 @@ impl Touched {
     pub fn rising(&self, alloc: Global) -> Result<Vec<u32>, AllocError>
         ensures { IfOk result (λ v. v.items ≡ keys.rising self.now.files) }
     {
-        let mut found = Vec::new(alloc);
-        let mut left = self.files.len();
-        while left > 0 {
-            left -= 1;
-            put_key(&mut found, self.files[left])?;
-        }
-        Ok(found)
+        rising(alloc, self.files.as_slice())
     }
 
     /// Reserves room for one more file. Where a file finds no room, all files count as touched.

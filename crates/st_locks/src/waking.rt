@@ -4,10 +4,9 @@ ghost use Rattle.std.specs.List.{list_any};
 ghost use Rattle.st_base.specs.declared.ids.Stamp.{Stamp};
 ghost use Rattle.st_locks.specs.Settled.{IsQuiet, KeepsAll, KeepsOthers, Wakes, is_kept, is_old, is_timed};
 
-use crate::passes::Pass;
-use crate::since::passed;
 use crate::touched::Touched;
 use st_base::Stamp;
+use st_lock_tables::{Pass, passed};
 use st_rules::RowDemand;
 use std::alloc::{AllocError, Global};
 use std::collections::BTreeSet;

@@ -11,8 +11,8 @@ use Rattle.st_rules.specs.declared.locks.Verdict.{Verdict}
 use Rattle.st_rules.specs.Locks.{Acquired, Locks, Released, acquire, is_under, release, release_to, released, released_at, row_of}
 use Rattle.st_rules.specs.World.{numbered, with_numbered}
 use Rattle.st_locks.specs.Calls as locks
-use Rattle.st_locks.specs.declared.refusal.LockRefusal.{LockRefusal}
-use Rattle.st_locks.specs.declared.refusal.LockRefusal.TheVariants as lock_refusals
+use Rattle.st_lock_tables.specs.declared.refusal.LockRefusal.{LockRefusal}
+use Rattle.st_lock_tables.specs.declared.refusal.LockRefusal.TheVariants as lock_refusals
 use Rattle.st_lemmas.proofs.Lookups.{if_true, if_false, some_is}
 use Rattle.st_lemmas.proofs.Tables.{and_both}
 use Rattle.st_move.specs.declared.record.ContainerRecord.{ContainerRecord}

@@ -1,7 +1,7 @@
 // A server with its containers and its lock table, and what an event does there.
 ghost use Rattle.std.specs.Prelude.{◌≡◌, ◌≢◌, ◌≤◌, IfOk, OnOk, Some, length, true, if◌then◌else◌};
 ghost use Rattle.std.specs.List.{list_all};
-ghost use Rattle.st_locks.specs.declared.refusal.LockRefusal.TheVariants as lock_refusals;
+ghost use Rattle.st_lock_tables.specs.declared.refusal.LockRefusal.TheVariants as lock_refusals;
 ghost use Rattle.st_move.specs.Conditions.{CanLock};
 ghost use Rattle.st_move.specs.Containers as containers;
 ghost use Rattle.st_move.specs.Network.{DoesAt, Refuses, with_containers};

@@ -1,6 +1,6 @@
 use Rattle.std.proofs.Common.{◌≡◌, ◌<◌, ◌+◌, ◌^◌, length, drop}
 use Rattle.st_rules.specs.Locks.{grant_files}
-use Rattle.st_locks.specs.Calls.{granting}
+use Rattle.st_lock_tables.specs.Calls.{granting}
 use Rattle.st_locks.proofs.lock_table.LockTable.grant_each.Given as goal
 
 abbrev pub invariant-loop-ino : goal.invariant-loop-ino

@@ -1,6 +1,6 @@
 use Rattle.std.proofs.Common.{sym, ◌∙◌}
 use Rattle.st_rules.specs.Locks.{grant_files}
-use Rattle.st_locks.specs.Calls.{granting}
+use Rattle.st_lock_tables.specs.Calls.{granting}
 use Rattle.st_locks.proofs.Walks.{walk_grants}
 use Rattle.st_locks.proofs.lock_table.LockTable.grant_touched.Goals as goal
 

@@ -1,43 +1,40 @@
-use Rattle.std.proofs.Common.{◌∙◌, sym, subst}
-use Rattle.st_locks.specs.declared.parts.Parts.{Parts}
-use Rattle.st_locks.specs.Settled.{IsSettled}
+use Rattle.std.proofs.Common.{◌∙◌}
 use Rattle.st_locks.proofs.Walks.{pass_is_whole, pass_settles, settled_heeded, settled_woken}
 use Rattle.st_locks.proofs.parts.Parts.demands_due.Goals as goal
 
 pub returns-in_err-heed-clause-settled : goal.returns-in_err-heed-clause-settled
 returns-in_err-heed-clause-settled c =
     settled_heeded _ _ _ c.heed.new.marks _ _ c.heed.new.besides.items
-    (subst (λ (s : Parts). IsSettled s.table s.granting s.demanding s.waking s.besides.items) (sym c.self.view_is) c.requires) c.heed.ensures.kept
+    c.requires c.heed.ensures.kept
 
 pub returns-in_err-wake-clause-settled : goal.returns-in_err-wake-clause-settled
 returns-in_err-wake-clause-settled c =
     settled_woken _ _ c.heed.new.marks c.wake.new.marks _ c.wake.new.self c.heed.new.besides.items
     (settled_heeded _ _ _ c.heed.new.marks _ _ c.heed.new.besides.items
-    (subst (λ (s : Parts). IsSettled s.table s.granting s.demanding s.waking s.besides.items) (sym c.self.view_is) c.requires) c.heed.ensures.kept)
+    c.requires c.heed.ensures.kept)
     c.wake.ensures.kept
 
 pub returns-in_err-files-clause-settled : goal.returns-in_err-files-clause-settled
 returns-in_err-files-clause-settled c =
     settled_woken _ _ c.heed.new.marks c.wake.new.marks _ c.wake.new.self c.heed.new.besides.items
     (settled_heeded _ _ _ c.heed.new.marks _ _ c.heed.new.besides.items
-    (subst (λ (s : Parts). IsSettled s.table s.granting s.demanding s.waking s.besides.items) (sym c.self.view_is) c.requires) c.heed.ensures.kept)
+    c.requires c.heed.ensures.kept)
     c.wake.ensures.kept
 
 pub returns-in-Ok-clause-settled : goal.returns-in-Ok-clause-settled
 returns-in-Ok-clause-settled c =
-    pass_settles c.args.pass.config c.args.pass.now c.args.pass.tick c.heed.new.besides.items c.args.suspects.now _ _ c.wake.new.marks c.wake.new.self c.demand_files.new.waking c.demand_files.new.self c.demand_files.new.due.items c.new-due.result.items c.as_slice.result.now
+    pass_settles c.args.pass.config c.args.pass.now c.args.pass.tick c.heed.new.besides.items c.args.suspects.now _ _ c.wake.new.marks c.wake.new.self c.demand_files.new.waking c.demand_files.new.table c.demand_files.new.due.items c.new-due.result.items c.as_slice.result.now
     (settled_woken _ _ c.heed.new.marks c.wake.new.marks _ c.wake.new.self c.heed.new.besides.items
     (settled_heeded _ _ _ c.heed.new.marks _ _ c.heed.new.besides.items
-    (subst (λ (s : Parts). IsSettled s.table s.granting s.demanding s.waking s.besides.items) (sym c.self.view_is) c.requires) c.heed.ensures.kept)
+    c.requires c.heed.ensures.kept)
     c.wake.ensures.kept)
     c.in_ok-heed.ensures.heard c.in_ok-wake.ensures.quiet (c.as_slice.ensures.value ∙ c.in_ok-files.ensures) c.new-due.ensures.items c.in-Ok.ensures.ok c.clear.new.self c.in-Ok.ensures.timed
 
 pub returns-in-Ok-clause-due : goal.returns-in-Ok-clause-due
 returns-in-Ok-clause-due c =
-    rw (← c.self.view_is)
-    (pass_is_whole c.args.pass.config c.args.pass.now c.args.pass.tick c.heed.new.besides.items c.args.suspects.now _ _ c.wake.new.marks c.wake.new.self c.demand_files.new.waking c.demand_files.new.self c.demand_files.new.due.items c.new-due.result.items c.as_slice.result.now
+    pass_is_whole c.args.pass.config c.args.pass.now c.args.pass.tick c.heed.new.besides.items c.args.suspects.now _ _ c.wake.new.marks c.wake.new.self c.demand_files.new.waking c.demand_files.new.table c.demand_files.new.due.items c.new-due.result.items c.as_slice.result.now
     (settled_woken _ _ c.heed.new.marks c.wake.new.marks _ c.wake.new.self c.heed.new.besides.items
     (settled_heeded _ _ _ c.heed.new.marks _ _ c.heed.new.besides.items
-    (subst (λ (s : Parts). IsSettled s.table s.granting s.demanding s.waking s.besides.items) (sym c.self.view_is) c.requires) c.heed.ensures.kept)
+    c.requires c.heed.ensures.kept)
     c.wake.ensures.kept)
-    c.in_ok-heed.ensures.heard c.in_ok-wake.ensures.quiet (c.as_slice.ensures.value ∙ c.in_ok-files.ensures) c.new-due.ensures.items c.in-Ok.ensures.ok)
+    c.in_ok-heed.ensures.heard c.in_ok-wake.ensures.quiet (c.as_slice.ensures.value ∙ c.in_ok-files.ensures) c.new-due.ensures.items c.in-Ok.ensures.ok

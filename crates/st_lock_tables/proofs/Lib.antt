@@ -1,0 +1,12 @@
+pub mod SinceKeys
+pub mod SinceRows
+pub mod Found
+pub mod Grants
+pub mod Installing
+pub mod Ways
+pub mod Files
+pub mod Overdue
+pub mod Sound
+pub mod Rising
+pub mod Waited
+pub mod AloneFiles

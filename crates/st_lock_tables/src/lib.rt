@@ -1,0 +1,16 @@
+//! The lock table of a server as the rules say it: rows, waits, and the demands that wait for an answer. `docs/PROTOCOL.md`,
+//! "Locks", has the rules. Each call leaves the table that the definition of its rule gives.
+#![tactic(auto)]
+
+mod install;
+mod passes;
+mod refusal;
+mod release;
+mod rows;
+mod since;
+mod table;
+
+pub use passes::{Pass, Sent};
+pub use refusal::LockRefusal;
+pub use since::{Unanswered, passed};
+pub use table::PlainTable;

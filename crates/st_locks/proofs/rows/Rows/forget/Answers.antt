@@ -1,9 +1,0 @@
-use Rattle.std.proofs.Common.{sym, subst}
-use Rattle.st_locks.specs.Since.{AreListed}
-use Rattle.st_locks.proofs.SinceRows.{listed_forgotten}
-use Rattle.st_locks.proofs.rows.Rows.forget.Goals as goal
-
-pub invariant_of-self : goal.invariant_of-self
-invariant_of-self c =
-    subst (λ l. AreListed l c.forget-2.new.set) (sym c.forget.ensures)
-    (listed_forgotten c.args.client c.self.inside.table c.self.inside.since c.forget-2.new.set c.self.invariant c.forget-2.ensures)
