@@ -11,3 +11,4 @@ pub mod FirstPlaces
 pub mod Puts
 pub mod Passing
 pub mod Indexes
+pub mod Sets

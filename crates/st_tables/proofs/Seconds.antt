@@ -5,69 +5,42 @@ use Rattle.std.specs.List.{IsDistinct, list_any}
 use Rattle.std.specs.Map.{keys_of, values_of}
 use Rattle.std.proofs.lemmas.Bool.{cases_Bool}
 use Rattle.std.proofs.lemmas.List.Folds.{list_any-append}
-use Rattle.st_rules.specs.Keys.{with_key, rising}
+use Rattle.st_rules.specs.Keys.{rising}
 use Rattle.st_tables.specs.declared.keys.Key.{Key}
 use Rattle.st_tables.specs.Tables.{listed, row_at, second_of}
 use Rattle.st_tables.proofs.Entries.{any_value}
-use Rattle.st_tables.proofs.RisingKeys.{IsRising, has, has_with_key, rising_key, rising_is, any_map_filter}
+use Rattle.st_tables.proofs.RisingKeys.{has, rising_same, any_map_filter}
 
 module _ {V : Type 0} (key : V → Key) (p : V → Bool) where
   -- the keys are the second numbers of the rows that pass
-  pub record AreSeconds (ks : List ℕ) (rows : List V) : Type 0 where
-    pub rising : IsRising ks
-    pub same : (k : ℕ) → has k ks ≡ list_any (λ v. p v && (second_of key v == k)) rows
+  abbrev pub AreSeconds : List ℕ → List V → Type 0
+  AreSeconds ks rows = (k : ℕ) → has k ks ≡ list_any (λ v. p v && (second_of key v == k)) rows
 
   take_found : (xs : List V) (i : ℕ) (x : V) → slice_get xs i ≡ Some x → take (suc i) xs ≡ take i xs ++ x ∷ []
   take_found [] i x e = cc
   take_found (y ∷ ys) zero x e = let s : y ≡ x = cc in ap (λ z. z ∷ []) s
   take_found (y ∷ ys) (suc i) x e = ap (λ l. y ∷ l) (take_found ys i x e)
 
-  one_more : (ks : List ℕ) (rows : List V) (x : V) → AreSeconds ks rows → AreSeconds (if p x then with_key (second_of key x) ks else ks) (rows ++ x ∷ [])
-  one_more ks rows x a =
-      ⊎_elim
-      (λ q. subst (λ b. AreSeconds (if b then with_key (second_of key x) ks else ks) (rows ++ x ∷ [])) (sym q) (record {
-        rising = rising_key (second_of key x) ks a.rising;
-        same = λ k. has_with_key (second_of key x) k ks ∙ ap (λ b. (second_of key x == k) || b) (a.same k) ∙ yes k q;
-      }))
-      (λ q. subst (λ b. AreSeconds (if b then with_key (second_of key x) ks else ks) (rows ++ x ∷ [])) (sym q) (record {
-        rising = a.rising;
-        same = λ k. a.same k ∙ no k q;
-      }))
-      (cases_Bool (p x))
+  one_more : (ks : List ℕ) (rows : List V) (x : V) → AreSeconds ks rows → AreSeconds (ks ++ (if p x then second_of key x ∷ [] else [])) (rows ++ x ∷ [])
+  one_more ks rows x a k =
+      list_any-append (λ n. n == k) ks (if p x then second_of key x ∷ [] else []) ∙ (λ i. a k i || by (p x) i)
+      ∙ sym (list_any-append (λ v. p v && (second_of key v == k)) rows (x ∷ []))
     where
-      turn : (a b : Bool) → a || b ≡ b || (a || false)
-      turn true true = refl
-      turn true false = refl
-      turn false true = refl
-      turn false false = refl
-
-      none : (a : Bool) → a ≡ a || (false || false)
-      none true = refl
-      none false = refl
-
-      yes : (k : ℕ) → p x ≡ true → (second_of key x == k) || list_any (λ v. p v && (second_of key v == k)) rows ≡ list_any (λ v. p v && (second_of key v == k)) (rows ++ x ∷ [])
-      yes k q =
-          turn (second_of key x == k) (list_any (λ v. p v && (second_of key v == k)) rows)
-          ∙ ap (λ b. list_any (λ v. p v && (second_of key v == k)) rows || ((b && (second_of key x == k)) || false)) (sym q)
-          ∙ sym (list_any-append (λ v. p v && (second_of key v == k)) rows (x ∷ []))
-
-      no : (k : ℕ) → p x ≡ false → list_any (λ v. p v && (second_of key v == k)) rows ≡ list_any (λ v. p v && (second_of key v == k)) (rows ++ x ∷ [])
-      no k q =
-          none (list_any (λ v. p v && (second_of key v == k)) rows)
-          ∙ ap (λ b. list_any (λ v. p v && (second_of key v == k)) rows || ((b && (second_of key x == k)) || false)) (sym q)
-          ∙ sym (list_any-append (λ v. p v && (second_of key v == k)) rows (x ∷ []))
+      by : (b : Bool) → has k (if b then second_of key x ∷ [] else []) ≡ (b && (second_of key x == k)) || false
+      by true = refl
+      by false = refl
 
   -- one more row is looked at
-  pub seconds_more : (ks js : List ℕ) (xs : List V) (i : ℕ) (x : V) → slice_get xs i ≡ Some x → js ≡ (if p x then with_key (second_of key x) ks else ks) → AreSeconds ks (take i xs) → AreSeconds js (take (i + 1) xs)
+  pub seconds_more : (ks js : List ℕ) (xs : List V) (i : ℕ) (x : V) → slice_get xs i ≡ Some x → js ≡ ks ++ (if p x then second_of key x ∷ [] else []) → AreSeconds ks (take i xs) → AreSeconds js (take (i + 1) xs)
   seconds_more ks js xs i x e s a =
       subst (λ l. AreSeconds l (take (i + 1) xs)) (sym s)
-      (subst (AreSeconds (if p x then with_key (second_of key x) ks else ks)) (sym (ap (λ n. take n xs) (add-one i) ∙ take_found xs i x e)) (one_more ks (take i xs) x a))
+      (subst (AreSeconds (ks ++ (if p x then second_of key x ∷ [] else []))) (sym (ap (λ n. take n xs) (add-one i) ∙ take_found xs i x e)) (one_more ks (take i xs) x a))
 
   -- all rows were looked at
-  pub seconds_are : (ks : List ℕ) (n : ℕ) (es : List (ℕ × V)) → IsDistinct nat_eq (keys_of es) → ((i : ℕ) (v : V) → row_at es i ≡ Some v → i < n) → AreSeconds ks (values_of es) → ks ≡ rising (map (second_of key) (filter p (listed n (row_at es))))
+  pub seconds_are : (ks : List ℕ) (n : ℕ) (es : List (ℕ × V)) → IsDistinct nat_eq (keys_of es) → ((i : ℕ) (v : V) → row_at es i ≡ Some v → i < n) → AreSeconds ks (values_of es) → rising ks ≡ rising (map (second_of key) (filter p (listed n (row_at es))))
   seconds_are ks n es d l a =
-      rising_is ks (map (second_of key) (filter p (listed n (row_at es)))) a.rising
-      (λ k. a.same k ∙ sym (any_value (λ v. p v && (second_of key v == k)) n es d l) ∙ sym (any_map_filter (second_of key) p k (listed n (row_at es))))
+      rising_same ks (map (second_of key) (filter p (listed n (row_at es))))
+      (λ k. a k ∙ sym (any_value (λ v. p v && (second_of key v == k)) n es d l) ∙ sym (any_map_filter (second_of key) p k (listed n (row_at es))))
 
 -- one more row is looked at
 pub any_next : {V : Type 0} (p : V → Bool) (xs : List V) (i : ℕ) (x : V) → slice_get xs i ≡ Some x → list_any p (take (i + 1) xs) ≡ list_any p (take i xs) || p x

@@ -1,6 +1,6 @@
 -- Beside rows, the numbers that belong together: under each second number the first ones in a queue, and under each first number
 -- the second ones in a set.
-use Rattle.std.specs.Prelude.{◌≡◌, ℕ, ◌&&◌, ◌||◌, ◌==◌, nat_eq, if◌then◌else◌, Bool, not, List, [], ◌∷◌, ◌++◌, filter, map, Option, Some, None}
+use Rattle.std.specs.Prelude.{◌≡◌, ℕ, ◌&&◌, ◌||◌, ◌==◌, nat_eq, if◌then◌else◌, Bool, not, List, [], ◌∷◌, ◌++◌, filter, map, slice_get, Option, Some, None}
 use Rattle.std.specs.Global.{Vec}
 use Rattle.indexmap.specs.IndexSet.{IndexSet}
 use Rattle.std.specs.List.{list_any}
@@ -27,8 +27,8 @@ members None = []
 members (Some s) = s.keys
 
 -- the numbers in the set under a number
-abbrev pub numbers_in : {S : Type 0} → List (ℕ × IndexSet ℕ S) → ℕ → List ℕ
-numbers_in es n = members (row_under es n)
+abbrev pub numbers_in : {S : Type 0} → List (IndexSet ℕ S) → ℕ → List ℕ
+numbers_in sets n = members (slice_get sets n)
 
 -- one number more stands last in a queue
 abbrev pub Joins : ℕ → ℕ → (ℕ → List ℕ) → (ℕ → List ℕ) → Type 0
@@ -71,7 +71,7 @@ abbrev pub AreOwned : {V : Type 0} → (V → Key) → List V → (ℕ → List 
 AreOwned key rows owned = (c s : ℕ) → has s (owned c) ≡ list_any (has_key key (record { first = c; second = s })) rows
 
 -- the rows are counted by client, stand in queues under their second numbers, and are found by their first ones
-pub record IsIndexed {V S : Type 0} (key : V → Key) (rows : List V) (tally : List ℕ) (waiting : List (ℕ × Vec ℕ)) (known : List (ℕ × IndexSet ℕ S)) : Type 0 where
+pub record IsIndexed {V S : Type 0} (key : V → Key) (rows : List V) (tally : List ℕ) (waiting : List (ℕ × Vec ℕ)) (known : List (IndexSet ℕ S)) : Type 0 where
   pub counts : IsCounted key rows tally
   pub queued : AreQueued key rows (queue_in waiting)
   pub owned : AreOwned key rows (numbers_in known)

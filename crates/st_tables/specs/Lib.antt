@@ -1,3 +1,4 @@
 pub mod Indexes
 pub mod Orders
+pub mod Rising
 pub mod Tables

@@ -116,7 +116,7 @@ impl<V: Row> Model for ClientTable<V> {
 
     ghost view = { λ t. t.table };
 
-    ghost invariant = { λ t. IsIndexed V.key_of t.table t.counts t.queues.entries t.owned.entries };
+    ghost invariant = { λ t. IsIndexed V.key_of t.table t.counts t.queues.entries t.owned.items };
 }
 
 impl<V: Row> ClientTable<V> {
@@ -129,7 +129,7 @@ impl<V: Row> ClientTable<V> {
             table: Table::new(alloc),
             counts: [0; 17],
             queues: IndexMap::new(alloc),
-            owned: IndexMap::new(alloc),
+            owned: Vec::new(alloc),
         }
     }
 

@@ -1,5 +1,6 @@
 // Numbers in queues, each queue under a number.
-ghost use Rattle.std.specs.Prelude.{◌≡◌, ◌++◌, ◌∷◌, ◌==◌, ℕ, [], IsSome, None, OnOk, OnErr, filter, if◌then◌else◌, is_ok, not};
+ghost use Rattle.std.specs.Prelude.{◌≡◌, ◌++◌, ◌∷◌, ◌==◌, ℕ, [], None, OnOk, OnErr, filter, if◌then◌else◌, is_ok, not};
+ghost use Rattle.std.specs.Bool.{OnTrue};
 ghost use Rattle.std.specs.Map.{lookup};
 ghost use Rattle.st_tables.specs.Indexes.{Joins, Leaves, Stays, queue_in, row_under};
 
@@ -38,18 +39,6 @@ pub fn queue(queues: &Queues, under: u32) -> &[u32]
     }
 }
 
-/// A number goes last in the queue that stands under a number.
-fn push_there(queues: &mut Queues, under: u32, number: u32) -> Result<(), AllocError>
-    requires { IsSome (row_under queues.old.entries under) }
-    ensures ok { OnOk result (Joins under number (queue_in queues.old.entries) (queue_in queues.new.entries)) }
-    ensures err { OnErr result (Stays (queue_in queues.old.entries) (queue_in queues.new.entries)) }
-{
-    match queues.get_mut(&under) {
-        Some(queue) => push_last(queue, number),
-        None => Ok(()),
-    }
-}
-
 /// A queue of one number begins under a number where none stands.
 fn begin(queues: &mut Queues, alloc: Global, under: u32, number: u32) -> Result<(), AllocError>
     requires { row_under queues.old.entries under ≡ None }
@@ -67,38 +56,39 @@ pub fn push(queues: &mut Queues, alloc: Global, under: u32, number: u32) -> Resu
     ensures ok { OnOk result (Joins under number (queue_in queues.old.entries) (queue_in queues.new.entries)) }
     ensures err { OnErr result (Stays (queue_in queues.old.entries) (queue_in queues.new.entries)) }
 {
-    if queues.contains_key(&under) {
-        push_there(queues, under, number)
-    } else {
-        begin(queues, alloc, under, number)
+    match queues.get_mut(&under) {
+        Some(queue) => push_last(queue, number),
+        None => begin(queues, alloc, under, number),
     }
 }
 
-fn leave_there(queues: &mut Queues, under: u32, number: u32)
-    requires { IsSome (row_under queues.old.entries under) }
-    ensures { Leaves under number (queue_in queues.old.entries) (queue_in queues.new.entries) }
+/// A number leaves the queue under a number. Whether none is left where one was.
+fn leave_there(queues: &mut Queues, under: u32, number: u32) -> bool
+    ensures left { Leaves under number (queue_in queues.old.entries) (queue_in queues.new.entries) }
+    ensures empty { OnTrue result (queue_in queues.new.entries under ≡ []) }
 {
     match queues.get_mut(&under) {
-        Some(queue) => take_out(queue, number),
-        None => (),
+        Some(queue) => {
+            take_out(queue, number);
+            queue.is_empty()
+        }
+        None => false,
     }
 }
 
 /// A queue without numbers goes.
 fn drop_empty(queues: &mut Queues, under: u32)
+    requires { queue_in queues.old.entries under ≡ [] }
     ensures { Stays (queue_in queues.old.entries) (queue_in queues.new.entries) }
 {
-    if queue(queues, under).is_empty() {
-        queues.swap_remove(&under);
-    }
+    queues.swap_remove(&under);
 }
 
 /// A number leaves the queue under a number. It does not allocate.
 pub fn leave(queues: &mut Queues, under: u32, number: u32)
     ensures { Leaves under number (queue_in queues.old.entries) (queue_in queues.new.entries) }
 {
-    if queues.contains_key(&under) {
-        leave_there(queues, under, number);
+    if leave_there(queues, under, number) {
         drop_empty(queues, under);
     }
 }

@@ -1,13 +1,13 @@
 // Rows in the order in which they came, found by their keys.
-ghost use Rattle.std.specs.Prelude.{◌≡◌, ◌<◌, ◌^◌, ◌&&◌, ◌||◌, ◌==◌, ℕ, [], OnOk, OnErr, IfOk, IsSome, find, filter, map, not, length, if◌then◌else◌, Some, cond, nat_eq, is_some};
+ghost use Rattle.std.specs.Prelude.{◌≡◌, ◌<◌, ◌^◌, ◌&&◌, ◌||◌, ◌++◌, ◌∷◌, ◌==◌, ℕ, [], OnOk, OnErr, IfOk, IsSome, find, filter, map, not, length, if◌then◌else◌, Some, cond, nat_eq, is_some};
 ghost use Rattle.std.specs.List.{IsDistinct, list_any};
 ghost use Rattle.std.specs.Option.{option_copied};
-ghost use Rattle.st_rules.specs.Keys.{put, rising, with_key};
+ghost use Rattle.st_rules.specs.Keys.{put, rising};
 ghost use Rattle.st_tables.specs.declared.keys.Key.{Key};
 ghost use Rattle.st_tables.specs.Tables.{Changes, has_key, is_on, kept, place_of, row_at, same_key, second_of, sooner};
 
 use crate::keys::{Key, Row, Test};
-use crate::rising_keys::put_key;
+use crate::rising_keys::rising;
 use indexmap::IndexMap;
 use std::alloc::{AllocError, Global};
 use std::marker::Model;
@@ -36,11 +36,16 @@ fn keep_places<V: Row>(places: &mut IndexMap<Key, u64>, rows: &IndexMap<u64, V>)
     places.retain(|_key, place| rows.contains_key(&*place));
 }
 
-fn put_second<V: Row, T: Test<V>>(found: &mut Vec<u32>, row: &V, test: &T) -> Result<(), AllocError>
-    ensures { OnOk result (found.new.items ≡ (if T.passes test.now row.now then with_key (V.key_of row.now).second found.old.items else found.old.items)) }
+fn push_second<V: Row, T: Test<V>>(
+    found: &mut Vec<u32>,
+    row: &V,
+    test: &T,
+) -> Result<(), AllocError>
+    ensures { OnOk result (found.new.items ≡ found.old.items ++ (if T.passes test.now row.now then (V.key_of row.now).second ∷ [] else [])) }
 {
     if test.test(row) {
-        put_key(found, row.key().second)
+        found.push(row.key().second)?;
+        Ok(())
     } else {
         Ok(())
     }
@@ -193,9 +198,9 @@ impl<V: Row> Table<V> {
     {
         let mut found = Vec::new(alloc);
         for i in 0..self.rows.len() {
-            put_second(&mut found, &self.rows[i], test)?;
+            push_second(&mut found, &self.rows[i], test)?;
         }
-        Ok(found)
+        rising(alloc, found.as_slice())
     }
 
     /// The first row whose key has this second number, and a first number from 1 to 16.

@@ -8,10 +8,10 @@ use Rattle.st_tables.proofs.clients.ClientTable.change.Goals as goal
 
 pub invariant_of-self : goal.invariant_of-self
 invariant_of-self g c =
-    subst (λ l. IsIndexed g.V.Row.key_of l c.self.inside.counts c.self.inside.queues.entries c.self.inside.owned.entries) (sym c.change.ensures.written) (record {
+    subst (λ l. IsIndexed g.V.Row.key_of l c.self.inside.counts c.self.inside.queues.entries c.self.inside.owned.items) (sym c.change.ensures.written) (record {
       counts = counted_written g.V.Row.key_of c.self.inside.table c.self.inside.counts c.args.row c.self.invariant.counts;
       queued = queued_map g.V.Row.key_of c.self.inside.table (queue_in c.self.inside.queues.entries) (λ r. if has_key g.V.Row.key_of (g.V.Row.key_of c.args.row) r then c.args.row else r) (written_key g.V.Row.key_of c.args.row) c.self.invariant.queued;
-      owned = owned_map g.V.Row.key_of c.self.inside.table (numbers_in c.self.inside.owned.entries) (λ r. if has_key g.V.Row.key_of (g.V.Row.key_of c.args.row) r then c.args.row else r) (written_key g.V.Row.key_of c.args.row) c.self.invariant.owned;
+      owned = owned_map g.V.Row.key_of c.self.inside.table (numbers_in c.self.inside.owned.items) (λ r. if has_key g.V.Row.key_of (g.V.Row.key_of c.args.row) r then c.args.row else r) (written_key g.V.Row.key_of c.args.row) c.self.invariant.owned;
     })
 
 pub returns-clause-changed : goal.returns-clause-changed

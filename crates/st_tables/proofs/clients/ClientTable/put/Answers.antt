@@ -18,10 +18,10 @@ put_new-requires-clause-none g c =
 
 pub invariant_of-self : goal.invariant_of-self
 invariant_of-self g c =
-    either_way (λ l. IsIndexed g.V.Row.key_of l c.self.inside.counts c.self.inside.queues.entries c.self.inside.owned.entries) c.put.result c.put.new.self c.self.inside.table (put (has_key g.V.Row.key_of (g.V.Row.key_of c.args.row)) c.args.row c.self.inside.table) c.put.ensures.ok c.put.ensures.err
+    either_way (λ l. IsIndexed g.V.Row.key_of l c.self.inside.counts c.self.inside.queues.entries c.self.inside.owned.items) c.put.result c.put.new.self c.self.inside.table (put (has_key g.V.Row.key_of (g.V.Row.key_of c.args.row)) c.args.row c.self.inside.table) c.put.ensures.ok c.put.ensures.err
     (record {
       counts = counted_over g.V.Row.key_of c.self.inside.table c.self.inside.counts c.args.row c.key-key.result c.key-key.ensures c.self.invariant.counts (sym c.holds.ensures ∙ c.if-holds.true) c.requires;
       queued = queued_over g.V.Row.key_of c.self.inside.table (queue_in c.self.inside.queues.entries) c.args.row c.key-key.result c.key-key.ensures c.self.invariant.queued (sym c.holds.ensures ∙ c.if-holds.true);
-      owned = owned_over g.V.Row.key_of c.self.inside.table (numbers_in c.self.inside.owned.entries) c.args.row c.key-key.result c.key-key.ensures c.self.invariant.owned (sym c.holds.ensures ∙ c.if-holds.true);
+      owned = owned_over g.V.Row.key_of c.self.inside.table (numbers_in c.self.inside.owned.items) c.args.row c.key-key.result c.key-key.ensures c.self.invariant.owned (sym c.holds.ensures ∙ c.if-holds.true);
     })
     c.self.invariant

@@ -17,10 +17,10 @@ count_down-requires g c =
 
 pub invariant_of-self : goal.invariant_of-self
 invariant_of-self g c =
-    subst (λ l. IsIndexed g.V.Row.key_of l c.count_down.new.counts c.leave.new.queues.entries c.lose.new.owned.entries) (sym c.remove.ensures) (record {
+    subst (λ l. IsIndexed g.V.Row.key_of l c.count_down.new.counts c.leave.new.queues.entries c.lose.new.owned.items) (sym c.remove.ensures) (record {
       counts = counted_gone g.V.Row.key_of c.self.inside.table c.self.inside.counts c.count_down.new.counts c.args.key (find (has_key g.V.Row.key_of c.args.key) c.self.inside.table) refl (sym c.holds.ensures ∙ c.if-holds.true) c.len-len.ensures.distinct c.self.invariant.counts c.count_down.ensures;
       queued = queued_gone g.V.Row.key_of c.self.inside.table (queue_in c.self.inside.queues.entries) (queue_in c.leave.new.queues.entries) c.args.key c.self.invariant.queued c.leave.ensures;
-      owned = owned_gone g.V.Row.key_of c.self.inside.table (numbers_in c.self.inside.owned.entries) (numbers_in c.lose.new.owned.entries) c.args.key c.self.invariant.owned c.lose.ensures;
+      owned = owned_gone g.V.Row.key_of c.self.inside.table (numbers_in c.self.inside.owned.items) (numbers_in c.lose.new.owned.items) c.args.key c.self.invariant.owned c.lose.ensures;
     })
 
 pub returns-else-holds : goal.returns-else-holds
