@@ -1,5 +1,6 @@
 pub mod Asked
 pub mod Counted
+pub mod Counters
 pub mod Crashed
 pub mod Delivered
 pub mod Dispatched

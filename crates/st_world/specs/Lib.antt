@@ -17,3 +17,4 @@ pub mod Sorts
 pub mod Steps
 pub mod Takes
 pub mod Timed
+pub mod Counters

@@ -6,6 +6,7 @@ ghost use Rattle.st_rules.specs.Safety.{IsHead, is_event};
 ghost use Rattle.st_rules.specs.World as rules;
 ghost use Rattle.st_rules.specs.World.{fresh_world};
 ghost use Rattle.st_world_parts.specs.Pieces as pieces;
+ghost use Rattle.st_world.specs.Counters.{CountersHaveRoom};
 ghost use Rattle.st_world.specs.Safe.{GoesOnSafely, IsLedSafely};
 ghost use Rattle.st_world.specs.Steps.{StepsAs};
 
@@ -65,7 +66,8 @@ impl World {
 
     /// Runs one event, and returns what is observed of it, in order. A refusal changes nothing. Where memory runs out nothing is
     /// known of the world, and every later step returns `Memory`: discard it. Whatever it returns, a run leads to the world that it
-    /// leaves, and every run that leads there is safe; so is every run that led to the world before, with this event after it.
+    /// leaves, and every run that leads there is safe; so is every run that led to the world before, with this event after it. No counter
+    /// of the world is at its end (`counters`), so an error for memory is want of memory.
     pub fn step(&mut self, event: Event) -> Result<Vec<Observation>, WorldFault>
         requires event { is_event (length self.old.clocks) event ≡ true }
         requires room { self.old.tally.events < 2 ^ 29 }
@@ -74,9 +76,11 @@ impl World {
         ensures clocks { OnOk result (length self.new.clocks ≡ length self.old.clocks) }
         ensures led { IsLedSafely self.new }
         ensures safe { GoesOnSafely self.old event }
+        ensures counters { CountersHaveRoom self.old }
     {
         let parts: &mut Parts = &mut self.of;
         parts.runs_on_are_safe(&event);
+        parts.counters_have_room();
         let stepped = parts.step(&event);
         parts.runs_here_are_safe();
         stepped
@@ -97,9 +101,11 @@ impl World {
         ensures clocks { OnOk result (length self.new.clocks ≡ length self.old.clocks) }
         ensures led { IsLedSafely self.new }
         ensures safe { GoesOnSafely self.old event.now }
+        ensures counters { CountersHaveRoom self.old }
     {
         let parts: &mut Parts = &mut self.of;
         parts.runs_on_are_safe(event);
+        parts.counters_have_room();
         let stepped = parts.run(event, spare);
         parts.runs_here_are_safe();
         stepped
