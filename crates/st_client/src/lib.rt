@@ -16,5 +16,6 @@ mod step;
 pub use ends::LeaseEnds;
 pub use machine::ClientMachine;
 pub use node::ClientNode;
+pub use st_base::{LostRow, LostRows, NameAsk, NameRow, NameRows};
 pub use st_messages::{AppAnswer, Ask, NameOp, Note, Output, Outputs, StepFault};
 pub use st_rules::{ClientInput, Phase};
