@@ -59,7 +59,7 @@ use Rattle.st_laws_extents.proofs.CutRequests.Cutting.{Noted, n_hello, n_keep, n
 use Rattle.st_laws_extents.proofs.CutRequests.Law.{Hold, first, same_all}
 use Rattle.st_laws_extents.proofs.CutRequests.Seen.{ServedStep, cuts_served, none, server_all}
 use Rattle.st_promises.specs.Faults.{refuses}
-use Rattle.st_laws_cuts.specs.Acknowledged.{CutsAreAcknowledged, acknowledges, is_cut_line, is_done_line, is_refusal_line}
+use Rattle.st_promises.specs.Acknowledgements.{CutsAreAcknowledged, acknowledges, is_cut_line, is_done_line, is_refusal_line}
 
 -- no cut
 abbrev Never : FileId → PageNo → Type 0

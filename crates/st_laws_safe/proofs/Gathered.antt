@@ -2,12 +2,15 @@
 use Rattle.st_promises.specs.Safe.{EveryRunIsSafe, IsAllPromised}
 use Rattle.st_laws_leases.proofs.Sides.Kept.{most_promised}
 use Rattle.st_laws_requests.proofs.Cuts.Law as cuts
+use Rattle.st_laws_requests.proofs.Cuts.Names as named
 use Rattle.st_laws_leases.proofs.Order.Grants.{order_law}
 use Rattle.st_laws_extents.proofs.EveryRun.Law as whole
 use Rattle.st_laws_lines.proofs.Faults.{faults_law}
 use Rattle.st_laws_lines.proofs.Law.{counts_law}
 use Rattle.st_laws_reports.proofs.Losses.{losses_law}
 use Rattle.st_laws_cuts.proofs.Law as asked
+use Rattle.st_laws_cuts.proofs.Acknowledged as acknowledged
+use Rattle.st_laws_cuts.proofs.Changes as renamed
 use Rattle.st_laws_grants.proofs.Law as grants
 
 pub every_run : EveryRunIsSafe
@@ -37,6 +40,9 @@ every_run k clients servers disks blocks form es head events =
       cuts = asked.law k clients servers disks blocks form es head events;
       given = grants.law k clients servers disks blocks form es head events;
       rising = grants.rising k clients servers disks blocks form es head events;
+      acknowledged = acknowledged.law k clients servers disks blocks form es head events;
+      named = named.law k clients servers disks blocks form es head events;
+      renamed = renamed.law k clients servers disks blocks form es head events;
     }
 
 pub all_promised : IsAllPromised

@@ -1,3 +1,4 @@
+pub mod Acknowledgements
 pub mod Counts
 pub mod CutAsks
 pub mod Faults

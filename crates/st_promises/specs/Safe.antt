@@ -30,12 +30,15 @@ use Rattle.st_rules.specs.Safety.{
 }
 use Rattle.st_rules.specs.History.{traced}
 use Rattle.st_rules.specs.World.{World, fresh_world}
+use Rattle.st_promises.specs.Acknowledgements.{CutsAreAcknowledged}
 use Rattle.st_promises.specs.Counts.{TheCountsAreTrue, counts_open}
 use Rattle.st_promises.specs.CutAsks.{CutsAreAsked}
 use Rattle.st_promises.specs.Faults.{FaultsHaveACause}
 use Rattle.st_promises.specs.Grants.{GrantNumbersAreGivenOnce, GrantNumbersRise}
 use Rattle.st_promises.specs.Held.{DisksHoldWhatIsHard, held_open}
 use Rattle.st_promises.specs.Losses.{LossesAreTold, losses_open}
+use Rattle.st_promises.specs.NameAnswers.{NamesAnswerTruly, name_answers_open}
+use Rattle.st_promises.specs.NameChanges.{NamesChangeAsAsked}
 
 -- Safe: every promise is kept at every step of the run.
 pub record IsSafe (xs : List Step) : Type 0 where
@@ -62,6 +65,9 @@ pub record IsSafe (xs : List Step) : Type 0 where
   pub cuts : Throughout CutsAreAsked [] xs
   pub given : Throughout GrantNumbersAreGivenOnce [] xs
   pub rising : Throughout GrantNumbersRise [] xs
+  pub acknowledged : Throughout CutsAreAcknowledged [] xs
+  pub named : Throughout NamesAnswerTruly [] xs
+  pub renamed : Throughout NamesChangeAsAsked [] xs
 
 -- a run from the world of a head
 abbrev pub IsSafeRun : World → List Event → Type 0
@@ -83,5 +89,5 @@ pub record IsAllPromised : Type 0 where
 
 -- opens all that the promises of this crate are made of
 unfoldable pub promises_open : ⊤
-unfolding counts_open held_open losses_open
+unfolding counts_open held_open losses_open name_answers_open
 promises_open = tt
