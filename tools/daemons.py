@@ -22,9 +22,7 @@ class Daemons:
             (folder / "settings").write_text(" ".join(settings) + "\n")
 
     def start(self, name, engine, *words):
-        """Starts a node, for the first time or again. Where libtank has clients alone, servers are those of reference/."""
-        if engine == "library" and name[0] == "s" and not engines.library_has_servers():
-            engine = "reference"
+        """Starts a node, for the first time or again."""
         (self.folder / f"{name}.app").unlink(missing_ok=True)
         role = "server" if name[0] == "s" else "client"
         command = [sys.executable, str(HERE / "tankd"), role, name[1:], str(self.folder), "--engine", engine, "--tank", self.program, *words]

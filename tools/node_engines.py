@@ -6,7 +6,7 @@ starts the node, for the first time or again. `moment` is the moment of the step
 has, and `was_made` says whether the change of a step outlived the daemon.
 
     Program     the program's word `node`, as a process: the proved node. It reads the machine's clock by itself, begins fresh, and can't be started again
-    Library     libtank, the proved nodes in this process, where examples/ has it: any settings; a client's lives and a server's journal outlive a crash
+    Library     libtank, the proved nodes in this process: any settings; a client's lives and a server's journal outlive a crash
     Reference   the second implementation, reference/, in this process, with any settings. What outlives a crash is kept in a file
 """
 import ctypes
@@ -249,7 +249,7 @@ class Library:
         self.settings = self.tank.Settings(*numbers[:9])
         self.kept, self.journal = pathlib.Path(folder) / f"{name}.kept", pathlib.Path(folder) / f"{name}.journal"
         self.readings, self.moment, self.node, self.is_late, self.late, self.written = (0, 0), 0, None, False, [], time.monotonic()
-        self.is_torn = False
+        self.is_torn, self.is_longer = False, False
 
     def was_kept(self):
         """Whether an earlier daemon came as far as to keep something."""
@@ -275,6 +275,7 @@ class Library:
 
     def write(self, place, data):
         """Writes bytes of the journal, and waits until the disk has them."""
+        self.is_longer = True
         if self.is_late:
             self.late.append((place, data))
             return
@@ -308,13 +309,14 @@ class Library:
         if self.late and time.monotonic() > self.written + LATE:
             for place, piece in self.late:
                 os.pwrite(self.file, piece, place)
-            self.late, self.written = [], time.monotonic()
+            self.late, self.written, self.is_longer = [], time.monotonic(), True
         frames = self.node.step(now, struct.pack(">I", len(data)) + data)
         return [frame[4:] for frame in frames]
 
     def whole(self):
-        """The line of the step is written: notes where the journal ends."""
-        if self.is_server and self.node._step.flag:
+        """The line of the step is written: notes where the journal ends, where that is another place than before."""
+        if self.is_longer:
+            self.is_longer = False
             self.kept.write_text(str(self.journal_end()))
 
     def close(self):
@@ -323,22 +325,16 @@ class Library:
 
 @functools.lru_cache(maxsize=None)
 def tank_module():
-    """The layer over libtank, beside the library that TANK_LIBRARY names, or else from examples/."""
-    places = [comparing.ROOT / "examples/tank.py"]
-    if os.environ.get("TANK_LIBRARY"):
-        places.insert(0, pathlib.Path(os.environ["TANK_LIBRARY"]).parent / "tank.py")
-    for place in places:
-        if place.exists():
-            spec = importlib.util.spec_from_file_location("tank", place)
-            module = importlib.util.module_from_spec(spec)
-            spec.loader.exec_module(module)
-            return module
-    raise SystemExit("tankd: there is no examples/tank.py, and TANK_LIBRARY names no library with one beside it")
-
-
-def library_has_servers():
-    """Whether libtank has servers, and not clients alone."""
-    return hasattr(tank_module(), "Server")
+    """The layer over libtank, examples/tank.py, with the library that TANK_LIBRARY names, or else the one that tools/shared_library links."""
+    if "TANK_LIBRARY" not in os.environ:
+        linked = subprocess.run([comparing.ROOT / "tools/shared_library"], stdout=subprocess.PIPE, text=True)
+        if linked.returncode:
+            raise SystemExit("tankd: there is no libtank")
+        os.environ["TANK_LIBRARY"] = linked.stdout.strip()
+    spec = importlib.util.spec_from_file_location("tank", comparing.ROOT / "examples/tank.py")
+    module = importlib.util.module_from_spec(spec)
+    spec.loader.exec_module(module)
+    return module
 
 
 def engine_of(kind, name, words, folder, program):
@@ -347,6 +343,4 @@ def engine_of(kind, name, words, folder, program):
         if tuple(words) != NODE_WORDS:
             raise SystemExit(f"tankd: the program's nodes have the settings {' '.join(NODE_WORDS)} and no others")
         return Program(program, name, folder)
-    if kind == "library" and name[0] == "s" and not library_has_servers():
-        raise SystemExit("tankd: this libtank has clients alone; take --engine reference for servers")
     return (Library if kind == "library" else Reference)(name, words, folder)
