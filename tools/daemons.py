@@ -1,6 +1,8 @@
 """Starts and ends the daemons of a real run (tools/tankd), for the tools that make such runs."""
+import contextlib
 import os
 import pathlib
+import shutil
 import signal
 import socket
 import subprocess
@@ -13,19 +15,35 @@ HERE = pathlib.Path(__file__).resolve().parent
 PATIENCE = 30
 
 
+def can_be_apart():
+    """Whether this system gives processes another monotonic clock (Linux, to root alone)."""
+    return shutil.which("unshare") is not None and subprocess.run(["unshare", "--time", "--monotonic", "1", "true"], stderr=subprocess.DEVNULL).returncode == 0
+
+
 class Daemons:
     """The daemons of one folder. Every process that was started is ended by `close`."""
 
     def __init__(self, folder, program, settings=None):
         self.folder, self.program, self.processes = folder, program, {}
+        self.apart = {}  # by name the seconds by which a node's machine began earlier than this one
         if settings:
             (folder / "settings").write_text(" ".join(settings) + "\n")
+
+    def listen_on_ports(self, *names):
+        """These nodes speak over TCP."""
+        with contextlib.ExitStack() as held:
+            ports = [held.enter_context(socket.socket()) for _ in names]
+            for free in ports:
+                free.bind(("127.0.0.1", 0))
+            lines = [f"{name} 127.0.0.1 {free.getsockname()[1]}\n" for name, free in zip(names, ports)]
+        (self.folder / "addresses").write_text("".join(lines))
 
     def start(self, name, engine, *words):
         """Starts a node, for the first time or again."""
         (self.folder / f"{name}.app").unlink(missing_ok=True)
         role = "server" if name[0] == "s" else "client"
-        command = [sys.executable, str(HERE / "tankd"), role, name[1:], str(self.folder), "--engine", engine, "--tank", self.program, *words]
+        machine = ["unshare", "--time", "--monotonic", str(self.apart[name])] if name in self.apart else []
+        command = [*machine, sys.executable, str(HERE / "tankd"), role, name[1:], str(self.folder), "--engine", engine, "--tank", self.program, *words]
         with open(self.folder / f"{name}.log", "a", encoding="utf-8") as log:
             self.processes[name] = subprocess.Popen(command, stdin=subprocess.DEVNULL, stderr=log, start_new_session=True, preexec_fn=engines.end_with_parent)
 
