@@ -26,7 +26,8 @@
  * next. Timers move only in steps: give each node a tick often ("Building on it" says how often).
  *
  * Results. Each call returns a number of TANK_RESULTS. All but TANK_DONE and TANK_STARVED leave the node as it was, so that the call may
- * be made again. tank_name and tank_text tell a number's name and text.
+ * be made again. tank_name and tank_text tell a number's name and text. Where a call is refused, what it tells besides is 0, but where
+ * it is said otherwise.
  *
  * Memory. Nodes use malloc, realloc and free. Where memory runs out, a call returns TANK_NO_MEMORY and has done nothing; no byte that is to
  * be taken out is lost. Where it runs out within a step, the node is crashed, as by a crash of its machine, and the step is
@@ -121,7 +122,7 @@ struct tank_client {
  * The lives outlive the client. Keep those that tank_client_at tells after this call, before any frame of the client is sent; and again
  * after each step that tells new_lives, before any frame of that step is sent.
  *
- * TANK_BUSY, TANK_SETTINGS_*, TANK_NUMBER, TANK_SERVERS, TANK_LIVES, TANK_NO_MEMORY: the handle stays as it was. */
+ * TANK_BUSY, TANK_SETTINGS_*, TANK_NUMBER, TANK_SERVERS, TANK_LIVES, TANK_NO_MEMORY, in this order: the handle stays as it was. */
 uint32_t tank_client_open(struct tank_client *client, const struct tank_settings *settings, uint16_t id, const uint64_t *lives, size_t servers);
 
 struct tank_client_step {
@@ -131,8 +132,8 @@ struct tank_client_step {
 
 /* Takes a step at this moment for one frame of `length` bytes. All that came of the step before must have been taken out.
  *
- * TANK_ABSENT, TANK_CRASHED, TANK_UNTAKEN, TANK_TIME, TANK_CUT to TANK_TOO_LONG, TANK_NO_MEMORY, TANK_FULL, in this order but for memory: no
- * step was taken. TANK_STARVED: the client is crashed, in the lives from before the step. */
+ * TANK_ABSENT, TANK_CRASHED, TANK_UNTAKEN, TANK_TIME, TANK_CUT to TANK_TOO_LONG, TANK_FULL, in this order, and TANK_NO_MEMORY of a client that
+ * runs: no step was taken. TANK_STARVED: the client is crashed, in the lives from before the step. */
 uint32_t tank_client_step(struct tank_client *client, uint64_t now, const uint8_t *frame, size_t length, struct tank_client_step *step);
 
 /* Takes the next bytes of the frames that came of the last step, at most `room`; *count says how many, and 0 says that all were taken.
@@ -146,7 +147,7 @@ struct tank_association {
     uint32_t dirty;     /* 1 where the client has a dirty page of this server */
 };
 
-/* What the client has at a server, at this moment. It is no step. TANK_ABSENT. */
+/* What the client has at a server, at this moment. It is no step. TANK_ABSENT: *association stays as it was. */
 uint32_t tank_client_at(struct tank_client *client, uint16_t server, uint64_t now, struct tank_association *association);
 
 /* Closes a client and frees what it holds. Its dirty pages and locks are gone, as after a crash. A handle that is not open stays so. */
@@ -181,9 +182,9 @@ struct tank_shape {
  * without grace. Else it is the server that the journal stands for, started in the next epoch, in grace. The bytes are read in this call
  * alone. A record is to be kept before the first step.
  *
- * TANK_BUSY, TANK_SETTINGS_*, TANK_SHAPE, TANK_TIME, TANK_JOURNAL_SIZE, TANK_JOURNAL_DAMAGED (its place in *at), TANK_JOURNAL_FULL,
- * TANK_JOURNAL_FOREIGN, TANK_EPOCHS, TANK_NO_MEMORY: the handle stays as it was. What a crash may leave of a journal that was kept as said
- * above is never damaged. */
+ * TANK_BUSY, TANK_SETTINGS_*, TANK_SHAPE, TANK_TIME, TANK_JOURNAL_SIZE, TANK_JOURNAL_DAMAGED (its place in *at), TANK_JOURNAL_FULL (less than
+ * TANK_RECORD_MOST bytes behind its gate), TANK_JOURNAL_FOREIGN, TANK_EPOCHS, in this order, and TANK_NO_MEMORY behind TANK_JOURNAL_SIZE: the
+ * handle stays as it was. What a crash may leave of a journal that was kept as said above is never damaged. */
 uint32_t tank_server_open(struct tank_server *server, const struct tank_settings *settings, const struct tank_shape *shape, uint64_t now, const uint8_t *journal, size_t size, uint64_t *at);
 
 struct tank_server_step {
@@ -193,8 +194,9 @@ struct tank_server_step {
 
 /* Takes a step at this moment for one frame of `length` bytes.
  *
- * TANK_ABSENT, TANK_UNKEPT, TANK_CRASHED, TANK_UNTAKEN, TANK_TIME, TANK_CUT to TANK_TOO_LONG, TANK_NO_MEMORY, TANK_FULL, TANK_JOURNAL_FULL (of
- * a request that may make a change): no step was taken. TANK_STARVED: the server is crashed, and nothing is to be kept or taken out. */
+ * TANK_ABSENT, TANK_UNKEPT, TANK_CRASHED, TANK_UNTAKEN, TANK_TIME, TANK_CUT to TANK_TOO_LONG, TANK_FULL, TANK_JOURNAL_FULL (of a request for a
+ * change, where the journal has less than TANK_RECORD_MOST bytes behind its gate), in this order, and TANK_NO_MEMORY of a server that runs: no
+ * step was taken. TANK_STARVED: the server is crashed, and nothing is to be kept or taken out. */
 uint32_t tank_server_step(struct tank_server *server, uint64_t now, const uint8_t *frame, size_t length, struct tank_server_step *step);
 
 struct tank_record {
@@ -205,13 +207,14 @@ struct tank_record {
 /* The bytes of a record are at most so many. */
 #define TANK_RECORD_MOST 526
 
-/* Writes the record that is to be kept to out[0 .. record->size). It may be asked for again. TANK_ABSENT, TANK_NO_MEMORY, TANK_SHORT_ROOM. */
+/* Writes the record that is to be kept to out[0 .. record->size). It may be asked for again. TANK_ABSENT, TANK_NO_MEMORY, TANK_SHORT_ROOM: out
+ * stays as it was; at TANK_SHORT_ROOM the record's gate and size are told. */
 uint32_t tank_server_record(struct tank_server *server, uint8_t *out, size_t room, struct tank_record *record);
 
-/* Says that the record and its gate were written and synced. TANK_ABSENT. */
+/* Says that the record and its gate were written and synced. Where nothing is to be kept it changes nothing. TANK_ABSENT. */
 uint32_t tank_server_kept(struct tank_server *server);
 
-/* As of a client. TANK_ABSENT, TANK_UNKEPT, TANK_NO_MEMORY. */
+/* As of a client. TANK_ABSENT, TANK_UNKEPT while a record is to be kept, TANK_NO_MEMORY. */
 uint32_t tank_server_take(struct tank_server *server, uint8_t *out, size_t room, size_t *count);
 
 /* The epoch of a server; 0 where the handle is not open. */

@@ -70,6 +70,10 @@ step_keeps id w bytes old new now frame k s =
       room = λ x q. room_in bytes x new.size new.gate (s.size ∙ k.size) within (s.room x q);
     }
 
+-- bytes that are taken out are not in the journal
+pub taken_keeps : (id : ServerId) (w : Shape) (bytes left : List ℕ) (e : EmbeddedServer) → IsKeptIn id w bytes e → IsKeptIn id w bytes (record e { left = left })
+taken_keeps id w bytes left e k = record { changes = k.changes; stable = k.stable; stands = k.stands; told = k.told; gate = k.gate; size = k.size; room = k.room }
+
 -- one change more
 gate_behind : (xs : List Change) (x : Change) (gate : ℕ) → gate ≡ length (all_opened xs) → gate + room_for x ≡ length (all_opened (xs ++ x ∷ []))
 gate_behind xs x gate e =
@@ -107,9 +111,9 @@ led : (start a b : Stable) (xs ys : List Change) → after_changes (Some start) 
 led start a b xs ys e f same = some_is a b (sym e ∙ ap (after_changes (Some start)) same ∙ f)
 
 pub goes_on : (id : ServerId) (k : Config) (w : Shape) (now : Stamp) (bytes left : List ℕ) (e again : EmbeddedServer) → IsKeptIn id w bytes e → MayBeLeft (to_keep e) e.gate bytes left →
-    Opens id k w now left again → GoesOn id k w now bytes e again
+    Opens id k w now left again → GoesOn id k w now bytes left e again
 goes_on id k w now bytes left e again i may o =
-    record { before = i.stable; stood = (i.changes, i.stands); changes = o.changes; stable = o.stable; is = by (to_keep e) refl i.told may; node = o.node }
+    record { before = i.stable; stood = (i.changes, i.stands); changes = o.changes; stable = o.stable; stands = o.stands; is = by (to_keep e) refl i.told may; node = o.node }
   where
     start : Stable
     start = start_of id w

@@ -1,7 +1,7 @@
 -- An opened server.
 use Rattle.std.proofs.Common.{◌≡◌, ℕ, zero, suc, ◌<◌, ◌≤◌, true, refl, sym, arith}
 use Rattle.std.proofs.Common.{subst}
-use Rattle.std.specs.Prelude.{Option, Some, IfSome, Result, Ok, Err, IfOk}
+use Rattle.std.specs.Prelude.{Option, Some, IfSome, Result, Ok, Err, IfOk, OnOk}
 use Rattle.st_base.specs.declared.config.Config.{Config}
 use Rattle.st_base.specs.declared.ids.ServerId.{ServerId}
 use Rattle.st_base.specs.declared.ids.Stamp.{Stamp}
@@ -18,6 +18,10 @@ use Rattle.st_embed.specs.declared.server.Shape.{Shape}
 pub if_ok : {A E : Type 0} (r : Result A E) (P Q : A → Type 0) → ((x : A) → P x → Q x) → IfOk r P → IfOk r Q
 if_ok (Ok x) P Q f h = f x h
 if_ok (Err e) P Q f h = h
+
+pub on_both : {A E : Type 0} (r : Result A E) (P Q R : Type 0) → (P → Q → R) → OnOk r P → OnOk r Q → OnOk r R
+on_both (Ok x) P Q R f g h = f g h
+on_both (Err e) P Q R f g h = h
 
 pub begun_later : (id : ServerId) (k : Config) (w : Shape) (now : Stamp) (n : ℕ) (t : Stable) → 0 < n → start_node (crashed_node id k t) now ≡ begun id k w now n t
 begun_later id k w now zero t few = absurd (omega (arith, few))

@@ -1,5 +1,5 @@
 -- A client inside another program: what it holds, and what its calls make of it.
-use Rattle.std.specs.Prelude.{◌≡◌, ◌≢◌, ◌<◌, ℕ, Bool, true, false, ◌==◌, ◌&&◌, not, nat_le, if◌then◌else◌, List, [], length, map, Ok, Err}
+use Rattle.std.specs.Prelude.{◌≡◌, ◌≢◌, ◌<◌, ◌≤◌, ℕ, Bool, true, false, ◌==◌, ◌&&◌, ◌||◌, not, nat_le, if◌then◌else◌, List, [], length, map, Ok, Err, IsOk}
 use Rattle.std.specs.List.{list_all}
 use Rattle.st_base.specs.declared.config.Config.{Config}
 use Rattle.st_base.specs.Config.{check}
@@ -48,13 +48,28 @@ opened id k lives = record { node = begun id k lives; left = []; last = record {
 abbrev pub is_kept : ℕ → Bool
 is_kept n = is_begun (life n) && is_low (life n)
 
--- why it is not opened
+-- the number of a client
+abbrev pub is_client : ClientId → Bool
+is_client id = nat_le 1 id.0 && nat_le id.0 16
+
+-- the lives of a client: it was never started, or each one may be kept
+abbrev pub are_lives : List ℕ → Bool
+are_lives lives = list_all is_none lives || list_all is_kept lives
+
+-- a client that may be opened
+pub record MayOpen (id : ClientId) (k : Config) (lives : List ℕ) : Type 0 where
+  pub checked : IsOk (check k)
+  pub number : is_client id ≡ true
+  pub servers : length lives ≤ 4
+  pub lives_so : are_lives lives ≡ true
+
+-- why it is not opened, in the order of the checks; memory may be wanting for any that may be opened
 abbrev pub NotOpened : ClientId → Config → List ℕ → OpenFault → Type 0
 NotOpened id k lives (opening.Settings r) = check k ≡ Err r
-NotOpened id k lives opening.Number = (nat_le 1 id.0 && nat_le id.0 16) ≡ false
-NotOpened id k lives opening.Servers = 4 < length lives
-NotOpened id k lives opening.Lives = (list_all is_none lives ≡ false) × (list_all is_kept lives ≡ false)
-NotOpened id k lives opening.Memory = Unit {0}
+NotOpened id k lives opening.Number = IsOk (check k) × (is_client id ≡ false)
+NotOpened id k lives opening.Servers = IsOk (check k) × (is_client id ≡ true) × (4 < length lives)
+NotOpened id k lives opening.Lives = IsOk (check k) × (is_client id ≡ true) × (length lives ≤ 4) × (are_lives lives ≡ false)
+NotOpened id k lives opening.Memory = MayOpen id k lives
 
 -- Steps.
 
@@ -78,15 +93,15 @@ pub record Steps (old new : EmbeddedClient) (now : Stamp) (frame : List ℕ) : T
   pub left : new.left ≡ (handle (Client old.node) now message).out
   pub last : new.last ≡ now
 
--- why there is no step
+-- Why there is no step, in the order of the checks. Memory may be wanting for one that runs; in a step that may be taken the node crashes then.
 abbrev pub Refuses : EmbeddedClient → EmbeddedClient → Stamp → List ℕ → StepRefusal → Type 0
 Refuses old new now frame refusals.Crashed = (old.node.running ≡ false) × (new ≡ old)
-Refuses old new now frame refusals.Untaken = (old.left ≢ []) × (new ≡ old)
-Refuses old new now frame refusals.Time = (is_in_time old.last now ≡ false) × (new ≡ old)
-Refuses old new now frame (refusals.Frame f) = (heard frame ≡ Err f) × (new ≡ old)
-Refuses old new now frame refusals.Full = (HasRoom old.node.state → ⊥) × (new ≡ old)
-Refuses old new now frame refusals.Memory = new ≡ old
-Refuses old new now frame refusals.Starved = new ≡ record { node = crash_node old.node; left = []; last = now }
+Refuses old new now frame refusals.Untaken = (old.node.running ≡ true) × (old.left ≢ []) × (new ≡ old)
+Refuses old new now frame refusals.Time = (old.node.running ≡ true) × (old.left ≡ []) × (is_in_time old.last now ≡ false) × (new ≡ old)
+Refuses old new now frame (refusals.Frame f) = (old.node.running ≡ true) × (old.left ≡ []) × (is_in_time old.last now ≡ true) × (heard frame ≡ Err f) × (new ≡ old)
+Refuses old new now frame refusals.Full = (old.node.running ≡ true) × (old.left ≡ []) × (is_in_time old.last now ≡ true) × IsOk (heard frame) × (HasRoom old.node.state → ⊥) × (new ≡ old)
+Refuses old new now frame refusals.Memory = (old.node.running ≡ true) × (new ≡ old)
+Refuses old new now frame refusals.Starved = ((m : Message) × MayStep old now frame m) × (new ≡ record { node = crash_node old.node; left = []; last = now })
 
 -- A life at one of the servers is another one.
 abbrev pub has_new_life : ClientState → ClientState → Bool

@@ -38,12 +38,13 @@ abbrev pub IsLeftOf : Stable → Stable → Option Change → Stable → Type 0
 IsLeftOf before now None s = s ≡ now
 IsLeftOf before now (Some x) s = (s ≡ before) ⊎ (s ≡ now)
 
--- The server opened again is one that crashed with such a stable part and is started; or, where no change was ever kept, one that was never
--- started.
-pub record GoesOn (id : ServerId) (k : Config) (w : Shape) (now : Stamp) (bytes : List ℕ) (e again : EmbeddedServer) : Type 0 where
+-- The server opened again on the bytes that were left is one that crashed with such a stable part, for which these bytes stand, and is started;
+-- or, where no change was ever kept, one that was never started.
+pub record GoesOn (id : ServerId) (k : Config) (w : Shape) (now : Stamp) (bytes left : List ℕ) (e again : EmbeddedServer) : Type 0 where
   pub before : Stable
   pub stood : (changes : List Change) × StandsFor (start_of id w) bytes changes before
   pub changes : List Change
   pub stable : Stable
+  pub stands : StandsFor (start_of id w) left changes stable
   pub is : IsLeftOf before (stable_now e) (to_keep e) stable
   pub node : node_of again ≡ begun id k w now (length changes) stable

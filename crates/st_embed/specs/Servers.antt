@@ -1,5 +1,5 @@
 -- A server inside another program: what it holds, and what its calls make of it.
-use Rattle.std.specs.Prelude.{◌≡◌, ◌≢◌, ◌⊎◌, ◌≤◌, ◌<◌, ◌+◌, ◌^◌, ℕ, zero, suc, Bool, true, false, if◌then◌else◌, List, [], ◌∷◌, ◌++◌, length, Option, Some, None, IfSome, Ok, Err}
+use Rattle.std.specs.Prelude.{◌≡◌, ◌≢◌, ◌⊎◌, ◌≤◌, ◌<◌, ◌+◌, ◌^◌, ℕ, zero, suc, Bool, true, false, if◌then◌else◌, List, [], ◌∷◌, ◌++◌, length, Option, Some, None, IfSome, is_some, Ok, Err, IsOk}
 use Rattle.st_base.specs.declared.config.Config.{Config}
 use Rattle.st_base.specs.Config.{check}
 use Rattle.st_base.specs.declared.ids.ServerId.{ServerId}
@@ -74,11 +74,24 @@ abbrev pub begun : ServerId → Config → Shape → Stamp → ℕ → Stable �
 begun id k w now zero stable = fresh_node id k w.servers w.disks w.blocks
 begun id k w now (suc n) stable = start_node (crashed_node id k stable) now
 
+-- a server that may be opened on so many bytes, as far as the bytes themselves are not looked at
+pub record MayOpen (id : ServerId) (k : Config) (w : Shape) (now : Stamp) (size : ℕ) : Type 0 where
+  pub checked : IsOk (check k)
+  pub limits : IsWithinLimits id.0 w.servers w.disks w.blocks
+  pub in_time : now.0 ≤ 2 ^ 62
+  pub some : 1 ≤ size
+  pub small : size < 4294967296
+
+-- a server that so many changes lead to may be started: it was never started before, or an epoch was begun and another one is left
+abbrev pub MayStart : ℕ → Stable → Type 0
+MayStart n s = (n ≡ 0) ⊎ ((1 ≤ s.epoch.0) × (s.epoch.0 < 4294967295))
+
 -- An opened server: the journal stands for its stable part before the change that begins the epoch, which is to be kept.
 pub record Opens (id : ServerId) (k : Config) (w : Shape) (now : Stamp) (bytes : List ℕ) (e : EmbeddedServer) : Type 0 where
   pub changes : List Change
   pub stable : Stable
   pub stands : StandsFor (start_of id w) bytes changes stable
+  pub may_start : MayStart (length changes) stable
   pub node : node_of e ≡ begun id k w now (length changes) stable
   pub changed : e.server.changed ≡ Some Epoch
   pub told : Tells stable (stable_now e) (Some Epoch)
@@ -110,17 +123,17 @@ pub record IsNotStarted (start : Stable) (bytes : List ℕ) (f : ServerFault) : 
   pub stands : StandsFor start bytes changes stable
   pub why : NotStarted stable f
 
--- why a server is not opened
+-- why a server is not opened, in the order of the checks; memory may be wanting for any that may be opened
 abbrev pub NotOpened : ServerId → Config → Shape → Stamp → List ℕ → ServerFault → Type 0
 NotOpened id k w now bytes (opening.Settings r) = check k ≡ Err r
-NotOpened id k w now bytes opening.Shape = IsWithinLimits id.0 w.servers w.disks w.blocks → ⊥
-NotOpened id k w now bytes opening.Time = 2 ^ 62 < now.0
-NotOpened id k w now bytes opening.Size = (bytes ≡ []) ⊎ (4294967295 < length bytes)
-NotOpened id k w now bytes (opening.Damaged at) = IsDamaged (start_of id w) bytes at
-NotOpened id k w now bytes opening.Full = IsFull (start_of id w) bytes
-NotOpened id k w now bytes opening.NoEpoch = IsNotStarted (start_of id w) bytes opening.NoEpoch
-NotOpened id k w now bytes opening.Epochs = IsNotStarted (start_of id w) bytes opening.Epochs
-NotOpened id k w now bytes opening.Memory = Unit {0}
+NotOpened id k w now bytes opening.Shape = IsOk (check k) × (IsWithinLimits id.0 w.servers w.disks w.blocks → ⊥)
+NotOpened id k w now bytes opening.Time = IsOk (check k) × IsWithinLimits id.0 w.servers w.disks w.blocks × (2 ^ 62 < now.0)
+NotOpened id k w now bytes opening.Size = IsOk (check k) × IsWithinLimits id.0 w.servers w.disks w.blocks × (now.0 ≤ 2 ^ 62) × ((bytes ≡ []) ⊎ (4294967295 < length bytes))
+NotOpened id k w now bytes (opening.Damaged at) = MayOpen id k w now (length bytes) × IsDamaged (start_of id w) bytes at
+NotOpened id k w now bytes opening.Full = MayOpen id k w now (length bytes) × IsFull (start_of id w) bytes
+NotOpened id k w now bytes opening.NoEpoch = MayOpen id k w now (length bytes) × IsNotStarted (start_of id w) bytes opening.NoEpoch
+NotOpened id k w now bytes opening.Epochs = MayOpen id k w now (length bytes) × IsNotStarted (start_of id w) bytes opening.Epochs
+NotOpened id k w now bytes opening.Memory = MayOpen id k w now (length bytes)
 
 -- Steps.
 
@@ -157,29 +170,43 @@ pub record Steps (old new : EmbeddedServer) (now : Stamp) (frame : List ℕ) : T
 abbrev pub IsStarved : ServerNode → ServerNode → Stamp → Message → Type 0
 IsStarved old new now m = (new ≡ crash_node old) ⊎ ((n : ServerNode) × (Server n ≡ (handle (Server old) now m).node) × (new ≡ crash_node n))
 
--- Memory ran out in a step: the node is crashed, and nothing is to be kept or taken out.
+-- Memory ran out in a step that may be taken: the node is crashed, and nothing is to be kept or taken out.
 pub record Starves (old new : EmbeddedServer) (now : Stamp) (frame : List ℕ) : Type 0 where
   pub message : Message
-  pub heard_so : heard frame ≡ Ok message
+  pub may : MayStep old now frame message
   pub node : IsStarved (node_of old) (node_of new) now message
   pub unkept : new.unkept ≡ false
   pub left : new.left ≡ []
 
--- why a step as of any node is refused
+-- why a step as of any node is refused, in the order of the checks
 abbrev pub RefusesStep : EmbeddedServer → EmbeddedServer → Stamp → List ℕ → StepRefusal → Type 0
 RefusesStep old new now frame refusals.Crashed = ((node_of old).running ≡ false) × (new ≡ old)
-RefusesStep old new now frame refusals.Untaken = (old.left ≢ []) × (new ≡ old)
-RefusesStep old new now frame refusals.Time = (is_in_time old.last now ≡ false) × (new ≡ old)
-RefusesStep old new now frame (refusals.Frame f) = (heard frame ≡ Err f) × (new ≡ old)
-RefusesStep old new now frame refusals.Full = (HasRoom (node_of old).state → ⊥) × (new ≡ old)
-RefusesStep old new now frame refusals.Memory = new ≡ old
+RefusesStep old new now frame refusals.Untaken = ((node_of old).running ≡ true) × (old.left ≢ []) × (new ≡ old)
+RefusesStep old new now frame refusals.Time = ((node_of old).running ≡ true) × (old.left ≡ []) × (is_in_time old.last now ≡ false) × (new ≡ old)
+RefusesStep old new now frame (refusals.Frame f) = ((node_of old).running ≡ true) × (old.left ≡ []) × (is_in_time old.last now ≡ true) × (heard frame ≡ Err f) × (new ≡ old)
+RefusesStep old new now frame refusals.Full =
+    ((node_of old).running ≡ true) × (old.left ≡ []) × (is_in_time old.last now ≡ true) × IsOk (heard frame) × (HasRoom (node_of old).state → ⊥) × (new ≡ old)
+RefusesStep old new now frame refusals.Memory = ((node_of old).running ≡ true) × (new ≡ old)
 RefusesStep old new now frame refusals.Starved = Starves old new now frame
 
--- why a step is refused
+-- a step that may be taken asks for a change, and the journal may have too little room for it
+pub record IsJournalFull (old : EmbeddedServer) (now : Stamp) (frame : List ℕ) : Type 0 where
+  pub message : Message
+  pub may : MayStep old now frame message
+  pub asks : is_some (asked_of message.body) ≡ true
+  pub few : room_behind old.size old.gate < 526
+
+-- why a step is refused, in the order of the checks
 abbrev pub Refuses : EmbeddedServer → EmbeddedServer → Stamp → List ℕ → ServerRefusal → Type 0
 Refuses old new now frame journal.Unkept = (old.unkept ≡ true) × (new ≡ old)
-Refuses old new now frame (journal.Step r) = RefusesStep old new now frame r
-Refuses old new now frame journal.JournalFull = (room_behind old.size old.gate < 526) × (new ≡ old)
+Refuses old new now frame (journal.Step r) = (old.unkept ≡ false) × RefusesStep old new now frame r
+Refuses old new now frame journal.JournalFull = (old.unkept ≡ false) × IsJournalFull old now frame × (new ≡ old)
+
+-- why no bytes are taken out: a change is to be kept, or memory
+abbrev pub NotTaken : EmbeddedServer → ServerRefusal → Type 0
+NotTaken e journal.Unkept = e.unkept ≡ true
+NotTaken e (journal.Step refusals.Memory) = e.unkept ≡ false
+NotTaken e r = ⊥
 
 -- Keeping a change: its record is the bytes that stand behind the gate, with the next gate, which is not open.
 abbrev pub record_by : Option Change → List ℕ

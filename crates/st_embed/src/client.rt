@@ -1,11 +1,12 @@
 // A client inside another program.
-ghost use Rattle.std.specs.Prelude.{◌≡◌, ◌≤◌, ◌^◌, ◌&&◌, true, nat_le, map, Ok, IsOk, IfOk, IfErr, OnOk, OnErr, length};
+ghost use Rattle.std.specs.Prelude.{◌≡◌, ◌≤◌, ◌^◌, true, map, Ok, IsOk, IfOk, IfErr, OnOk, OnErr, length};
 ghost use Rattle.std.specs.List.{list_all, flat_map};
 ghost use Rattle.st_base.specs.Config as settings;
 ghost use Rattle.st_client.specs.Inputs.{is_sent};
 ghost use Rattle.st_client.specs.Room.{HasRoom};
 ghost use Rattle.st_client.specs.Nodes.{crashed_node};
-ghost use Rattle.st_embed.specs.Clients.{MayStep, NotOpened, Refuses, Steps, begun, has_new_life, is_kept, life, opened};
+ghost use Rattle.st_embed.specs.Clients.{MayOpen, MayStep, NotOpened, Refuses, Steps, are_lives, begun, has_new_life, is_kept, life, opened};
+ghost use Rattle.st_embed.specs.Clients as clients;
 ghost use Rattle.st_embed.specs.Taking.{Takes};
 ghost use Rattle.st_messages.specs.Fits.{fits};
 ghost use Rattle.st_node.specs.Runs.{client_frame, handle};
@@ -45,7 +46,7 @@ impl Model for EmbeddedClient {
 
 /// Whether this is the number of a client.
 fn is_client(id: ClientId) -> bool
-    ensures { result ≡ (nat_le 1 id.0 && nat_le id.0 16) }
+    ensures { result ≡ clients.is_client id }
 {
     1 <= id.0 && id.0 <= 16
 }
@@ -78,10 +79,10 @@ fn begin(
     lives: &[u64],
 ) -> Result<ClientNode, OpenFault>
     requires checked { IsOk (settings.check config.now) }
-    requires least { 1 ≤ id.0 }
-    requires most { id.0 ≤ 16 }
+    requires number { clients.is_client id ≡ true }
     requires servers { length lives.now ≤ 4 }
     ensures ok { IfOk result (λ n. n ≡ begun id config.now lives.now) }
+    ensures lives { OnOk result (are_lives lives.now ≡ true) }
     ensures err { IfErr result (NotOpened id config.now lives.now) }
 {
     if are_none(lives) {
@@ -138,6 +139,7 @@ impl EmbeddedClient {
         config: &Config,
         lives: &[u64],
     ) -> Result<EmbeddedClient, OpenFault>
+        ensures may { OnOk result (MayOpen id config.now lives.now) }
         ensures ok { IfOk result (λ c. c ≡ opened id config.now lives.now) }
         ensures err { IfErr result (NotOpened id config.now lives.now) }
     {

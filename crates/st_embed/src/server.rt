@@ -1,12 +1,12 @@
 // A server inside another program.
-ghost use Rattle.std.specs.Prelude.{◌≡◌, ◌≤◌, ◌^◌, [], true, false, None, Some, is_some, IsOk, IfOk, IfErr, IfSome, OnOk, OnErr, length};
+ghost use Rattle.std.specs.Prelude.{◌≡◌, ◌≤◌, ◌<◌, ◌^◌, [], true, false, None, Some, is_some, IsOk, IfOk, IfErr, IfSome, OnOk, OnErr, length};
 ghost use Rattle.std.specs.List.{list_all, flat_map};
 ghost use Rattle.std.specs.Option.{option_copied};
 ghost use Rattle.st_base.specs.Config as settings;
 ghost use Rattle.st_durable.specs.Durable as durable;
 ghost use Rattle.st_durable.specs.Durable.{Tells};
 ghost use Rattle.st_extents.specs.Layout.{IsWithinLimits};
-ghost use Rattle.st_embed.specs.Servers.{IsAskedBy, IsStarved, MayStep, NotOpened, IsOfServer, NotStarted, Opens, Refuses, RefusesStep, Steps, begun, kept, len_by, record_by, start_of, to_keep};
+ghost use Rattle.st_embed.specs.Servers.{IsAskedBy, IsStarved, MayOpen, MayStart, MayStep, NotOpened, NotTaken, IsOfServer, NotStarted, Opens, Refuses, RefusesStep, Steps, begun, kept, len_by, record_by, start_of, to_keep};
 ghost use Rattle.st_embed.specs.Taking.{Takes};
 ghost use Rattle.st_embed.specs.declared.fault.ServerFault.TheVariants.{Memory};
 ghost use Rattle.st_journal.specs.Opened.{room_behind};
@@ -101,6 +101,8 @@ fn restarted(
     ensures node { IfOk result (λ d. d.node ≡ server.start_node (crashed_node id config.now (parts.stable_of stable)) now) }
     ensures changed { IfOk result (λ d. d.changed ≡ Some kinds.Epoch) }
     ensures told { IfOk result (λ d. Tells (parts.stable_of stable) d.node.state.stable (Some kinds.Epoch)) }
+    ensures begun { OnOk result (1 ≤ (parts.stable_of stable).epoch.0) }
+    ensures left { OnOk result ((parts.stable_of stable).epoch.0 < 4294967295) }
     ensures err { IfErr result (NotStarted (parts.stable_of stable)) }
 {
     if stable.epoch.0 == 0 {
@@ -164,6 +166,7 @@ fn opened(
     ensures node { IfOk result (λ d. d.node ≡ begun id config.now shape now changes (parts.stable_of stable)) }
     ensures changed { IfOk result (λ d. d.changed ≡ Some kinds.Epoch) }
     ensures told { IfOk result (λ d. Tells (parts.stable_of stable) d.node.state.stable (Some kinds.Epoch)) }
+    ensures may { OnOk result (MayStart changes (parts.stable_of stable)) }
     ensures err { IfErr result (NotStarted (parts.stable_of stable)) }
 {
     if changes == 0 {
@@ -249,6 +252,7 @@ impl EmbeddedServer {
         now: Stamp,
         journal: &[u8],
     ) -> Result<EmbeddedServer, ServerFault>
+        ensures may { OnOk result (MayOpen id config.now shape now (length journal.now)) }
         ensures ok { IfOk result (Opens id config.now shape now journal.now) }
         ensures err { IfErr result (NotOpened id config.now shape now journal.now) }
     {
@@ -433,6 +437,7 @@ impl EmbeddedServer {
     pub fn take(&mut self, out: &mut [u8]) -> Result<usize, ServerRefusal>
         ensures ok { IfOk result (Takes self.old.left self.new.left out.old out.new) }
         ensures kept { OnOk result (self.old.unkept ≡ false) }
+        ensures err { IfErr result (NotTaken self.old) }
         ensures others { self.new ≡ record self.old { left = self.new.left } }
         ensures same { OnErr result (self.new ≡ self.old) }
         ensures room { OnErr result (out.new ≡ out.old) }

@@ -6,7 +6,7 @@ use Rattle.st_base.specs.declared.ids.ServerId.{ServerId}
 use Rattle.st_base.specs.declared.ids.Stamp.{Stamp}
 use Rattle.st_rules.specs.Client.{has_dirty_with, lease_end_with, phase_with}
 use Rattle.st_rules.specs.World.{life_with}
-use Rattle.st_embed.specs.Clients.{EmbeddedClient, NotOpened, Refuses, Steps, has_new_life, opened}
+use Rattle.st_embed.specs.Clients.{EmbeddedClient, MayOpen, NotOpened, Refuses, Steps, has_new_life, opened}
 use Rattle.st_embed.specs.Taking.{Takes}
 use Rattle.st_embed.specs.declared.fault.OpenFault.{OpenFault}
 use Rattle.st_embed.specs.declared.fault.StepRefusal.{StepRefusal}
@@ -37,26 +37,30 @@ abbrev pub NoClientOpened : Option EmbeddedClient → Option EmbeddedClient → 
 NoClientOpened None new id s lives code = (new ≡ None) × NotOpenedFor id s lives code
 NoClientOpened (Some c) new id s lives code = (new ≡ Some c) × (code ≡ codes.BUSY)
 
--- a client is opened
+-- a client that may be opened is opened
 abbrev pub ClientOpens : Option EmbeddedClient → Option EmbeddedClient → ℕ → TankSettings → List ℕ → Type 0
-ClientOpens None new id s lives = new ≡ Some (opened (client_id id) (settings_of s) lives)
+ClientOpens None new id s lives = MayOpen (client_id id) (settings_of s) lives × (new ≡ Some (opened (client_id id) (settings_of s) lives))
 ClientOpens (Some c) new id s lives = ⊥
+
+-- what a step tells: a place, and whether there are new lives
+abbrev pub client_told : ℕ → ℕ → TankClientStep
+client_told at new_lives = record { at = at; new_lives = new_lives }
 
 -- a step is taken
 abbrev pub ClientSteps : Option EmbeddedClient → Option EmbeddedClient → ℕ → List ℕ → TankClientStep → Type 0
-ClientSteps (Some c) (Some d) now frame o = Steps c d (stamp now) frame × (o.new_lives ≡ codes.flag (has_new_life c.node.state d.node.state))
+ClientSteps (Some c) (Some d) now frame o = Steps c d (stamp now) frame × (o ≡ client_told 0 (codes.flag (has_new_life c.node.state d.node.state)))
 ClientSteps c d now frame o = ⊥
 
 -- no step is taken, for a reason that the library tells
 pub record RefusesFor (old new : EmbeddedClient) (now : ℕ) (frame : List ℕ) (code : ℕ) (o : TankClientStep) : Type 0 where
   pub refusal : StepRefusal
   pub told : code ≡ codes.of_step refusal
-  pub place : o.at ≡ codes.place_of_step refusal
+  pub place : o ≡ client_told (codes.place_of_step refusal) 0
   pub why : Refuses old new (stamp now) frame refusal
 
 abbrev pub NoClientStep : Option EmbeddedClient → Option EmbeddedClient → ℕ → List ℕ → ℕ → TankClientStep → Type 0
 NoClientStep (Some c) (Some d) now frame code o = RefusesFor c d now frame code o
-NoClientStep None None now frame code o = code ≡ codes.ABSENT
+NoClientStep None None now frame code o = (code ≡ codes.ABSENT) × (o ≡ client_told 0 0)
 NoClientStep c d now frame code o = ⊥
 
 -- bytes are taken out, and nothing else changes
@@ -68,6 +72,11 @@ pub record TakesFrom (old new : EmbeddedClient) (before after : List ℕ) (count
 abbrev pub ClientTakes : Option EmbeddedClient → Option EmbeddedClient → List ℕ → List ℕ → ℕ → Type 0
 ClientTakes (Some c) (Some d) before after count = TakesFrom c d before after count
 ClientTakes c d before after count = ⊥
+
+-- the number of why no bytes are taken out of a client
+abbrev pub client_not_taken : Option EmbeddedClient → ℕ
+client_not_taken None = codes.ABSENT
+client_not_taken (Some c) = codes.NO_MEMORY
 
 -- what a client has at a server
 abbrev pub association_of : EmbeddedClient → ℕ → ℕ → TankAssociation

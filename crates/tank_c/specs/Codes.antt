@@ -33,6 +33,10 @@ ABSENT = 2
 abbrev pub NO_MEMORY : ℕ
 NO_MEMORY = 3
 
+-- the buffer is too short
+abbrev pub SHORT_ROOM : ℕ
+SHORT_ROOM = 10
+
 -- of bytes that spell no message
 abbrev pub of_codec : CodecRefusal → ℕ
 of_codec refusals.Short = 18
@@ -111,10 +115,6 @@ end_held (Some end) = end.0
 abbrev pub flag : Bool → ℕ
 flag true = 1
 flag false = 0
-
--- the buffer is too short
-abbrev pub SHORT_ROOM : ℕ
-SHORT_ROOM = 10
 
 -- of a server's step
 abbrev pub of_server_step : ServerRefusal → ℕ

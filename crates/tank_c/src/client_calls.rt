@@ -1,6 +1,6 @@
 // What the calls at a client do to the client that the handle holds.
 ghost use Rattle.std.specs.Prelude.{◌≡◌, ◌≢◌, Some};
-ghost use Rattle.tank_c.specs.Calls.{ClientSteps, NoClientStep, ClientTakes, association_of, settings_of};
+ghost use Rattle.tank_c.specs.Calls.{ClientSteps, NoClientStep, ClientTakes, association_of, client_told, settings_of};
 ghost use Rattle.tank_c.specs.Codes.{DONE, NO_MEMORY};
 ghost use Rattle.tank_c.specs.Codes as codes;
 
@@ -39,6 +39,16 @@ pub struct TankAssociation {
     pub lease_end: u64,
     pub phase: u32,
     pub dirty: u32,
+}
+
+/// What is told where there is no step.
+pub(crate) fn no_step() -> TankClientStep
+    ensures { result ≡ client_told 0 0 }
+{
+    TankClientStep {
+        at: 0,
+        new_lives: 0,
+    }
 }
 
 /// The settings of a world.
@@ -116,14 +126,17 @@ pub(crate) fn step_client(
 /// Bytes are taken out.
 pub(crate) fn take_client(client: &mut EmbeddedClient, out: &mut [u8], count: &mut usize) -> u32
     ensures done { result ≡ DONE → ClientTakes (Some client.old) (Some client.new) out.old out.new count.new }
-    ensures refused { result ≢ DONE → (result ≡ NO_MEMORY) × (client.new ≡ client.old) × (out.new ≡ out.old) }
+    ensures refused { result ≢ DONE → (result ≡ NO_MEMORY) × (client.new ≡ client.old) × (out.new ≡ out.old) × (count.new ≡ 0) }
 {
     match client.take(out) {
         Ok(n) => {
             *count = n;
             0
         }
-        Err(_) => NO_MEMORY,
+        Err(_) => {
+            *count = 0;
+            NO_MEMORY
+        }
     }
 }
 

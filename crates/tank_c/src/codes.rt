@@ -14,6 +14,8 @@ pub(crate) const ABSENT: u32 = 2;
 
 pub(crate) const NO_MEMORY: u32 = 3;
 
+pub(crate) const SHORT_ROOM: u32 = 10;
+
 /// The number of a message's refusal.
 fn codec_code(refusal: CodecRefusal) -> u32
     ensures { result ≡ codes.of_codec refusal }

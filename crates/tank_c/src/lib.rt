@@ -2,9 +2,9 @@
 #![tactic(auto)]
 
 ghost use Rattle.std.specs.Prelude.{◌≡◌, ◌≢◌, None, is_some};
-ghost use Rattle.tank_c.specs.Calls.{ClientOpens, ClientSteps, ClientTakes, NoClientOpened, NoClientStep, TellsOf};
+ghost use Rattle.tank_c.specs.Calls.{ClientOpens, ClientSteps, ClientTakes, NoClientOpened, NoClientStep, TellsOf, client_not_taken};
 ghost use Rattle.tank_c.specs.Codes.{ABSENT, DONE};
-ghost use Rattle.tank_c.specs.ServerCalls.{NoServerOpened, NoServerRecord, NoServerStep, ServerKept, ServerOpens, ServerSteps, ServerTakes, TellsRecord, epoch_of};
+ghost use Rattle.tank_c.specs.ServerCalls.{NoServerOpened, NoServerRecord, NoServerStep, NoServerTake, ServerKept, ServerOpens, ServerSteps, ServerTakes, TellsRecord, epoch_of};
 
 mod client_calls;
 pub mod client_slot;
@@ -75,6 +75,7 @@ pub extern "C" fn tank_client_step(
     ensures refused { result ≢ DONE → NoClientStep client.old.slot.value client.new.slot.value now frame.now result step.new }
 {
     if !client.full {
+        *step = client_calls::no_step();
         return ABSENT;
     }
     let mut held = mem::replace(&mut client.slot, ClientSlot::empty())
@@ -94,10 +95,13 @@ pub extern "C" fn tank_client_take(
     count: &mut usize,
 ) -> u32
     ensures done { result ≡ DONE → ClientTakes client.old.slot.value client.new.slot.value out.old out.new count.new }
-    ensures client { result ≢ DONE → client.new.slot.value ≡ client.old.slot.value }
+    ensures refused { result ≢ DONE → result ≡ client_not_taken client.old.slot.value }
+    ensures same { result ≢ DONE → client.new.slot.value ≡ client.old.slot.value }
     ensures kept { result ≢ DONE → out.new ≡ out.old }
+    ensures none { result ≢ DONE → count.new ≡ 0 }
 {
     if !client.full {
+        *count = 0;
         return ABSENT;
     }
     let mut held = mem::replace(&mut client.slot, ClientSlot::empty())
@@ -118,7 +122,7 @@ pub extern "C" fn tank_client_at(
     association: &mut TankAssociation,
 ) -> u32
     ensures told { result ≡ DONE → TellsOf client.old.slot.value server now association.new }
-    ensures absent { result ≢ DONE → (result ≡ ABSENT) × (client.old.slot.value ≡ None) }
+    ensures absent { result ≢ DONE → (result ≡ ABSENT) × (client.old.slot.value ≡ None) × (association.new ≡ association.old) }
     ensures same { client.new.slot.value ≡ client.old.slot.value }
 {
     if !client.full {
@@ -166,13 +170,13 @@ pub extern "C" fn tank_server_open(
     journal: &[u8],
     at: &mut u64,
 ) -> u32
-    ensures opened { result ≡ DONE → ServerOpens server.old.slot.value server.new.slot.value settings.now shape.now now journal.now }
+    ensures opened { result ≡ DONE → ServerOpens server.old.slot.value server.new.slot.value settings.now shape.now now journal.now at.new }
     ensures refused { result ≢ DONE → NoServerOpened server.old.slot.value server.new.slot.value settings.now shape.now now journal.now result at.new }
 {
+    *at = 0;
     if server.full {
         return BUSY;
     }
-    *at = 0;
     let within = Shape {
         servers: shape.servers,
         disks: shape.disks,
@@ -214,6 +218,7 @@ pub extern "C" fn tank_server_step(
     ensures refused { result ≢ DONE → NoServerStep server.old.slot.value server.new.slot.value now frame.now result step.new }
 {
     if !server.full {
+        *step = server_calls::no_step();
         return ABSENT;
     }
     let mut held = mem::replace(&mut server.slot, ServerSlot::empty())
@@ -237,6 +242,7 @@ pub extern "C" fn tank_server_record(
     ensures same { server.new.slot.value ≡ server.old.slot.value }
 {
     if !server.full {
+        *told = server_calls::no_record();
         return ABSENT;
     }
     let held = mem::replace(&mut server.slot, ServerSlot::empty())
@@ -250,8 +256,7 @@ pub extern "C" fn tank_server_record(
 /// Says that the record was kept.
 #[unsafe(no_mangle)]
 pub extern "C" fn tank_server_kept(server: &mut TankServer, alloc: Global) -> u32
-    ensures kept { ServerKept server.old.slot.value server.new.slot.value }
-    ensures absent { result ≢ DONE → (result ≡ ABSENT) × (server.old.slot.value ≡ None) }
+    ensures { ServerKept server.old.slot.value server.new.slot.value result }
 {
     if !server.full {
         return ABSENT;
@@ -273,10 +278,13 @@ pub extern "C" fn tank_server_take(
     count: &mut usize,
 ) -> u32
     ensures done { result ≡ DONE → ServerTakes server.old.slot.value server.new.slot.value out.old out.new count.new }
+    ensures refused { result ≢ DONE → NoServerTake server.old.slot.value result }
     ensures same { result ≢ DONE → server.new.slot.value ≡ server.old.slot.value }
     ensures kept { result ≢ DONE → out.new ≡ out.old }
+    ensures none { result ≢ DONE → count.new ≡ 0 }
 {
     if !server.full {
+        *count = 0;
         return ABSENT;
     }
     let mut held = mem::replace(&mut server.slot, ServerSlot::empty())

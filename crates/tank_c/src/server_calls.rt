@@ -1,10 +1,10 @@
 // What the calls at a server do to the server that the handle holds.
 ghost use Rattle.std.specs.Prelude.{◌≡◌, ◌≢◌, Some};
-ghost use Rattle.tank_c.specs.ServerCalls.{NoServerRecord, NoServerStep, ServerSteps, ServerTakes, TellsRecord};
+ghost use Rattle.tank_c.specs.ServerCalls.{NoServerRecord, NoServerStep, NoServerTake, ServerSteps, ServerTakes, TellsRecord, server_told, untold};
 ghost use Rattle.tank_c.specs.Codes.{DONE};
 
-use crate::codes::{NO_MEMORY, server_code, server_place, step_code};
-use st_embed::{EmbeddedServer, ServerRefusal, Stamp};
+use crate::codes::{NO_MEMORY, SHORT_ROOM, server_code, server_place};
+use st_embed::{EmbeddedServer, Stamp};
 
 /// The number of a server, how many servers there are, how many disks, and how many blocks each has.
 #[repr(C)]
@@ -25,12 +25,26 @@ pub struct TankServerStep {
     pub record: u32,
 }
 
-/// A record of the journal: the place of the gate in front of it, how many bytes it has, and how many of them were written out.
+/// A record of the journal: the place of the gate in front of it, and how many bytes it has.
 #[repr(C)]
 #[derive(Clone, Copy)]
 pub struct TankRecord {
     pub gate: u64,
     pub size: usize,
+}
+
+/// What is told where there is no step.
+pub(crate) fn no_step() -> TankServerStep
+    ensures { result ≡ server_told 0 0 }
+{
+    TankServerStep { at: 0, record: 0 }
+}
+
+/// What is told where there is no record.
+pub(crate) fn no_record() -> TankRecord
+    ensures { result ≡ untold }
+{
+    TankRecord { gate: 0, size: 0 }
 }
 
 /// A step.
@@ -67,26 +81,31 @@ pub(crate) fn record_server(server: &EmbeddedServer, out: &mut [u8], told: &mut 
             told.gate = server.gate();
             told.size = bytes.len();
             if out.len() < bytes.len() {
-                return 10;
+                return SHORT_ROOM;
             }
             out[..bytes.len()].copy_from_slice(bytes.as_slice());
             0
         }
-        Err(_) => NO_MEMORY,
+        Err(_) => {
+            *told = no_record();
+            NO_MEMORY
+        }
     }
 }
 
 /// Bytes are taken out.
 pub(crate) fn take_server(server: &mut EmbeddedServer, out: &mut [u8], count: &mut usize) -> u32
     ensures done { result ≡ DONE → ServerTakes (Some server.old) (Some server.new) out.old out.new count.new }
-    ensures refused { result ≢ DONE → (server.new ≡ server.old) × (out.new ≡ out.old) }
+    ensures refused { result ≢ DONE → NoServerTake (Some server.old) result × (server.new ≡ server.old) × (out.new ≡ out.old) × (count.new ≡ 0) }
 {
     match server.take(out) {
         Ok(n) => {
             *count = n;
             0
         }
-        Err(ServerRefusal::Unkept) => 9,
-        Err(_) => NO_MEMORY,
+        Err(refusal) => {
+            *count = 0;
+            server_code(refusal)
+        }
     }
 }

@@ -1,8 +1,8 @@
-use Rattle.std.proofs.Common.{ℕ, ◌∙◌, ap, arith, length, refl, rules}
+use Rattle.std.proofs.Common.{ℕ, ◌∙◌, ap, arith, length, refl, rules, subst}
 use Rattle.st_extents.specs.Layout.{IsWithinLimits}
 use Rattle.st_journal.specs.Parts as parts
 use Rattle.st_journal.proofs.Recording.{gate_within}
-use Rattle.st_embed.specs.Servers.{begun}
+use Rattle.st_embed.specs.Servers.{MayStart, begun}
 use Rattle.st_embed.proofs.Opened.{epoch_placed, epoch_room}
 use Rattle.st_embed.proofs.Restoring.{is_of_server}
 use Rattle.st_embed.proofs.server.EmbeddedServer.open.Goals as goal
@@ -28,6 +28,7 @@ returns-clause-ok c =
       changes = reads.changes;
       stable = parts.stable_of c.in-Ok.read.stable;
       stands = reads.stands;
+      may_start = subst (λ (n : ℕ). MayStart n (parts.stable_of c.in-Ok.read.stable)) reads.count c.in_ok-server.ensures.may;
       node = c.in_ok-server.ensures.node ∙ ap (λ (n : ℕ). begun c.args.id c.args.config.now c.args.shape c.args.now n (parts.stable_of c.in-Ok.read.stable)) reads.count;
       changed = c.in_ok-server.ensures.changed;
       told = c.in_ok-server.ensures.told;
