@@ -141,25 +141,17 @@ impl LockTable {
     }
 
     /// The rows of a file, by rising client: the client, the grant number and the mode.
-    pub fn holders(
-        &self,
-        alloc: Global,
-        ino: u32,
-    ) -> Result<Vec<(ClientId, GrantNo, Mode)>, AllocError>
+    pub fn holders(&self, ino: u32) -> Result<Vec<(ClientId, GrantNo, Mode)>, AllocError>
         ensures { IfOk result (λ v. v.items ≡ locks.holders self.now ino) }
     {
-        self.parts.table.holders(alloc, ino)
+        self.parts.table.holders(self.parts.alloc, ino)
     }
 
     /// The rows of a client, by rising file: the file, the grant number and the mode.
-    pub fn of(
-        &self,
-        alloc: Global,
-        client: ClientId,
-    ) -> Result<Vec<(u32, GrantNo, Mode)>, AllocError>
+    pub fn of(&self, client: ClientId) -> Result<Vec<(u32, GrantNo, Mode)>, AllocError>
         ensures { IfOk result (λ v. v.items ≡ locks.rows_of self.now client) }
     {
-        self.parts.table.of(alloc, client)
+        self.parts.table.of(self.parts.alloc, client)
     }
 
     /// All rows of a client are installed, or none, at the first row that conflicts with another client's.
@@ -302,11 +294,16 @@ impl LockTable {
         now: Stamp,
         tick: bool,
         suspects: &[ClientId],
-        config: Config,
+        config: &Config,
     ) -> Result<Vec<Sent>, AllocError>
-        ensures { IfOk result (λ v. locks.demands_due self.old now tick suspects.now config ≡ demanding self.new v.items) }
+        ensures { IfOk result (λ v. locks.demands_due self.old now tick suspects.now config.now ≡ demanding self.new v.items) }
     {
-        self.parts.demands_due(Pass { config, now, tick }, suspects)
+        let pass = Pass {
+            config: *config,
+            now,
+            tick,
+        };
+        self.parts.demands_due(pass, suspects)
     }
 
     /// Whether one request more and all waiters may be granted in this epoch.
@@ -318,14 +315,9 @@ impl LockTable {
 
     /// The clients that left a demand unanswered for the time that the settings give, in rising order. It looks at the rows of
     /// those demands and at one more, however many there are.
-    pub fn unanswered(
-        &self,
-        alloc: Global,
-        now: Stamp,
-        config: Config,
-    ) -> Result<Vec<ClientId>, AllocError>
-        ensures { IfOk result (λ v. v.items ≡ locks.unanswered self.now now config) }
+    pub fn unanswered(&self, now: Stamp, config: &Config) -> Result<Vec<ClientId>, AllocError>
+        ensures { IfOk result (λ v. v.items ≡ locks.unanswered self.now now config.now) }
     {
-        self.parts.table.unanswered(alloc, now, config)
+        self.parts.table.unanswered(self.parts.alloc, now, *config)
     }
 }

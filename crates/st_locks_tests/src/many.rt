@@ -106,7 +106,7 @@ fn demands(
     tick: bool,
 ) -> Result<bool, AllocError> {
     let suspects = [ClientId(ask.client)];
-    let given = locks.demands_due(Stamp(ask.now), tick, &suspects, CONFIG)?;
+    let given = locks.demands_due(Stamp(ask.now), tick, &suspects, &CONFIG)?;
     let wanted = plain.demands(alloc, ask.now, tick, &suspects)?;
     Ok(given.as_slice() == wanted.as_slice())
 }
@@ -184,9 +184,9 @@ fn agree(alloc: Global, locks: &LockTable, plain: &Plain, ask: Ask) -> Result<bo
     let row = plain
         .row(ask.client, ask.ino)
         .map(|row| (GrantNo(row.g), mode(row.mode)));
-    let holders = locks.holders(alloc, ask.ino)?;
-    let of = locks.of(alloc, id)?;
-    let late = locks.unanswered(alloc, Stamp(ask.now), CONFIG)?;
+    let holders = locks.holders(ask.ino)?;
+    let of = locks.of(id)?;
+    let late = locks.unanswered(Stamp(ask.now), &CONFIG)?;
     Ok(
         locks.row(id, ask.ino) == row
             && locks.has_rows(id) == plain.has_rows(ask.client)

@@ -10,27 +10,22 @@ use st_locks::LockTable;
 use std::alloc::{AllocError, Global};
 
 /// Whether a client has a lock row of the container.
-fn is_locked(alloc: Global, locks: &LockTable, c: u32) -> Result<bool, AllocError>
+fn is_locked(locks: &LockTable, c: u32) -> Result<bool, AllocError>
     ensures { IfOk result (λ b. b ≡ containers.is_locked locks.now c) }
 {
-    let holders = locks.holders(alloc, c)?;
+    let holders = locks.holders(c)?;
     Ok(!holders.is_empty())
 }
 
 /// Whether the record leaves now.
-fn leaves(
-    alloc: Global,
-    locks: &LockTable,
-    c: u32,
-    entry: &Option<ContainerRecord>,
-) -> Result<bool, AllocError>
+fn leaves(locks: &LockTable, c: u32, entry: &Option<ContainerRecord>) -> Result<bool, AllocError>
     ensures { IfOk result (λ b. b ≡ containers.leaves locks.now c entry.now) }
 {
     match entry {
         None => Ok(false),
         Some(record) => {
             if record.is_leaving() {
-                Ok(!is_locked(alloc, locks, c)?)
+                Ok(!is_locked(locks, c)?)
             } else {
                 Ok(false)
             }
@@ -50,7 +45,7 @@ pub(crate) fn leaving(
 {
     let mut found = Vec::new(alloc);
     for place in 0..records.len() {
-        found.push(leaves(alloc, locks, place as u32 + 1, &records[place])?)?;
+        found.push(leaves(locks, place as u32 + 1, &records[place])?)?;
     }
     Ok(found)
 }

@@ -12,7 +12,7 @@ use crate::refusal::ReassertRefusal;
 use st_base::{ClientId, Epoch, GrantNo, Life, Mode};
 use st_locks::{LockRefusal, LockTable};
 use st_sessions::Sessions;
-use std::alloc::{AllocError, Global};
+use std::alloc::AllocError;
 
 /// Whether an earlier epoch gave this grant number.
 fn is_earlier(epoch: Epoch, g: GrantNo) -> bool
@@ -29,11 +29,11 @@ fn first_new_grant(rows: &[(u32, GrantNo, Mode)], epoch: Epoch) -> Option<(u32, 
 }
 
 /// The least file of a client that has rows. A reassertion of a life above all of them is refused at it.
-fn own_file(alloc: Global, locks: &LockTable, client: ClientId) -> Result<u32, AllocError>
+fn own_file(locks: &LockTable, client: ClientId) -> Result<u32, AllocError>
     requires { has_rows locks.now client ≡ true }
     ensures { (life : Life) → is_older locks.now client life ≡ true → IfOk result (λ ino. grace.own_older locks.now client life ≡ Some ino) }
 {
-    let found = locks.of(alloc, client)?;
+    let found = locks.of(client)?;
     let rows = found.as_slice();
     Ok(rows[0].0)
 }
@@ -68,7 +68,6 @@ fn install(
 /// Accepts rows of earlier epochs.
 #[tactic(auto, unfolding(st_rules::specs::Grace::accept_own))]
 fn accept_own(
-    alloc: Global,
     client: ClientId,
     life: Life,
     rows: &[(u32, GrantNo, Mode)],
@@ -84,7 +83,7 @@ fn accept_own(
         (grace.accept_own locks.old sessions.old client life rows.now (grace.own_older locks.old client life)) }
 {
     if locks.has_rows(client) {
-        let ino = own_file(alloc, locks, client)?;
+        let ino = own_file(locks, client)?;
         return Err(ReassertRefusal::Conflict(ino, client));
     }
     install(client, life, rows, locks, sessions)
@@ -93,7 +92,6 @@ fn accept_own(
 /// Accepts rows in grace.
 #[tactic(auto, unfolding(st_rules::specs::Grace::accept_rows, st_rules::specs::Grace::accept_earlier))]
 pub fn accept_rows(
-    alloc: Global,
     client: ClientId,
     life: Life,
     rows: &[(u32, GrantNo, Mode)],
@@ -109,6 +107,6 @@ pub fn accept_rows(
 {
     match first_new_grant(rows, locks.epoch()) {
         Some((ino, g, _)) => Err(ReassertRefusal::NotHolder(ino, g)),
-        None => accept_own(alloc, client, life, rows, locks, sessions),
+        None => accept_own(client, life, rows, locks, sessions),
     }
 }

@@ -12,7 +12,6 @@ use st_base::{ClientId, Config, GrantNo, Life, Mode, Stamp};
 use st_clock::steal_wait;
 use st_locks::LockTable;
 use st_sessions::Sessions;
-use std::alloc::Global;
 use std::marker::Model;
 
 /// When a grace began, and how long it lasts.
@@ -87,7 +86,6 @@ impl Grace {
     #[tactic(auto, unfolding(st_rules::specs::Grace::accept))]
     pub fn accept(
         &self,
-        alloc: Global,
         now: Stamp,
         client: ClientId,
         life: Life,
@@ -103,7 +101,7 @@ impl Grace {
             (grace.accept self.now now client life rows.now locks.old sessions.old) }
     {
         if self.is_on(now) {
-            accept_rows(alloc, client, life, rows, locks, sessions)
+            accept_rows(client, life, rows, locks, sessions)
         } else {
             Err(ReassertRefusal::GraceOver(self.start(), now))
         }

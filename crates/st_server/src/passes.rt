@@ -51,7 +51,7 @@ impl ServerMachine {
         ensures ok { OnOk result (self.new ≡ server.suspecting self.old now) }
         ensures kept { Keeps self.old self.new }
     {
-        let clients = self.locks.unanswered(self.alloc, now, self.config)?;
+        let clients = self.locks.unanswered(now, &self.config)?;
         self.suspect_each(now, clients.as_slice())
     }
 
@@ -140,7 +140,7 @@ impl ServerMachine {
         let tick = is_tick(input);
         let due = self
             .locks
-            .demands_due(now, tick, self.authority.suspects(), self.config)?;
+            .demands_due(now, tick, self.authority.suspects(), &self.config)?;
         self.tell_demanded(due.as_slice())
     }
 }

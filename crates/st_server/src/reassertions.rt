@@ -51,7 +51,6 @@ impl ServerMachine {
         ensures kept { Keeps self.old self.new }
     {
         match self.grace.accept(
-            self.alloc,
             now,
             sender(h),
             Life(h.life),
