@@ -21,6 +21,7 @@ from reference.schedule import event_line, node_word
 from reference.settings import Settings
 
 MOST_EVENTS = 100_000
+STEEPEST = 0.1  # by how much the rates of two machines' clocks are apart at the most
 SUSPECT, GRACE_OVER = wire.CAUSE_NUMBERS["suspect"], wire.CAUSE_NUMBERS["graceover"]
 COMPARED = ("send", "submit", "answer")
 PREMISES = {
@@ -41,13 +42,30 @@ class Verdict:
         self.name, self.event, self.lines = name, event, lines
 
 
-class Item:
-    """Something that a node did: `what` is step, start, crash or effect. `line` is where its trace tells it."""
+class Machine:
+    """How the moments of a node's machine lie among the run's, which are those of the first node: moved by a constant, or along a straight line too."""
 
-    __slots__ = ("node", "what", "at", "low", "high", "reading", "told", "line", "life")
+    def __init__(self):
+        self.begun, self.at, self.rate = 0, 0, 1.0
+
+    def common(self, moment):
+        """The run's moment."""
+        gone = moment - self.begun
+        return self.at + (gone if self.rate == 1 else round(gone * self.rate))
+
+    def own(self, at):
+        """The machine's moment."""
+        gone = at - self.at
+        return self.begun + (gone if self.rate == 1 else round(gone / self.rate))
+
+
+class Item:
+    """Something that a node did: `what` is step, start, crash or effect. `own` is the moment by its machine, `at` among the run's. `line` is where its trace tells it."""
+
+    __slots__ = ("node", "what", "own", "at", "low", "high", "reading", "told", "line", "life")
 
     def __init__(self, node, what, at, told, line, life):
-        self.node, self.what, self.at, self.told, self.line, self.life = node, what, at, told, line, life
+        self.node, self.what, self.own, self.at, self.told, self.line, self.life = node, what, at, at, told, line, life
         self.low = self.high = self.reading = None
 
     def read_at(self, low, high):
@@ -66,7 +84,8 @@ class Item:
     def move(self, reading):
         """Takes another reading, and the moment at which the clock came to it."""
         if reading > self.reading:
-            self.at += (reading - self.reading) * 1_000_000 - self.at % 1_000_000
+            later = (reading - self.reading) * 1_000_000 - self.own % 1_000_000
+            self.own, self.at = self.own + later, self.at + later
         self.reading = reading
 
 
@@ -95,7 +114,7 @@ class Node:
     """What the trace of a node tells: its steps, starts and crashes in order, and the effects of its disk commands."""
 
     def __init__(self, name, words):
-        self.name, self.words, self.steps, self.effects, self.life = name, words, [], [], 0
+        self.name, self.words, self.steps, self.effects, self.life, self.machine = name, words, [], [], 0, Machine()
 
     def take(self, told, line):
         if isinstance(told, text.Head):
@@ -170,32 +189,39 @@ def settle(node):
                 it.settle(starts[0])
 
 
-def least_ways(nodes):
-    """For each two nodes the least time, by the moments of their traces, from a message's sending to its coming; a message is known by its bytes."""
-    sent, least = {}, {}
+def ways_of(nodes):
+    """Each message that a node took and another one sent, which is known by its bytes: the sender and its moment, the receiver and its moment."""
+    sent = {}
     for node in nodes.values():
         for it in node.steps:
             for data in (it.told.outputs or ()) if it.what == "step" else ():
-                sent.setdefault(data, (node.name, it.at))
-    for node in nodes.values():
-        for it in node.steps:
-            if it.what == "step" and it.told.taken in sent:
-                sender, at = sent[it.told.taken]
-                key = sender, node.name
-                least[key] = min(least.get(key, it.at - at), it.at - at)
-    return least
+                sent.setdefault(data, (node.name, it.own))
+    return [(*sent[it.told.taken], node.name, it.own) for node in nodes.values() for it in node.steps if it.what == "step" and it.told.taken in sent]
 
 
 def shift(nodes):
-    """Where a message came before it was sent, the moments are of several machines: shifts those of each node so that none does, in the middle of what is possible.
+    """Where a message came before it was sent, the moments are of several machines: moves those of each node so that none does, in the middle of what is possible.
 
-    A shift is a whole number of milliseconds. Where the machines' clocks drifted, there may be none.
+    They are moved by a constant; and where no constants do, since the machines' clocks drifted, along a straight line. Where that does not do either, messages
+    wait later.
     """
-    least = least_ways(nodes)
-    if all(way >= 0 for way in least.values()):
+    ways = ways_of(nodes)
+    if all(sent <= came for _, sent, _, came in ways):
         return
-    first = next(iter(nodes))
-    latest = {name: 0 if name == first else None for name in nodes}  # a receiver may be shifted down to its sender's shift less the way, a sender up to that
+    move_by_constants(nodes, ways)
+    if any(nodes[sender].machine.common(sent) > nodes[receiver].machine.common(came) for sender, sent, receiver, came in ways):
+        move_along_lines(nodes, ways)
+    for node in nodes.values():
+        for it in (*node.steps, *node.effects):
+            it.at = node.machine.common(it.own)
+
+
+def move_by_constants(nodes, ways):
+    """Moves each node's moments by a constant: the middle of the least and the greatest one that the least time of a message from one node to another allows."""
+    least, first = {}, next(iter(nodes))
+    for sender, sent, receiver, came in ways:
+        least[sender, receiver] = min(least.get((sender, receiver), came - sent), came - sent)
+    latest = {name: 0 if name == first else None for name in nodes}  # a receiver may be moved down to its sender's constant less the way, a sender up to that
     earliest = dict(latest)
     for _ in nodes:
         for (sender, receiver), way in least.items():
@@ -205,23 +231,65 @@ def shift(nodes):
                 earliest[receiver] = earliest[sender] - way
     for name, node in nodes.items():
         ends = [end for end in (earliest[name], latest[name]) if end is not None]
-        by = sum(ends) // len(ends) // 1_000_000 * 1_000_000 if ends and name != first else 0
-        for it in (*node.steps, *node.effects):
-            it.at += by
+        node.machine.at = sum(ends) // len(ends) if ends and name != first else 0
+
+
+def move_along_lines(nodes, ways):
+    """Moves each node's moments along a line: first those of the node with most messages, then each time the one that has most with those that have a line."""
+    counts = collections.Counter(name for sender, _, receiver, _ in ways for name in (sender, receiver))
+    left, lines = set(counts), {}
+    while left:
+        name = max(sorted(left), key=lambda one: (sum(one in (way[0], way[2]) and not {way[0], way[2]} <= left for way in ways), counts[one]))
+        left.remove(name)
+        machine = nodes[name].machine
+        machine.begun = min(it.own for it in nodes[name].steps)
+        bounds = [(came - machine.begun, lines[sender].common(sent), True) for sender, sent, receiver, came in ways if receiver == name and sender in lines]
+        bounds += [(sent - machine.begun, lines[receiver].common(came), False) for sender, sent, receiver, came in ways if sender == name and receiver in lines]
+        machine.at, machine.rate = line_between(bounds)
+        lines[name] = machine
+    first = lines.get(next(iter(nodes)))
+    begun, at, rate = (first.begun, first.at, first.rate) if first else (0, 0, 1)
+    for machine in lines.values():  # the first node's moments are the run's
+        machine.at, machine.rate = begun + round((machine.at - at) / rate), machine.rate / rate
+
+
+def line_between(bounds):
+    """The height and the slope of the line that is farthest from these points: above those that are so marked, and below the others."""
+    above = [(x, y) for x, y, is_above in bounds if is_above]
+    below = [(x, y) for x, y, is_above in bounds if not is_above]
+    if not above or not below:
+        heights = [y - x for x, y in above or below]
+        return (max(heights) if above else min(heights)) if heights else 0, 1.0
+    middle = sum(y for _, y in above) // len(above)
+
+    def ends(slope):
+        return max(y - middle - slope * x for x, y in above), min(y - middle - slope * x for x, y in below)
+
+    low, high = 1 - STEEPEST, 1 + STEEPEST
+    for _ in range(80):  # the room between both ends has one greatest value
+        one, other = low + (high - low) / 3, high - (high - low) / 3
+        rooms = [end - begin for begin, end in (ends(one), ends(other))]
+        low, high = (one, high) if rooms[0] < rooms[1] else (low, other)
+    return middle + round(sum(ends(low)) / 2), low
 
 
 class Clock:
     """The clock of one node in the schedule's world, or of all nodes that have no trace: where it is to stand at a moment."""
 
-    def __init__(self, steps):
-        self.ats = [it.at for it in steps]
+    def __init__(self, steps, machine):
+        self.machine, self.ats = machine, [it.own for it in steps]
         self.readings = [it.reading for it in steps]
         self.gaps = [reading - at // 1_000_000 for at, reading in zip(self.ats, self.readings)] or [0]
         self.is_even = len(set(self.gaps)) == 1
         self.done, self.now = 0, None
 
+    def at(self, at):
+        """What the clock shows at a moment."""
+        own = self.machine.own(at)
+        return own // 1_000_000 + self.gap(own)
+
     def gap(self, at):
-        """By how much the clock is ahead of the machine's clock at a moment: between two steps this changes evenly."""
+        """By how much the clock is ahead of the machine's clock at a moment of the machine: between two steps this changes evenly."""
         if self.is_even:
             return self.gaps[0]
         after = bisect.bisect_left(self.ats, at)
@@ -232,7 +300,7 @@ class Clock:
 
     def advance(self, at):
         """Goes on to a moment, but not behind the reading of the next step; the increment."""
-        before, now = self.now, at // 1_000_000 + self.gap(at)
+        before, now = self.now, self.at(at)
         if self.done < len(self.readings):
             now = min(now, self.readings[self.done])
         self.now = max(before, now)
@@ -249,12 +317,12 @@ class Clocks:
     """The clocks of the schedule's world."""
 
     def __init__(self, names, nodes, begun):
-        self.others = Clock([])
-        self.clocks = {name: Clock([it for it in node.steps if it.reading is not None]) for name, node in nodes.items()}
+        self.others = Clock([], Machine())
+        self.clocks = {name: Clock([it for it in node.steps if it.reading is not None], node.machine) for name, node in nodes.items()}
         self.rows = [self.clocks.get(name, self.others) for name in names]
         self.offsets = []
         for clock in (*self.clocks.values(), self.others):
-            clock.now = begun + clock.gap(begun * 1_000_000)
+            clock.now = clock.at(begun * 1_000_000)
         for name, clock in zip(names, self.rows):
             self.offsets.append(clock.now - (1000 * int(name[1:]) if name[0] == "s" else 0))
 
@@ -681,18 +749,18 @@ def check(nodes, program, disk=None, tries=40):
     while verdict.name == "differs":
         found = None
         for it in unsure_items(join, verdict):
-            before = it.reading, it.at
+            before = it.reading, it.own, it.at
             for reading in dict.fromkeys((it.high, *range(it.low + 1, min(it.high, it.low + 4)))):
                 if tries == 0:
                     return verdict, join
                 tries -= 1
-                it.reading, it.at = before
+                it.reading, it.own, it.at = before
                 it.move(reading)
                 again = joined(nodes, program, disk)
                 found = compare(program, again)
                 if found.event > verdict.event:
                     break
-                it.reading, it.at = before
+                it.reading, it.own, it.at = before
             else:
                 continue
             it.low = it.reading
