@@ -1,13 +1,15 @@
 -- Steps made by hand, each of which breaks one promise and keeps the others.
-use Rattle.std.specs.Prelude.{ℕ, ◌+◌, ◌==◌, Bool, true, false, List, [], ◌∷◌, ◌++◌, map, Option, Some, None, ⊤}
+use Rattle.std.specs.Prelude.{ℕ, ◌+◌, ◌==◌, Bool, true, false, List, [], ◌∷◌, ◌++◌, map, codes, Option, Some, None, ⊤}
 use Rattle.std.specs.List.{list_any}
 use Rattle.st_base.specs.Page.{filled}
 use Rattle.st_base.specs.declared.disk.Command.TheVariants as commands
 use Rattle.st_base.specs.declared.mode.Mode.TheVariants as modes
+use Rattle.st_base.specs.declared.names.NameAsk.TheVariants as name_asks
 use Rattle.st_messages.specs.declared.answer.AppAnswer.TheVariants as answers
 use Rattle.st_messages.specs.declared.ask.Ask.TheVariants as asks
 use Rattle.st_messages.specs.declared.event.Event.{Event}
 use Rattle.st_messages.specs.declared.event.Event.TheVariants as events
+use Rattle.st_messages.specs.declared.message.Body.{Body}
 use Rattle.st_messages.specs.declared.message.Body.TheVariants as bodies
 use Rattle.st_messages.specs.declared.message.Message.{Message}
 use Rattle.st_messages.specs.declared.message.Why.TheVariants as why
@@ -29,6 +31,8 @@ use Rattle.st_rules.specs.ClientState.{ClientState, ClientSession, Association}
 use Rattle.st_rules.specs.FlatLog.{accept, cut as cut_log}
 use Rattle.st_rules.specs.Client.{emptied}
 use Rattle.st_rules.specs.Events.{counted}
+use Rattle.st_rules.specs.Names as names
+use Rattle.st_rules.specs.Names.{Names}
 use Rattle.st_rules.specs.Server.{ServerNode}
 use Rattle.st_rules.specs.World.{World, ClientSite}
 use Rattle.st_rules.specs.History.{Traced, History, TimerStart, LeaseDate, led_to, trace, traced, with_grant}
@@ -52,11 +56,14 @@ use Rattle.st_rules.specs.Safety.{
   ExpiredLeasesEmptyClients,
   TheHistoryIsTheWorlds,
 }
+use Rattle.st_promises.specs.Acknowledgements.{CutsAreAcknowledged}
 use Rattle.st_promises.specs.CutAsks.{CutsAreAsked}
 use Rattle.st_promises.specs.Faults.{FaultsHaveACause}
 use Rattle.st_promises.specs.Grants.{GrantNumbersAreGivenOnce, GrantNumbersRise}
 use Rattle.st_promises.specs.Held.{DisksHoldWhatIsHard}
 use Rattle.st_promises.specs.Losses.{LossesAreTold}
+use Rattle.st_promises.specs.NameAnswers.{NamesAnswerTruly}
+use Rattle.st_promises.specs.NameChanges.{NamesChangeAsAsked}
 use Rattle.st_promises.specs.Numbers.{LinesGiveTheNextNumbers}
 use Rattle.st_rows.specs.Words.{at, c, life, epoch, page, stamp, g}
 use Rattle.st_rows.specs.ClientWords.{lost_row, on, server}
@@ -99,6 +106,9 @@ pub record IsKeptBut (ns : List ℕ) (past : List Step) (x : Step) : Type 0 wher
   pub cuts : unless ns 21 (CutsAreAsked past x)
   pub given : unless ns 22 (GrantNumbersAreGivenOnce past x)
   pub rising : unless ns 23 (GrantNumbersRise past x)
+  pub acknowledged : unless ns 24 (CutsAreAcknowledged past x)
+  pub named : unless ns 25 (NamesAnswerTruly past x)
+  pub renamed : unless ns 26 (NamesChangeAsAsked past x)
 
 -- A run in which a client writes a page, its lease is dated from a request that was sent at 400 and answered at 450, and an
 -- ask follows.
@@ -129,6 +139,12 @@ writing = ask 1 (asks.Write (on 1 3) (page 0) (filled 77))
 
 abbrev pub cutting : Event
 cutting = ask 1 (asks.Cut (on 1 2) (page 0))
+
+abbrev pub looking : Event
+looking = ask 1 (asks.Name (server 1) (name_asks.Lookup 1 (codes "f2")))
+
+abbrev pub creating : Event
+creating = ask 1 (asks.Name (server 1) (name_asks.Create 1 (codes "new")))
 
 -- its steps, and where it led
 unfoldable pub past : Event → List Step
@@ -393,11 +409,20 @@ grace_too_short = leaving (second_epoch short_grace) (still (here reading))
 unfoldable pub grace_never_begun : Step
 grace_never_begun = leaving (second_epoch never_grace) (still (here reading))
 
-abbrev pub conflict : Message
-conflict = record { header = record { from = 32769; to = 1; life = 1; epoch = 1; number = 1; stamp = 400 }; body = bodies.Nack why.Conflict 2 2 }
+-- the server sends this to a client
+abbrev pub message_to : ℕ → Body → Message
+message_to n body = record { header = record { from = 32769; to = n; life = 1; epoch = 1; number = 1; stamp = 400 }; body = body }
+
+-- its line, under the message's number in the world
+abbrev pub told_to : ℕ → ℕ → Body → Observation
+told_to k n body = sent k 32769 n 1 1 1 400 body
+
+-- it is sent, and told under the next number
+abbrev pub sends : ℕ → Body → Step → Step
+sends n body x = seeing (told_to 7 n body ∷ []) (leaving (with_message (message_to n body)) x)
 
 unfoldable pub conflict_sent : Step
-conflict_sent = seeing (sent 7 32769 1 1 1 1 400 (bodies.Nack why.Conflict 2 2) ∷ []) (leaving (with_message conflict) (still (here reading)))
+conflict_sent = sends 1 (bodies.Nack why.Conflict 2 2) (still (here reading))
 
 unfoldable pub hard_and_pending : Step
 hard_and_pending = seeing (seen.Hardened 1 ∷ []) (still (here reading))
@@ -441,9 +466,16 @@ written_without_a_lock = writes_again 2 1 2 4294967297
 unfoldable pub written_under_a_lesser_grant : Step
 written_under_a_lesser_grant = writes_again 1 3 2 4294967296
 
--- a file is cut while a client has it alone
+-- a file is cut while a client has it alone, and nobody is told that it was done
+abbrev pub cuts_untold : Event → Step
+cuts_untold e = seeing (cut 2 1 2 0 ∷ []) (recalling (with_grant (on 1 2) (g 4294967297)) (leaving cut_once (still (here e))))
+
+-- the same, and the client is told so
+abbrev pub acknowledging : World → World
+acknowledging w = with_message (message_to 1 bodies.Ack) w
+
 abbrev pub cuts_after : Event → Step
-cuts_after e = seeing (cut 2 1 2 0 ∷ []) (recalling (with_grant (on 1 2) (g 4294967297)) (leaving cut_once (still (here e))))
+cuts_after e = seeing (cut 2 1 2 0 ∷ told_to 7 1 bodies.Ack ∷ []) (leaving acknowledging (cuts_untold e))
 
 unfoldable pub cut_without_a_lock : Step
 cut_without_a_lock = leaving without_rows (cuts_after cutting)
@@ -505,17 +537,14 @@ unfoldable pub refused_without_a_refusal : Step
 refused_without_a_refusal = seeing (answered 1 2 answers.NotHolder ∷ []) (still (here cutting))
 
 unfoldable pub told_and_not_sent : Step
-told_and_not_sent = seeing (sent 7 32769 1 1 1 1 400 bodies.Ack ∷ []) (still (here reading))
+told_and_not_sent = seeing (told_to 7 1 bodies.Ack ∷ []) (still (here reading))
 
 unfoldable pub counted_and_not_told : Step
 counted_and_not_told = leaving one_theft (still (here reading))
 
 -- the server sends a grant: to which client, of which file, under which number
-abbrev pub granted : ℕ → ℕ → ℕ → Message
-granted to ino n = record { header = record { from = 32769; to = to; life = 1; epoch = 1; number = 1; stamp = 400 }; body = bodies.Granted ino (g n) modes.S }
-
 abbrev pub grants_once_more : ℕ → ℕ → ℕ → Step
-grants_once_more to ino n = seeing (sent 7 32769 to 1 1 1 400 (bodies.Granted ino (g n) modes.S) ∷ []) (leaving (with_message (granted to ino n)) (still (here reading)))
+grants_once_more to ino n = sends to (bodies.Granted ino (g n) modes.S) (still (here reading))
 
 unfoldable pub given_to_another_client : Step
 given_to_another_client = grants_once_more 2 2 4294967297
@@ -529,6 +558,62 @@ given_below = grants_once_more 2 2 4294967296
 unfoldable pub given_again : Step
 given_again = grants_once_more 1 2 4294967297
 
+-- a cut of which the client is told nothing, and one that is acknowledged and refused
+unfoldable pub cut_and_not_acknowledged : Step
+cut_and_not_acknowledged = cuts_untold cutting
+
+abbrev pub refusal : Body
+refusal = bodies.Nack why.NotHolder 0 0
+
+unfoldable pub cut_and_refused : Step
+cut_and_refused =
+    seeing (cut 2 1 2 0 ∷ told_to 7 1 bodies.Ack ∷ told_to 8 1 refusal ∷ []) (leaving (with_message (message_to 1 refusal)) (cuts_after cutting))
+
+-- a step that follows the ask
+unfoldable pub past_asked : Event → List Step
+past_asked e = past e ++ still (here e) ∷ []
+
+-- an inode is answered; the names have 2 under the name that is looked up, and no new file
+unfoldable pub named_wrongly : Step
+named_wrongly = seeing (answered 1 2 (answers.Named 42) ∷ []) (still (here looking))
+
+unfoldable pub named_truly : Step
+named_truly = seeing (answered 1 2 (answers.Named 2) ∷ []) (still (here looking))
+
+unfoldable pub named_and_not_asked : Step
+named_and_not_asked = seeing (answered 1 2 (answers.Named 2) ∷ []) (still (here syncing))
+
+unfoldable pub named_and_not_created : Step
+named_and_not_created = seeing (answered 1 2 (answers.Named 10) ∷ []) (still (here creating))
+
+-- the server's names are changed
+abbrev pub node_named : (Names → Names) → ServerNode → ServerNode
+node_named change node =
+    record node { state = record node.state { stable = record node.state.stable { names = change node.state.stable.names } } }
+
+abbrev pub all_named : (Names → Names) → World → World
+all_named change w = record w { servers = map (node_named change) w.servers }
+
+-- a new file is there, or the next inode is passed over
+abbrev pub with_file : Names → Names
+with_file n = (names.added n 1 (codes "new") false).names
+
+abbrev pub with_a_gap : Names → Names
+with_a_gap n = record n { next = n.next + 1 }
+
+unfoldable pub created_and_not_asked : Step
+created_and_not_asked = leaving (all_named with_file) (still (here reading))
+
+unfoldable pub created_otherwise : Step
+created_otherwise = leaving (all_named with_a_gap) (still (here creating))
+
+unfoldable pub created_as_asked : Step
+created_as_asked = leaving (all_named with_file) (still (here creating))
+
+-- the ask for the new file was refused before
+unfoldable pub past_refused : List Step
+past_refused = past creating ++ seeing (answered 1 2 (answers.Refused 8) ∷ []) (still (here creating)) ∷ []
+
 unfoldable pub broken_open : ⊤
-unfolding safe_words_open prepared past here met past_met here_met lost_run past_lost here_lost past_cut stale_read beside_a_lock beside_a_held_lock dropped_without_a_crash dropped_by_another_command dropped_without_a_report hard_no_more hard_too_early stolen_early stolen_as_another_life dated_from_the_arrival replied_behind_a_timer grace_too_short grace_never_begun conflict_sent hard_and_pending hard_twice written_and_not_logged cut_and_not_logged written_under_another_number written_and_not_answered answered_twice written_without_a_lock written_under_a_lesser_grant cut_without_a_lock cut_and_not_asked cut_as_asked past_answered kept_after_the_end submitted_after_the_end read_after_the_end timer_unknown timer_without_a_suspect date_unknown grant_unknown loss_not_told loss_told_in_part told_and_not_lost hard_and_not_held fault_without_a_report full_without_operations refused_without_a_refusal told_and_not_sent counted_and_not_told given_to_another_client given_of_another_file given_below given_again
+unfolding safe_words_open prepared past here met past_met here_met lost_run past_lost here_lost past_cut stale_read beside_a_lock beside_a_held_lock dropped_without_a_crash dropped_by_another_command dropped_without_a_report hard_no_more hard_too_early stolen_early stolen_as_another_life dated_from_the_arrival replied_behind_a_timer grace_too_short grace_never_begun conflict_sent hard_and_pending hard_twice written_and_not_logged cut_and_not_logged written_under_another_number written_and_not_answered answered_twice written_without_a_lock written_under_a_lesser_grant cut_without_a_lock cut_and_not_asked cut_as_asked past_answered kept_after_the_end submitted_after_the_end read_after_the_end timer_unknown timer_without_a_suspect date_unknown grant_unknown loss_not_told loss_told_in_part told_and_not_lost hard_and_not_held fault_without_a_report full_without_operations refused_without_a_refusal told_and_not_sent counted_and_not_told given_to_another_client given_of_another_file given_below given_again cut_and_not_acknowledged cut_and_refused past_asked named_wrongly named_truly named_and_not_asked named_and_not_created created_and_not_asked created_otherwise created_as_asked past_refused
 broken_open = tt

@@ -24,11 +24,14 @@ use Rattle.st_rules.specs.Safety.{
   TheHistoryIsTheWorlds,
 }
 use Rattle.st_rules.specs.World.{World}
+use Rattle.st_promises.specs.Acknowledgements.{CutsAreAcknowledged}
 use Rattle.st_promises.specs.CutAsks.{CutsAreAsked}
 use Rattle.st_promises.specs.Faults.{FaultsHaveACause}
 use Rattle.st_promises.specs.Grants.{GrantNumbersAreGivenOnce, GrantNumbersRise}
 use Rattle.st_promises.specs.Held.{DisksHoldWhatIsHard}
 use Rattle.st_promises.specs.Losses.{LossesAreTold}
+use Rattle.st_promises.specs.NameAnswers.{NamesAnswerTruly}
+use Rattle.st_promises.specs.NameChanges.{NamesChangeAsAsked}
 use Rattle.st_promises.specs.Numbers.{LinesGiveTheNextNumbers, numbers_open}
 use Rattle.st_promises.specs.Safe.{promises_open}
 use Rattle.st_rows_world.specs.WorldWords.{world_words_open}
@@ -58,6 +61,9 @@ pub record AreKept (xs : List Step) : Type 0 where
   pub cuts : Throughout CutsAreAsked [] xs
   pub given : Throughout GrantNumbersAreGivenOnce [] xs
   pub rising : Throughout GrantNumbersRise [] xs
+  pub acknowledged : Throughout CutsAreAcknowledged [] xs
+  pub named : Throughout NamesAnswerTruly [] xs
+  pub renamed : Throughout NamesChangeAsAsked [] xs
 
 -- a run from a world
 abbrev pub IsKeptRun : World → List Event → Type 0

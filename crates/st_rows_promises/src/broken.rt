@@ -1,11 +1,14 @@
 ghost use Rattle.std.specs.Prelude.{◌∷◌, []};
+ghost use Rattle.st_promises.specs.Acknowledgements.{CutsAreAcknowledged};
 ghost use Rattle.st_promises.specs.Counts.{TheCountsAreTrue};
 ghost use Rattle.st_promises.specs.CutAsks.{CutsAreAsked};
 ghost use Rattle.st_promises.specs.Faults.{FaultsHaveACause};
 ghost use Rattle.st_promises.specs.Grants.{GrantNumbersAreGivenOnce, GrantNumbersRise};
 ghost use Rattle.st_promises.specs.Held.{DisksHoldWhatIsHard};
 ghost use Rattle.st_promises.specs.Losses.{LossesAreTold};
-ghost use Rattle.st_rows_promises.specs.Broken.{IsKeptBut, answered_twice, beside_a_held_lock, beside_a_lock, conflict_sent, counted_and_not_told, cut_and_not_asked, cut_and_not_logged, cut_as_asked, cut_without_a_lock, cutting, date_unknown, dated_from_the_arrival, dropped_by_another_command, dropped_without_a_crash, dropped_without_a_report, fault_without_a_report, full_without_operations, given_again, given_below, given_of_another_file, given_to_another_client, grace_never_begun, grace_too_short, grant_unknown, hard_and_not_held, hard_and_pending, hard_no_more, hard_too_early, hard_twice, kept_after_the_end, loss_not_told, loss_told_in_part, past, past_answered, past_cut, past_lost, past_met, read_after_the_end, reading, refused_without_a_refusal, replied_behind_a_timer, stale_read, stolen_as_another_life, stolen_early, submitted_after_the_end, syncing, timer_unknown, timer_without_a_suspect, told_and_not_lost, told_and_not_sent, writing, written_and_not_answered, written_and_not_logged, written_under_a_lesser_grant, written_under_another_number, written_without_a_lock};
+ghost use Rattle.st_promises.specs.NameAnswers.{NamesAnswerTruly};
+ghost use Rattle.st_promises.specs.NameChanges.{NamesChangeAsAsked};
+ghost use Rattle.st_rows_promises.specs.Broken.{IsKeptBut, answered_twice, beside_a_held_lock, beside_a_lock, conflict_sent, counted_and_not_told, created_and_not_asked, created_as_asked, created_otherwise, creating, cut_and_not_acknowledged, cut_and_not_asked, cut_and_not_logged, cut_and_refused, cut_as_asked, cut_without_a_lock, cutting, date_unknown, dated_from_the_arrival, dropped_by_another_command, dropped_without_a_crash, dropped_without_a_report, fault_without_a_report, full_without_operations, given_again, given_below, given_of_another_file, given_to_another_client, grace_never_begun, grace_too_short, grant_unknown, hard_and_not_held, hard_and_pending, hard_no_more, hard_too_early, hard_twice, kept_after_the_end, looking, loss_not_told, loss_told_in_part, named_and_not_asked, named_and_not_created, named_truly, named_wrongly, past, past_answered, past_asked, past_cut, past_lost, past_met, past_refused, read_after_the_end, reading, refused_without_a_refusal, replied_behind_a_timer, stale_read, stolen_as_another_life, stolen_early, submitted_after_the_end, syncing, timer_unknown, timer_without_a_suspect, told_and_not_lost, told_and_not_sent, writing, written_and_not_answered, written_and_not_logged, written_under_a_lesser_grant, written_under_another_number, written_without_a_lock};
 ghost use Rattle.st_rules.specs.Safety.{AnswersAreLogged, AsksAreAnsweredOnce, ChangesAreLocked, ChangesGoInTheOrderOfLocks, DirtyPagesStandAlone, DropsHaveACause, ExpiredLeasesEmptyClients, GraceWaits, HardIsHard, HardStaysHard, LeasesAreDatedFromRequests, NoConflictIsSent, ReadsReturnLastWrites, TheHistoryIsTheWorlds, TheReportTellsTheLog, TheftsComeLate};
 
 /// A page that is dirty while another client has a row of its file.
@@ -337,4 +340,69 @@ pub fn a_number_given_of_another_file_is_refused()
 pub fn a_number_below_another_is_refused()
     ensures broken { ¬ GrantNumbersRise (past reading) given_below }
     ensures kept { IsKeptBut (23 ∷ []) (past reading) given_below }
+{}
+
+/// A cut that is done, and of which nothing is said.
+#[tactic(auto, unfolding(crate::specs::Broken::broken_open))]
+pub fn a_cut_that_is_not_acknowledged_is_refused()
+    ensures broken { ¬ CutsAreAcknowledged (past cutting) cut_and_not_acknowledged }
+    ensures kept { IsKeptBut (24 ∷ []) (past cutting) cut_and_not_acknowledged }
+{}
+
+/// A cut that is done and acknowledged, and refused besides.
+#[tactic(auto, unfolding(crate::specs::Broken::broken_open))]
+pub fn a_cut_that_is_done_and_refused_is_refused()
+    ensures broken { ¬ CutsAreAcknowledged (past cutting) cut_and_refused }
+    ensures kept { IsKeptBut (24 ∷ []) (past cutting) cut_and_refused }
+{}
+
+/// A name that is answered with another inode than the names have. Their own inode is no fault.
+#[tactic(auto, unfolding(crate::specs::Broken::broken_open))]
+pub fn a_name_that_was_not_said_is_refused()
+    ensures broken { ¬ NamesAnswerTruly (past_asked looking) named_wrongly }
+    ensures kept { IsKeptBut (25 ∷ []) (past_asked looking) named_wrongly }
+    ensures said { IsKeptBut [] (past_asked looking) named_truly }
+{}
+
+/// A name that is answered with what the names said only before it was asked.
+#[tactic(auto, unfolding(crate::specs::Broken::broken_open))]
+pub fn a_name_from_before_the_ask_is_refused()
+    ensures broken { ¬ NamesAnswerTruly (past looking) named_truly }
+    ensures kept { IsKeptBut (25 ∷ []) (past looking) named_truly }
+{}
+
+/// An inode that is answered to an ask for no name.
+#[tactic(auto, unfolding(crate::specs::Broken::broken_open))]
+pub fn a_name_that_was_not_asked_is_refused()
+    ensures broken { ¬ NamesAnswerTruly (past_asked syncing) named_and_not_asked }
+    ensures kept { IsKeptBut (25 ∷ []) (past_asked syncing) named_and_not_asked }
+{}
+
+/// A create that is answered with the next inode, while the names stay without the new file.
+#[tactic(auto, unfolding(crate::specs::Broken::broken_open))]
+pub fn a_create_that_is_not_done_is_refused()
+    ensures broken { ¬ NamesAnswerTruly (past_asked creating) named_and_not_created }
+    ensures kept { IsKeptBut (25 ∷ []) (past_asked creating) named_and_not_created }
+{}
+
+/// A new file that nobody asked for.
+#[tactic(auto, unfolding(crate::specs::Broken::broken_open))]
+pub fn a_change_of_names_that_is_not_asked_is_refused()
+    ensures broken { ¬ NamesChangeAsAsked (past reading) created_and_not_asked }
+    ensures kept { IsKeptBut (26 ∷ []) (past reading) created_and_not_asked }
+{}
+
+/// A change of names that is another than the one that was asked.
+#[tactic(auto, unfolding(crate::specs::Broken::broken_open))]
+pub fn a_change_of_names_to_others_is_refused()
+    ensures broken { ¬ NamesChangeAsAsked (past creating) created_otherwise }
+    ensures kept { IsKeptBut (26 ∷ []) (past creating) created_otherwise }
+{}
+
+/// A new file whose ask was answered before, with a refusal. Before that answer it is no fault.
+#[tactic(auto, unfolding(crate::specs::Broken::broken_open))]
+pub fn a_change_of_names_that_was_refused_is_refused()
+    ensures broken { ¬ NamesChangeAsAsked past_refused created_as_asked }
+    ensures kept { IsKeptBut (26 ∷ []) past_refused created_as_asked }
+    ensures before { IsKeptBut [] (past creating) created_as_asked }
 {}
