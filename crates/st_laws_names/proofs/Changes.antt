@@ -1,0 +1,465 @@
+-- Asks change names once: behind every event, and over whole runs.
+use Rattle.std.proofs.Common.{◌≡◌, ◌≢◌, ◌⊎◌, ℕ, ◌+◌, ◌≤◌, zero, suc, arith, Bool, true, false, not, List, [], ◌∷◌, ◌++◌, Option, Some, None, Ok, refl, sym, ap, ◌∙◌, subst, inl, inr}
+use Rattle.std.specs.List.{list_any}
+use Rattle.st_base.specs.declared.ids.ClientId.{ClientId}
+use Rattle.st_base.specs.declared.ids.ServerId.{ServerId}
+use Rattle.st_base.specs.declared.ids.NodeId.TheVariants as nodes
+use Rattle.st_base.specs.declared.ids.Stamp.{Stamp}
+use Rattle.st_messages.specs.declared.ask.Ask.{Ask}
+use Rattle.st_messages.specs.declared.ask.Ask.TheVariants as asks
+use Rattle.st_messages.specs.declared.event.Event.{Event}
+use Rattle.st_messages.specs.declared.message.Body.TheVariants as bodies
+use Rattle.st_messages.specs.declared.message.Message.{Message}
+use Rattle.st_rules.specs.declared.input.ServerInput.{ServerInput}
+use Rattle.st_rules.specs.declared.input.ServerInput.TheVariants as serving
+use Rattle.st_rules.specs.ClientState.{asks_cut_or_name}
+use Rattle.st_rules.specs.Events as ev
+use Rattle.st_rules.specs.Events.{WorldTurn, world_step}
+use Rattle.st_rules.specs.History.{Traced, traced, traced_after}
+use Rattle.st_rules.specs.Keys.{client}
+use Rattle.st_rules.specs.Safety.{Step, is_event, step}
+use Rattle.st_rules.specs.Server as server
+use Rattle.st_rules.specs.Server.{ServerNode}
+use Rattle.st_rules.specs.World.{World, ClientSite, all_clients, all_servers, clock_of, fresh_world, node_of, numbered, site_of, with_numbered}
+use Rattle.st_protocol.specs.Assoc.{Config}
+use Rattle.st_lemmas.specs.Lists.{Has}
+use Rattle.st_lemmas.proofs.Tables.{some_passes}
+use Rattle.st_laws_refine.specs.Server.Pair.{terms_of}
+use Rattle.st_laws_leases.specs.Sides.Law.{InEveryRun}
+use Rattle.st_laws_leases.specs.Dates.Dates.{messages}
+use Rattle.st_laws_leases.proofs.Dates.Leaving.{set_cases}
+use Rattle.st_laws_leases.proofs.Sides.Runs.{throughout_events}
+use Rattle.st_laws_requests.specs.Replies.Reached.{NewOwed}
+use Rattle.st_laws_requests.proofs.Replies.EachEvent.{Brings, NodeAfter, ServerLeft, ServerTook, event_leaves}
+use Rattle.st_laws_requests.proofs.Cuts.Names.{names_same, says_it}
+use Rattle.st_laws_requests.specs.Cuts.Cuts.{does}
+use Rattle.st_laws_extents.proofs.CutRequests.Law.{owed}
+use Rattle.st_promises.specs.NameAnswers.{becomes_at, changes_at, leaves, said, same_names, says}
+use Rattle.st_laws_cuts.specs.Served.{IsServedAt, NamesBy}
+use Rattle.st_laws_cuts.proofs.Naming.{step_names}
+use Rattle.st_base.specs.declared.config.Config as base
+use Rattle.st_rules.specs.Safety.{IsHead}
+use Rattle.st_lemmas.proofs.Numbers.{get_there}
+use Rattle.std.specs.Prelude.{length, nat_le}
+use Rattle.std.proofs.lemmas.Bool.{eqb-true, leb-true}
+use Rattle.st_rules.specs.ClientState.{Association}
+use Rattle.st_rules.specs.ClientState as cs
+use Rattle.st_rules.specs.Keys.{server_node}
+use Rattle.st_rules.specs.Sessions as sessions
+use Rattle.st_rules.specs.World as world
+use Rattle.st_lemmas.proofs.Tables.{and_true, has_append, same_or_not}
+use Rattle.st_lemmas.proofs.Lookups.{some_is}
+use Rattle.st_laws_refine.specs.Client.Law.{Place}
+use Rattle.st_laws_leases.specs.Sides.Stands.{Standing}
+use Rattle.st_laws_leases.proofs.Dates.Known.{has_right}
+use Rattle.st_laws_requests.specs.Replies.Reached.{IsBehind, Reached}
+use Rattle.st_laws_requests.specs.Cuts.Cuts.{AsksFor, Between, asks_of}
+use Rattle.st_laws_extents.specs.CutRequests.EndedLives.{Goes, IsPast}
+use Rattle.st_laws_extents.proofs.CutRequests.ServersGoOn.{event_goes}
+use Rattle.st_promises.specs.CutAsks.{settles_in}
+use Rattle.st_promises.specs.NameAnswers.{changes_in}
+use Rattle.st_laws_cuts.specs.Over.{AllPast}
+use Rattle.st_laws_cuts.proofs.Words.{clash, unsettled_past}
+use Rattle.st_laws_names.specs.Once.{SameKey, WaitsUnder}
+use Rattle.st_laws_names.specs.Changes.{AskChanges, AsksChangeOnce, ChangedBy, IsBefore}
+use Rattle.st_laws_names.proofs.World.{Asked, NamesHold, OnceHold, Worlds, names_begin, now_key}
+use Rattle.st_laws_names.proofs.World as once
+use Rattle.st_laws_names.proofs.Serving.{step_serves}
+use Rattle.st_laws_names.proofs.Waiting.{Pending, Row, alive}
+use Rattle.st_laws_names.proofs.Rows.{Known, Over, RowsHold, past_on, rows_on}
+
+-- a server that runs serves a message of its world, by which its names become another one's
+record ByRequest (t : World) (old new : ServerNode) : Type 0 where
+  pub running : old.running ≡ true
+  pub message : Message
+  pub among : Has message (messages t)
+  pub by : NamesBy old.state message new.state.stable.names
+  pub behind : IsBehind (sessions.session_of new.state.sessions (client message.header.from)) message.header.life message.header.number
+
+-- What became of the names of a server in an event.
+record CameFrom (t : World) (s : ServerId) (new : ServerNode) : Type 0 where
+  pub old : ServerNode
+  pub was : node_of t s ≡ Some old
+  pub how : (new.state.stable.names ≡ old.state.stable.names) ⊎ ByRequest t old new
+
+abbrev AllCame : World → World → Type 0
+AllCame t v = (s : ServerId) (new : ServerNode) → node_of v s ≡ Some new → CameFrom t s new
+
+-- servers that stay, and one that is another one
+stay : (t v : World) → v.servers ≡ t.servers → AllCame t v
+stay t v q s new at = record { old = new; was = ap (λ z. numbered z s.0) (sym q) ∙ at; how = inl refl }
+
+one_other : (t v : World) (s : ServerId) (old new : ServerNode) → node_of t s ≡ Some old → v.servers ≡ with_numbered s.0 new t.servers → ((new.state.stable.names ≡ old.state.stable.names) ⊎ ByRequest t old new) → AllCame t v
+one_other t v s old new at q how y n there = go (set_cases t.servers s.0 y.0 old new n at (ap (λ z. numbered z y.0) (sym q) ∙ there))
+  where
+    own : CameFrom t s new
+    own = record { old = old; was = at; how = how }
+
+    go : ((y.0 ≡ s.0) × (n ≡ new)) ⊎ ((y.0 ≢ s.0) × (node_of t y ≡ Some n)) → CameFrom t y n
+    go (inl z) = subst (CameFrom t y) (sym z.1) (subst (λ k. CameFrom t (record { 0 = k }) new) (sym z.0) own)
+    go (inr z) = record { old = n; was = z.1; how = inl refl }
+
+crashed_names : (node : ServerNode) → (server.crash_node node).state.stable.names ≡ node.state.stable.names
+unfolding server.crash
+crashed_names node = refl
+
+started_names : (node : ServerNode) (now : Stamp) → (server.start_node node now).state.stable.names ≡ node.state.stable.names
+unfolding server.start server.begin_epoch
+started_names node now = refl
+
+came : (t : World) (e : Event) (sc : WorldTurn) → NewOwed (ev.counted t) e → world_step t e ≡ Ok sc → AllCame t sc.world
+unfolding ev.crashes_client ev.marks ev.starts_client ev.crashes_server ev.starts_server
+came t e sc owes taken =
+    event_leaves t (AllCame t)
+    (λ v cs ss ms. stay t v ss)
+    (λ v cs ss c i site old same run at k last l. stay t last (l.servers ∙ ss))
+    (λ s i node at run brings new_ l. one_other t (ServerLeft t s i node).world s node (NodeAfter t s i node) at l.servers (served s i node run brings))
+    stopped begun crashed started e sc owes taken
+  where
+    served : (s : ServerId) (i : ServerInput) (node : ServerNode) → node.running ≡ true → Brings t i → ((NodeAfter t s i node).state.stable.names ≡ node.state.stable.names) ⊎ ByRequest t node (NodeAfter t s i node)
+    served s i node run brings = go (step_names node.state (clock_of (ev.counted t) (nodes.Server s)) i)
+      where
+        go : ((ServerTook t s i node).state.stable.names ≡ node.state.stable.names) ⊎ ((m : Message) × (i ≡ serving.Control m) × NamesBy node.state m (ServerTook t s i node).state.stable.names) →
+            ((NodeAfter t s i node).state.stable.names ≡ node.state.stable.names) ⊎ ByRequest t node (NodeAfter t s i node)
+        go (inl p) = inl p
+        go (inr (m, q, z)) = pick (step_serves node.state (clock_of (ev.counted t) (nodes.Server s)) m z.op z.body)
+          where
+            pick : ((server.server_step node.state (clock_of (ev.counted t) (nodes.Server s)) (serving.Control m)).state.stable.names ≡ node.state.stable.names) ⊎
+                IsBehind (sessions.session_of (server.server_step node.state (clock_of (ev.counted t) (nodes.Server s)) (serving.Control m)).state.sessions (client m.header.from)) m.header.life m.header.number →
+                ((NodeAfter t s i node).state.stable.names ≡ node.state.stable.names) ⊎ ByRequest t node (NodeAfter t s i node)
+            pick (inl p) = inl (subst (λ j. (server.server_step node.state (clock_of (ev.counted t) (nodes.Server s)) j).state.stable.names ≡ node.state.stable.names) (sym q) p)
+            pick (inr b) = inr (record { running = run; message = m; among = subst (Brings t) q brings; by = z; behind = subst (λ j. IsBehind (sessions.session_of (server.server_step node.state (clock_of (ev.counted t) (nodes.Server s)) j).state.sessions (client m.header.from)) m.header.life m.header.number) (sym q) b })
+
+    stopped : (c : ClientId) (site : ClientSite) → site_of t c ≡ Some site → AllCame t (ev.crashes_client (ev.counted t) c (Some site)).world
+    stopped c site at = stay t (ev.crashes_client (ev.counted t) c (Some site)).world refl
+
+    begun : (c : ClientId) (site : ClientSite) → site_of t c ≡ Some site → AllCame t (ev.starts_client (ev.counted t) c (Some site))
+    begun c site at = stay t (ev.starts_client (ev.counted t) c (Some site)) refl
+
+    crashed : (s : ServerId) (node : ServerNode) → node_of t s ≡ Some node → AllCame t (ev.crashes_server (ev.counted t) s (Some node))
+    crashed s node at = one_other t (ev.crashes_server (ev.counted t) s (Some node)) s node (server.crash_node node) at refl (inl (crashed_names node))
+
+    started : (s : ServerId) (node : ServerNode) → node_of t s ≡ Some node → AllCame t (ev.starts_server (ev.counted t) s (Some node))
+    started s node at = one_other t (ev.starts_server (ev.counted t) s (Some node)) s node (server.start_node node (clock_of (ev.counted t) (nodes.Server s))) at refl (inl (started_names node (clock_of (ev.counted t) (nodes.Server s))))
+
+numbered_there : {A : Type 0} (xs : List A) (n : ℕ) → 1 ≤ n → n ≤ length xs → (v : A) × (numbered xs n ≡ Some v)
+numbered_there xs zero l h = absurd (omega (arith, l))
+numbered_there xs (suc n) l h = get_there xs n (omega (arith, h))
+
+site_there : (w : World) (c : ClientId) → 1 ≤ c.0 → c.0 ≤ length w.clients → (site : ClientSite) × (site_of w c ≡ Some site)
+site_there w c l h = numbered_there w.clients c.0 l h
+
+-- its association with a server
+association_there : (k : Config) (s c : ℕ) (site : ClientSite) (es : List Rattle.st_rules.specs.declared.world.LeaseLife.LeaseLife) (N : List Rattle.st_protocol.specs.Assoc.Msg) → Standing k s c site es N → (a : Association) × Has a site.node.state.associations × (a.server ≡ world.server s)
+association_there k s c site es N z = (z.association, subst (Has z.association) (sym p.is) (has_right p.before (z.association ∷ p.after) z.association (inl refl)), p.here)
+  where
+    p : Place (world.server s) site.node.state.associations z.association
+    p = z.sim.place
+
+-- What stands behind every event.
+pub record PairsHold (past : List Step) (w : World) : Type 0 where
+  pub pairs : (c : ClientId) (op : ℕ) (a b : Asked past w c op) → SameKey a.server b.server a.life_ a.epoch_ a.number_ b.life_ b.epoch_ b.number_
+  pub pasts : (y : Step) → Has y past → (c : ClientId) (s : ServerId) (m : Message) → AllPast y.after.world c s m → AllPast w c s m
+
+same_back : (s u : ServerId) (life epoch number life2 epoch2 number2 : ℕ) → SameKey s u life epoch number life2 epoch2 number2 → SameKey u s life2 epoch2 number2 life epoch number
+same_back s u life epoch number life2 epoch2 number2 k = record { server = sym k.server; life_ = sym k.life_; epoch_ = sym k.epoch_; number_ = sym k.number_ }
+
+-- what waits under a key waits under the same one
+waits_same : (v : World) (c : ClientId) (op : ℕ) (s u : ServerId) (life epoch number life2 epoch2 number2 : ℕ) → SameKey s u life epoch number life2 epoch2 number2 → WaitsUnder v c s life epoch number op → WaitsUnder v c u life2 epoch2 number2 op
+waits_same v c op s u life epoch number life2 epoch2 number2 k w =
+    record {
+      site = w.site;
+      at = w.at;
+      operation = w.operation;
+      there = w.there;
+      is = w.is;
+      asked = subst (λ s. cs.is_asked s w.operation ≡ true) k.server w.asked;
+      association = w.association;
+      among = w.among;
+      server = w.server ∙ k.server;
+      of_life = w.of_life ∙ k.life_;
+      session = w.session;
+      has = w.has;
+      of_epoch = w.of_epoch ∙ k.epoch_;
+      request = w.request;
+      outstanding = w.outstanding;
+      under = w.under ∙ k.number_;
+    }
+
+-- a message that a server serves next is not past
+not_past : (c : ClientId) (n : ServerNode) (m : Message) (served : Rattle.st_laws_cuts.specs.Served.IsServedBy n.state m) → n.running ≡ true → m.header.from ≡ c.0 → IsPast c n m → ⊥
+not_past c n m z run from p = by p
+  where
+    same : client m.header.from ≡ c
+    same = ap (λ k. record { 0 = k }) from
+
+    go : IsBehind (Some z.session) m.header.life m.header.number → ⊥
+    go (inl l) = let y = z.of_life in omega (arith, y, l)
+    go (inr l) = let y = subst (Reached m.header.number) z.state l.1 in let q = z.next in omega (arith, y, q)
+
+    by : IsPast c n m → ⊥
+    by (inl l) = let y = z.of_epoch in omega (arith, y, l)
+    by (inr q) = go (subst (λ o. IsBehind o m.header.life m.header.number) z.is (subst (λ d. IsBehind (sessions.session_of n.state.sessions d) m.header.life m.header.number) (sym same) (q.1 run)))
+
+-- past under one key is past under the same
+past_same : (c : ClientId) (n : ServerNode) (m p : Message) → m.header.life ≡ p.header.life → m.header.epoch ≡ p.header.epoch → m.header.number ≡ p.header.number → IsPast c n m → IsPast c n p
+past_same c n m p a b d (inl l) = inl (omega (arith, l, b))
+past_same c n m p a b d (inr q) = inr (sym b ∙ q.0, λ run. subst (λ k. IsBehind (sessions.session_of n.state.sessions c) k p.header.number) a (subst (λ k. IsBehind (sessions.session_of n.state.sessions c) m.header.life k) d (q.1 run)))
+
+module _ (k : Config) (count : ℕ) (past : List Step) (t : Traced) (e : Event) (sc : WorldTurn) (ranges : is_event count e ≡ true) (h : NamesHold k count past t) (n : NamesHold k count (past ++ step t e sc ∷ []) (traced_after e t sc)) (taken : world_step t.world e ≡ Ok sc)
+    (d : RowsHold past t.world) (p : PairsHold past t.world) where
+  abbrev past2 : List Step
+  past2 = past ++ step t e sc ∷ []
+
+  goes : Goes t.world sc.world
+  goes = event_goes past t h.all.base.replies e sc (owed k count past t e sc ranges h.all.base taken) taken
+
+  -- what stands behind the event
+  which : (v : World) → Worlds past2 sc.world v → Worlds past t.world v ⊎ (v ≡ sc.world)
+  which v (inr q) = inr q
+  which v (inl z) = go (has_append past _ z.0 z.1)
+    where
+      go : Has z.0 past ⊎ Has z.0 (step t e sc ∷ []) → Worlds past t.world v ⊎ (v ≡ sc.world)
+      go (inl i) = inl (inl (z.0, i, z.2))
+      go (inr (inl q)) = inr (z.2 ∙ ap (λ (y : Step). y.after.world) q)
+      go (inr (inr i)) = absurd i
+
+  pairs_on : (c : ClientId) (op : ℕ) (a b : Asked past2 sc.world c op) → SameKey a.server b.server a.life_ a.epoch_ a.number_ b.life_ b.epoch_ b.number_
+  pairs_on c op a b = go (which a.at a.among) (which b.at b.among)
+    where
+      go : Worlds past t.world a.at ⊎ (a.at ≡ sc.world) → Worlds past t.world b.at ⊎ (b.at ≡ sc.world) → SameKey a.server b.server a.life_ a.epoch_ a.number_ b.life_ b.epoch_ b.number_
+      go x (inr q) = now_key past2 sc.world n.once c op b.server b.life_ b.epoch_ b.number_ (subst (λ v. WaitsUnder v c b.server b.life_ b.epoch_ b.number_ op) q b.waits) a
+      go (inr q) (inl y) = same_back b.server a.server b.life_ b.epoch_ b.number_ a.life_ a.epoch_ a.number_ (now_key past2 sc.world n.once c op a.server a.life_ a.epoch_ a.number_ (subst (λ v. WaitsUnder v c a.server a.life_ a.epoch_ a.number_ op) q a.waits) b)
+      go (inl x) (inl y) = p.pairs c op (record { at = a.at; among = x; server = a.server; life_ = a.life_; epoch_ = a.epoch_; number_ = a.number_; waits = a.waits }) (record { at = b.at; among = y; server = b.server; life_ = b.life_; epoch_ = b.epoch_; number_ = b.number_; waits = b.waits })
+
+  pasts_on : (y : Step) → Has y past2 → (c : ClientId) (s : ServerId) (m : Message) → AllPast y.after.world c s m → AllPast sc.world c s m
+  pasts_on y i c s m z = go (has_append past _ y i)
+    where
+      go : Has y past ⊎ Has y (step t e sc ∷ []) → AllPast sc.world c s m
+      go (inl j) = past_on k count past t e sc ranges h.all n.all taken d c s m (p.pasts y j c s m z)
+      go (inr (inl q)) = subst (λ (w : Step). AllPast w.after.world c s m) q z
+      go (inr (inr j)) = absurd j
+
+  -- No ask at two events.
+  asked_in : (y : Step) → Has y past → (s : ServerId) (c : ClientId) (op : ℕ) → (z : ChangedBy past y s c op) → (k : Asked past t.world c op) × SameKey k.server s k.life_ k.epoch_ k.number_ z.message.header.life z.message.header.epoch z.message.header.number
+  asked_in y i s c op z = go z.is_before
+    where
+      there : Worlds past t.world z.before → (k : Asked past t.world c op) × SameKey k.server s k.life_ k.epoch_ k.number_ z.message.header.life z.message.header.epoch z.message.header.number
+      there w = (record { at = z.before; among = w; server = s; life_ = z.message.header.life; epoch_ = z.message.header.epoch; number_ = z.message.header.number; waits = z.waits }, record { server = refl; life_ = refl; epoch_ = refl; number_ = refl })
+
+      known : (z.before ≡ y.before.world) → Known past y.before.world → Worlds past t.world z.before
+      known q (inl w) = inl (w.0, w.1, q ∙ w.2)
+      known q (inr f) = absurd (f c s z.message.header.life z.message.header.epoch z.message.header.number op (subst (λ v. WaitsUnder v c s z.message.header.life z.message.header.epoch z.message.header.number op) q z.waits))
+
+      go : IsBefore past y z.before → (k : Asked past t.world c op) × SameKey k.server s k.life_ k.epoch_ k.number_ z.message.header.life z.message.header.epoch z.message.header.number
+      go (inl w) = there (inl w)
+      go (inr q) = there (known q (d.chain y i))
+
+  once_only : (y : Step) → Has y past → (s u : ServerId) (c : ClientId) (op : ℕ) → ChangedBy past y s c op → ChangedBy past (step t e sc) u c op → ⊥
+  once_only y i s u c op a b = not_past c b.old b.message b.by.served b.running b.from (past_same c b.old a.message b.message key.life_ key.epoch_ key.number_ (gone b.old (subst (λ z. node_of t.world z ≡ Some b.old) (sym key.server) b.was)))
+    where
+      k1 : (k : Asked past t.world c op) × SameKey k.server s k.life_ k.epoch_ k.number_ a.message.header.life a.message.header.epoch a.message.header.number
+      k1 = asked_in y i s c op a
+
+      k2 : Asked past t.world c op
+      k2 = record { at = b.before; among = b.is_before; server = u; life_ = b.message.header.life; epoch_ = b.message.header.epoch; number_ = b.message.header.number; waits = b.waits }
+
+      two : SameKey k1.0.server u k1.0.life_ k1.0.epoch_ k1.0.number_ b.message.header.life b.message.header.epoch b.message.header.number
+      two = p.pairs c op k1.0 (record { at = b.before; among = b.is_before; server = u; life_ = b.message.header.life; epoch_ = b.message.header.epoch; number_ = b.message.header.number; waits = b.waits })
+
+      key : SameKey s u a.message.header.life a.message.header.epoch a.message.header.number b.message.header.life b.message.header.epoch b.message.header.number
+      key = record { server = sym k1.1.server ∙ two.server; life_ = sym k1.1.life_ ∙ two.life_; epoch_ = sym k1.1.epoch_ ∙ two.epoch_; number_ = sym k1.1.number_ ∙ two.number_ }
+
+      gone : AllPast t.world c s a.message
+      gone = p.pasts y i c s a.message a.gone
+
+  -- The ask behind a change.
+  module _ (s : ServerId) (old new : ServerNode) (was : node_of t.world s ≡ Some old) (became : node_of sc.world s ≡ Some new) (r : ByRequest t.world old new) where
+    abbrev m : Message
+    m = r.message
+
+    abbrev c : ClientId
+    c = client r.message.header.from
+
+    bounds : (1 ≤ r.message.header.from) × (r.message.header.from ≤ 16)
+    bounds = let q = and_true (nat_le 1 r.message.header.from) (nat_le r.message.header.from 16) r.by.served.client in (leb-true 1 r.message.header.from q.0, leb-true r.message.header.from 16 q.1)
+
+    id : old.state.id ≡ s
+    id = (h.all.base.cuts.servers s old was).id
+
+    found : (site : ClientSite) × (site_of t.world (client r.message.header.from) ≡ Some site)
+    found = site_there t.world (client r.message.header.from) bounds.0 (h.all.owners.senders r.message r.among r.by.served.client)
+
+    own : asks_cut_or_name r.message.body ≡ true
+    own = subst (λ b. asks_cut_or_name b ≡ true) (sym r.by.body) refl
+
+    gone : AllPast sc.world (client r.message.header.from) s r.message
+    gone n at = go (same_or_not r.message.header.epoch new.state.stable.epoch.0)
+      where
+        is : new ≡ n
+        is = some_is (sym became ∙ at)
+
+        up : old.state.stable.epoch.0 ≤ new.state.stable.epoch.0
+        up = let z = goes.nodes s new became in let q = some_is (sym z.1 ∙ was) in subst (λ (y : ServerNode). y.state.stable.epoch.0 ≤ new.state.stable.epoch.0) q z.2.up
+
+        go : (r.message.header.epoch ≡ new.state.stable.epoch.0) ⊎ (r.message.header.epoch ≢ new.state.stable.epoch.0) → IsPast (client r.message.header.from) n r.message
+        go (inl q) = subst (λ n. IsPast (client r.message.header.from) n r.message) is (inr (q, λ run. r.behind))
+        go (inr ne) = subst (λ n. IsPast (client r.message.header.from) n r.message) is (inl (let y = r.by.served.of_epoch in omega (arith, y, up, ne)))
+
+    -- the operation that waited under its key
+    record Behind : Type 0 where
+      pub op : ℕ
+      pub ask : Ask
+      pub asked : numbered (asks_of past (client r.message.header.from)) op ≡ Some ask
+      pub of : cs.server_of ask ≡ s
+      pub means : AsksFor ask r.message.body
+      pub row : Row past t.world (client r.message.header.from) s r.message op
+      pub unsettled : list_any (settles_in (client r.message.header.from) op) past ≡ false
+
+    behind : Behind
+    behind = at found.0 found.1
+      where
+        at : (site : ClientSite) → site_of t.world (client r.message.header.from) ≡ Some site → Behind
+        at site there = by site.node.running refl (same_or_not r.message.header.life y.0.life.0)
+          where
+            y : (a : Association) × Has a site.node.state.associations × (a.server ≡ world.server s.0)
+            y = association_there k s.0 r.message.header.from site t.world.ended ((h.all.base.all.servers s.0 old was).ghosts r.message.header.from).net ((h.all.base.all.servers s.0 old was).both.clients r.message.header.from site there)
+
+            here : y.0.server ≡ s
+            here = y.2
+
+            between : Between (client r.message.header.from) y.0.server r.message
+            between = (refl, r.by.served.to ∙ ap server_node id ∙ ap server_node (sym here))
+
+            pos : 1 ≤ r.message.header.number
+            pos = let q = r.by.served.next in omega (arith, q)
+
+            up : r.message.header.life ≤ y.0.life.0
+            up = (h.all.base.cuts.clients (client r.message.header.from) site there).lives y.0 y.1 r.message r.among between
+
+            past_here : AllPast t.world (client r.message.header.from) y.0.server r.message → ⊥
+            past_here q = not_past (client r.message.header.from) old r.message r.by.served r.running refl (q old (ap (node_of t.world) here ∙ was))
+
+            row_here : (op : ℕ) → Row past t.world (client r.message.header.from) y.0.server r.message op → Row past t.world (client r.message.header.from) s r.message op
+            row_here op w = subst (λ (s : ServerId). Row past t.world (client r.message.header.from) s r.message op) here w
+
+            left : Over past t.world (client r.message.header.from) y.0.server site.node.state.operations r.message → Behind
+            left (inl q) = absurd (past_here q)
+            left (inr q) = record { op = q.op; ask = q.ask; asked = q.asked; of = q.of ∙ here; means = q.means; row = row_here q.op q.row; unsettled = q.unsettled }
+
+            waits : AllPast t.world (client r.message.header.from) y.0.server r.message ⊎ Pending past t.world (client r.message.header.from) y.0.server site.node.state.operations r.message → Behind
+            waits (inl q) = absurd (past_here q)
+            waits (inr q) =
+                record {
+                  op = q.operation.op;
+                  ask = q.operation.ask;
+                  asked = (h.all.base.cuts.clients (client r.message.header.from) site there).asked q.operation q.there;
+                  of = ap (λ n. record { 0 = n }) (eqb-true (cs.server_of q.operation.ask).0 y.0.server.0 (and_true (cs.is_of y.0.server q.operation) _ q.asked).0) ∙ here;
+                  means = q.means;
+                  row = row_here q.operation.op q.row;
+                  unsettled = unsettled_past (client r.message.header.from) q.operation.op past (h.all.owners.unsaid (client r.message.header.from) site there q.operation q.there);
+                }
+
+            by : (b : Bool) → site.node.running ≡ b → (r.message.header.life ≡ y.0.life.0) ⊎ (r.message.header.life ≢ y.0.life.0) → Behind
+            by false w l = left (d.over (client r.message.header.from) site there y.0 y.1 r.message r.among between pos own (inr w))
+            by true w (inr n) = left (d.over (client r.message.header.from) site there y.0 y.1 r.message r.among between pos own (inl (omega (arith, n, up))))
+            by true w (inl l) = waits (alive k count past t h.all.base h.all.owners.owned (client r.message.header.from) site (record { there = there; runs = w }) y.0 y.1 r.message r.among between l pos own)
+
+    changed_by : (op : ℕ) → Row past t.world (client r.message.header.from) s r.message op → ChangedBy past (step t e sc) s (client r.message.header.from) op
+    changed_by op w =
+        record {
+          old = old;
+          was = was;
+          running = r.running;
+          new = new;
+          became = became;
+          message = r.message;
+          among = r.among;
+          from = refl;
+          by = r.by;
+          gone = gone;
+          before = w.asked.at;
+          is_before = w.asked.among;
+          waits = waits_same w.asked.at (client r.message.header.from) op w.asked.server s w.asked.life_ w.asked.epoch_ w.asked.number_ r.message.header.life r.message.header.epoch r.message.header.number w.same w.asked.waits;
+        }
+
+    ask_changes : AskChanges past (step t e sc) s
+    ask_changes = by behind.ask behind.asked behind.of (subst (AsksFor behind.ask) r.by.body behind.means)
+      where
+        by : (a : Ask) → numbered (asks_of past (client r.message.header.from)) behind.op ≡ Some a → cs.server_of a ≡ s → AsksFor a (bodies.Name r.by.op) → AskChanges past (step t e sc) s
+        by (asks.Name sv ask) q of a =
+            record {
+              c = client r.message.header.from;
+              op = behind.op;
+              ask = ask;
+              changed = changed_by behind.op behind.row;
+              asked = subst (λ z. numbered (asks_of past (client r.message.header.from)) behind.op ≡ Some (asks.Name z ask)) of q;
+              becomes = subst (λ o. becomes_at ask o (node_of sc.world s) ≡ true) (sym was) (subst (λ o. becomes_at ask (Some old) o ≡ true) (sym became) one);
+              unsettled = behind.unsettled;
+            }
+          where
+            one : list_any (leaves new.state.stable.names) (says old.state.stable.names ask) ≡ true
+            one = some_passes (leaves new.state.stable.names) (says old.state.stable.names ask) (said new.state.stable.names r.by.answer)
+                (subst (λ z. Has z (says old.state.stable.names ask)) (ap (does old.state.stable.names) (sym a.1) ∙ r.by.did) (says_it old.state.stable.names ask a.0 a.2)) (names_same new.state.stable.names)
+        by a q of z = absurd z
+
+  pub asks_once : AsksChangeOnce past (step t e sc)
+  asks_once = record { each = λ s f. one s (node_of sc.world s) refl f; once = once_only }
+    where
+      no_change : (o : Option ServerNode) → {A : Type 0} → changes_at o None ≡ true → A
+      no_change None f = cc f
+      no_change (Some n) f = cc f
+
+      one : (s : ServerId) (o : Option ServerNode) → node_of sc.world s ≡ o → changes_in s (step t e sc) ≡ true → AskChanges past (step t e sc) s
+      one s None q f = no_change (node_of t.world s) (subst (λ o. changes_at (node_of t.world s) o ≡ true) q f)
+      one s (Some new) q f = by (came t.world e sc (owed k count past t e sc ranges h.all.base taken) taken s new q)
+        where
+          by : CameFrom t.world s new → AskChanges past (step t e sc) s
+          by z = how z.how (subst (λ o. changes_at o (Some new) ≡ true) z.was (subst (λ o. changes_at (node_of t.world s) o ≡ true) q f))
+            where
+              differ : new.state.stable.names ≡ z.old.state.stable.names → {A : Type 0} → changes_at (Some z.old) (Some new) ≡ true → A
+              differ e g = clash (sym (ap not (names_same z.old.state.stable.names)) ∙ ap (λ n. not (same_names z.old.state.stable.names n)) (sym e) ∙ g) refl
+
+              how : (new.state.stable.names ≡ z.old.state.stable.names) ⊎ ByRequest t.world z.old new → changes_at (Some z.old) (Some new) ≡ true → AskChanges past (step t e sc) s
+              how (inl e) g = differ e g
+              how (inr r) g = ask_changes s z.old new z.was q r
+
+-- Over whole runs.
+pub record ChangesHold (k : Config) (count : ℕ) (past : List Step) (t : Traced) : Type 0 where
+  pub names_ : NamesHold k count past t
+  pub rows : RowsHold past t.world
+  pub pairs : PairsHold past t.world
+
+one : (k : Config) (count : ℕ) (past : List Step) (t : Traced) (e : Event) (sc : WorldTurn) → is_event count e ≡ true → ChangesHold k count past t → world_step t.world e ≡ Ok sc → AsksChangeOnce past (step t e sc) × ChangesHold k count (past ++ step t e sc ∷ []) (traced_after e t sc)
+one k count past t e sc r h taken = (asks_once k count past t e sc r h.names_ n taken h.rows h.pairs, record { names_ = n; rows = rows_on k count past t e sc r h.names_.all n.all taken h.rows; pairs = record { pairs = pairs_on k count past t e sc r h.names_ n taken h.rows h.pairs; pasts = pasts_on k count past t e sc r h.names_ n taken h.rows h.pairs } })
+  where
+    n : NamesHold k count (past ++ step t e sc ∷ []) (traced_after e t sc)
+    n = (once.one k count past t e sc r h.names_ taken).1
+
+changes_begin : (k : base.Config) (clients servers disks blocks form : ℕ) → IsHead k clients servers disks blocks form → ChangesHold (terms_of k) (clients + servers) [] (traced (fresh_world k clients servers disks blocks form))
+changes_begin k clients servers disks blocks form head =
+    record {
+      names_ = names_begin k clients servers disks blocks form head;
+      rows = record { over = λ c site at a i m among. none_sent m among; now = inr (λ c s life epoch number op w. nobody c s life epoch number op w); chain = λ y i. absurd i };
+      pairs = record { pairs = λ c op a b. absurd (no_pairs c op a); pasts = λ y i. absurd i };
+    }
+  where
+    w : World
+    w = fresh_world k clients servers disks blocks form
+
+    nobody : (c : ClientId) (s : ServerId) (life epoch number op : ℕ) → WaitsUnder w c s life epoch number op → ⊥
+    nobody c s life epoch number op z = once.none_waits k clients servers disks blocks form c op s life epoch number z
+
+    none_sent : (m : Message) → Has m (messages w) → {A : Type 0} → A
+    none_sent m i = absurd (once.none_sent k clients servers disks blocks form m i)
+
+    no_pairs : (c : ClientId) (op : ℕ) → Asked [] w c op → ⊥
+    no_pairs c op a = go a.among
+      where
+        go : Worlds [] w a.at → ⊥
+        go (inl z) = absurd z.1
+        go (inr q) = nobody c a.server a.life_ a.epoch_ a.number_ op (subst (λ v. WaitsUnder v c a.server a.life_ a.epoch_ a.number_ op) q a.waits)
+
+pub law : InEveryRun AsksChangeOnce
+law k clients servers disks blocks form es head events =
+    throughout_events (clients + servers) AsksChangeOnce (ChangesHold (terms_of k) (clients + servers)) (one (terms_of k) (clients + servers)) es events [] (traced (fresh_world k clients servers disks blocks form)) (changes_begin k clients servers disks blocks form head)

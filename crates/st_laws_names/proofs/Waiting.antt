@@ -1,0 +1,156 @@
+-- A request to cut a file or for a name, of the present life of a client that runs: its server serves it no more, or an operation waits
+-- for its reply, under its own key.
+use Rattle.std.proofs.Common.{◌≡◌, ◌≢◌, ◌⊎◌, ℕ, ◌≤◌, ◌<◌, zero, suc, List, true, Option, Some, None, refl, sym, ap, ◌∙◌, subst, inl, inr, arith}
+use Rattle.st_base.specs.declared.ids.ClientId.{ClientId}
+use Rattle.st_messages.specs.declared.message.Message.{Message}
+use Rattle.st_rules.specs.declared.client.Request.{Request}
+use Rattle.st_rules.specs.declared.sessions.Session.{Session}
+use Rattle.st_rules.specs.declared.sessions.SessionState.{SessionState}
+use Rattle.st_rules.specs.declared.sessions.SessionState.TheVariants as states
+use Rattle.st_rules.specs.ClientState.{Association, ClientSession, asks_cut_or_name, is_asked}
+use Rattle.st_rules.specs.History.{Traced}
+use Rattle.st_rules.specs.Safety.{Step}
+use Rattle.st_rules.specs.Server.{ServerNode}
+use Rattle.st_rules.specs.Sessions as sessions
+use Rattle.st_rules.specs.World.{ClientSite, World, node_of}
+use Rattle.st_rules.specs.declared.client.Operation.{Operation}
+use Rattle.st_base.specs.declared.ids.ServerId.{ServerId}
+use Rattle.st_protocol.specs.Assoc.{Config}
+use Rattle.st_protocol.proofs.World.{invariant}
+use Rattle.st_protocol.specs.Assoc as net
+use Rattle.st_lemmas.specs.Lists.{Has}
+use Rattle.st_lemmas.proofs.Tables.{same_or_not}
+use Rattle.st_laws_refine.specs.Views.Halves.{epoch_in}
+use Rattle.st_laws_refine.specs.Server.Stands.{pairs}
+use Rattle.st_laws_leases.specs.Dates.Dates.{messages}
+use Rattle.st_laws_reads.specs.AllClients.Law.{Running}
+use Rattle.st_laws_requests.specs.Replies.Reached.{IsBehind, Reached}
+use Rattle.st_laws_requests.specs.Cuts.Cuts.{AsksFor, Between, Early, Numbers, Numbered, SameBody, Waits, WaitsAt}
+use Rattle.st_laws_requests.specs.Cuts.Cuts as cuts
+use Rattle.st_laws_extents.specs.CutRequests.Asks.{AsksStand, Of, first_open, open_from}
+use Rattle.st_laws_extents.specs.CutRequests.EndedLives.{IsPast}
+use Rattle.st_laws_extents.specs.CutRequests.Law.{gifts}
+use Rattle.st_laws_extents.specs.CutRequests.World.{IsServed}
+use Rattle.st_laws_extents.proofs.CutRequests.Law.{Hold}
+use Rattle.st_laws_extents.proofs.CutRequests.Standing.{whole}
+use Rattle.st_laws_cuts.specs.Owners.{AllOwned, Owned, OwnedBy, Owner, view}
+use Rattle.st_laws_cuts.specs.Over.{AllPast}
+use Rattle.st_laws_names.specs.Once.{SameKey}
+use Rattle.st_laws_names.proofs.World.{Asked, waits_at}
+
+-- the key of a message is one under which an operation waited
+pub record Row (past : List Step) (w : World) (c : ClientId) (s : ServerId) (m : Message) (op : ℕ) : Type 0 where
+  pub asked : Asked past w c op
+  pub same : SameKey asked.server s asked.life_ asked.epoch_ asked.number_ m.header.life m.header.epoch m.header.number
+
+-- a pending operation waits for the reply to such a message
+pub record Pending (past : List Step) (w : World) (c : ClientId) (s : ServerId) (os : List Operation) (m : Message) : Type 0 where
+  pub operation : Operation
+  pub there : Has operation os
+  pub asked : is_asked s operation ≡ true
+  pub means : AsksFor operation.ask m.body
+  pub row : Row past w c s m operation.op
+
+-- a session that reached a number reached those below it
+behind_less : (o : Option Session) (life k j : ℕ) → j ≤ k → IsBehind o life k → IsBehind o life j
+behind_less None life k j l h = h
+behind_less (Some s) life k j l (inl h) = inl h
+behind_less (Some s) life k j l (inr h) = inr (h.0, go s.state h.1)
+  where
+    go : (x : SessionState) → Reached k x → Reached j x
+    go (states.Live last reply) r = omega (arith, l, r)
+    go states.Ended r = tt
+
+less : (u v : ℕ) → (u < v) ⊎ (v ≤ u)
+less u zero = inr (omega arith)
+less zero (suc v) = inl (omega arith)
+less (suc u) (suc v) = up (less u v)
+  where
+    up : (u < v) ⊎ (v ≤ u) → (suc u < suc v) ⊎ (suc v ≤ suc u)
+    up (inl l) = inl (omega (arith, l))
+    up (inr l) = inr (omega (arith, l))
+
+module _ (k : Config) (count : ℕ) (past : List Step) (t : Traced) (h : Hold k count past t) (owned : AllOwned t.world)
+    (c : ClientId) (site : ClientSite) (run : Running t.world c.0 site) (a : Association) (i : Has a site.node.state.associations)
+    (m : Message) (among : Has m (messages t.world)) (between : Between c a.server m) (life : m.header.life ≡ a.life.0) (pos : 1 ≤ m.header.number) (own : asks_cut_or_name m.body ≡ true) where
+  abbrev Result : Type 0
+  Result = AllPast t.world c a.server m ⊎ Pending past t.world c a.server site.node.state.operations m
+
+  module _ (x : ClientSession) (sess : a.session ≡ Some x) (n : Numbered x.epoch.0 x.requests m) where
+    stands : AsksStand (IsServed t.world c) (gifts k count t.world h.all c) a.server a.life.0 x.epoch.0 x.requests x.cutting x.due
+    stands = subst (Of (AsksStand (IsServed t.world c) (gifts k count t.world h.all c)) a.server a.life.0) sess (h.asks c site run.there a i)
+
+    -- the server is in no earlier epoch
+    ahead : (node : ServerNode) → node_of t.world a.server ≡ Some node → x.epoch.0 ≤ node.state.stable.epoch.0
+    ahead node at =
+        let z = h.all.servers a.server.0 node at in
+        let q = (invariant k (pairs a.server.0 z.ended t.world node z.ghosts) h.all.sound z.both.stands.reached c.0).timing_.ahead in
+        let e = ap (λ (y : net.Client). y.epoch) (whole k count t.world h.all a.server.0 node at c.0 site run a i refl) ∙ ap epoch_in sess in
+        omega (arith, q, e)
+
+    -- of an earlier epoch of the session
+    earlier : m.header.epoch ≢ x.epoch.0 → AllPast t.world c a.server m
+    earlier ne = λ node at. inl (let y = n.up_to in let z = ahead node at in omega (arith, y, z, ne))
+
+    -- under a number that was ended
+    ended : m.header.epoch ≡ x.epoch.0 → m.header.number < first_open x.requests → AllPast t.world c a.server m
+    ended e l = λ node at. go node at (same_or_not x.epoch.0 node.state.stable.epoch.0)
+      where
+        go : (node : ServerNode) → node_of t.world a.server ≡ Some node → (x.epoch.0 ≡ node.state.stable.epoch.0) ⊎ (x.epoch.0 ≢ node.state.stable.epoch.0) → IsPast c node m
+        go node at (inr ne) = inl (let z = ahead node at in omega (arith, z, ne, e))
+        go node at (inl q) = inr (e ∙ q, λ r. subst (λ l. IsBehind (sessions.session_of node.state.sessions c) l m.header.number) (sym life) (by (first_open x.requests) refl r))
+          where
+            by : (f : ℕ) → first_open x.requests ≡ f → node.running ≡ true → IsBehind (sessions.session_of node.state.sessions c) a.life.0 m.header.number
+            by zero f r = absurd (omega (arith, f, l))
+            by (suc j) f r = behind_less (sessions.session_of node.state.sessions c) a.life.0 j m.header.number (omega (arith, f, l)) ((stands.served node at j (omega (arith, f, l, pos)) (omega (arith, f))).behind r q)
+
+    -- the outstanding request
+    last : m.header.epoch ≡ x.epoch.0 → first_open x.requests ≤ m.header.number → (o : Option Request) → x.requests.asked ≡ o → Result
+    last e l None asked = absurd (let y = n.below e in let z = subst (λ o. open_from x.requests.next o ≤ m.header.number) asked l in omega (arith, y, z))
+    last e l (Some q) asked = inr (pending (owner (subst (λ b. asks_cut_or_name b ≡ true) same own)))
+      where
+        number : q.number ≡ m.header.number
+        number = let y = n.below e in let z = subst (λ o. open_from x.requests.next o ≤ m.header.number) asked l in let s = stands.last q asked in omega (arith, y, z, s)
+
+        same : m.body ≡ q.body
+        same = subst (λ o. SameBody o m) asked (n.same e) (sym number)
+
+        owner : OwnedBy a.server x.cutting site.node.state.operations (Some q)
+        owner = subst (OwnedBy a.server x.cutting site.node.state.operations) asked (subst (λ o. Owned a.server (view o) site.node.state.operations) sess (owned c site run.there a i))
+
+        waits : (o : Operation) → Has o site.node.state.operations → is_asked a.server o ≡ true → WaitsAt (Early past c) a.server a.life.0 x.epoch.0 (Some q) o
+        waits o j f = subst (λ r. WaitsAt (Early past c) a.server a.life.0 x.epoch.0 r o) asked (subst (λ r. Waits (Early past c) a.server a.life.0 (cuts.view r) o) sess (((h.cuts.clients c site run.there).all run.runs a i).waits o j f))
+
+        pending : Owner a.server x.cutting q.body site.node.state.operations → Pending past t.world c a.server site.node.state.operations m
+        pending z =
+            record {
+              operation = z.operation;
+              there = z.there;
+              asked = z.asked;
+              means = subst (AsksFor z.operation.ask) (sym same) (waits z.operation z.there z.asked).0;
+              row = record {
+                asked = record { at = t.world; among = inr refl; server = a.server; life_ = a.life.0; epoch_ = x.epoch.0; number_ = q.number; waits = waits_at t.world c site run.there a i z.operation z.there z.asked x sess q asked };
+                same = record { server = refl; life_ = sym life; epoch_ = sym e; number_ = number };
+              };
+            }
+
+    whole_session : Result
+    whole_session = go (same_or_not m.header.epoch x.epoch.0)
+      where
+        by : m.header.epoch ≡ x.epoch.0 → (m.header.number < first_open x.requests) ⊎ (first_open x.requests ≤ m.header.number) → Result
+        by e (inl l) = inl (ended e l)
+        by e (inr l) = last e l x.requests.asked refl
+
+        go : (m.header.epoch ≡ x.epoch.0) ⊎ (m.header.epoch ≢ x.epoch.0) → Result
+        go (inl e) = by e (less m.header.number (first_open x.requests))
+        go (inr ne) = inl (earlier ne)
+
+  pub alive : AllPast t.world c a.server m ⊎ Pending past t.world c a.server site.node.state.operations m
+  alive = by a.session refl
+    where
+      numbers : Numbers (λ m. Has m (messages t.world)) c a.server a.life.0 (cuts.view a.session)
+      numbers = ((h.cuts.clients c site run.there).all run.runs a i).numbers
+
+      by : (o : Option ClientSession) → a.session ≡ o → Result
+      by None e = let z = (subst (λ o. Numbers (λ m. Has m (messages t.world)) c a.server a.life.0 (cuts.view o)) e numbers).placed m among between life in absurd (omega (arith, z, pos))
+      by (Some x) e = whole_session x e ((subst (λ o. Numbers (λ m. Has m (messages t.world)) c a.server a.life.0 (cuts.view o)) e numbers).placed m among between life pos)

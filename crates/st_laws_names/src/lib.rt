@@ -1,0 +1,18 @@
+//! Names in every run: to each change of the names of a server one ask, and no ask changes names twice.
+#![tactic(auto)]
+
+ghost use Rattle.st_laws_leases.specs.Sides.Law.{InEveryRun};
+ghost use Rattle.st_laws_names.specs.Changes.{AsksChangeOnce};
+ghost use Rattle.st_laws_names.specs.Once.{OperationsAskOnce};
+
+/// In every run operations ask once: where a client waits for the reply to the request of an operation, that request never had another key, which is
+/// a server, a life, an epoch and a number.
+pub fn operations_ask_once()
+    ensures { InEveryRun OperationsAskOnce }
+{}
+
+/// In every run asks change names once: each event that changed the names of a server has an ask of a client that did so, asked before and not
+/// settled, whose operation waited under the key of the request by which they changed; and no ask did so at two events.
+pub fn asks_change_once()
+    ensures { InEveryRun AsksChangeOnce }
+{}
