@@ -4,11 +4,11 @@ use Rattle.std.proofs.Common.{◌≡◌, ℕ, ◌+◌, ◌⊎◌, Bool, true, fa
 use Rattle.std.specs.Prelude.{map}
 use Rattle.st_base.specs.declared.ids.ClientId.{ClientId}
 use Rattle.st_base.specs.declared.ids.ServerId.{ServerId}
+use Rattle.st_base.specs.declared.ids.Stamp.{Stamp}
 use Rattle.st_base.specs.declared.ids.NodeId.{NodeId}
 use Rattle.st_base.specs.declared.ids.NodeId.TheVariants as nodes
 use Rattle.st_messages.specs.declared.ask.Ask.{Ask}
 use Rattle.st_messages.specs.declared.message.Body.{Body}
-use Rattle.st_messages.specs.declared.message.Body.TheVariants as bodies
 use Rattle.st_messages.specs.declared.message.Message.{Message}
 use Rattle.st_messages.specs.declared.event.Event.{Event}
 use Rattle.st_messages.specs.declared.event.Event.TheVariants as events
@@ -34,62 +34,76 @@ use Rattle.st_rules.specs.World as world
 use Rattle.st_rules.specs.World.{World, ClientSite, site_of, node_of, with_numbered, clock_of}
 use Rattle.st_lemmas.specs.Lists.{Has}
 use Rattle.st_lemmas.proofs.Steps.{step_happens}
-use Rattle.st_lemmas.proofs.Tables.{has_map}
+use Rattle.st_lemmas.proofs.Numbers.{numbered_has}
+use Rattle.st_lemmas.proofs.Tables.{has_map, has_map_in}
 use Rattle.st_laws_leases.specs.Dates.Dates.{message_in, messages}
 use Rattle.st_laws_leases.proofs.Dates.Leaving.{Leaves, client_leaves, leaves_from, lost_same, server_leaves}
-use Rattle.st_laws_requests.specs.Cuts.Cuts.{KeptState}
+use Rattle.st_laws_requests.specs.Cuts.Cuts.{KeptState, is_report}
 use Rattle.st_laws_requests.proofs.Cuts.Seen.{AnswersOf, NoAnswers, answered_said, fates_none, none_answered, server_none}
-use Rattle.st_laws_requests.proofs.Cuts.Server.{Before, O, before_more, served}
+use Rattle.st_laws_requests.proofs.Cuts.Server.{Before, O, before_more, report_kind, served}
 use Rattle.st_laws_requests.proofs.Replies.EachEvent.{ClientTook, SiteAfter}
 
 -- a message that was there before, or is of a server
 abbrev pub OldOrServers : World → World → Type 0
 OldOrServers t v = (m : Message) → Has m (messages v) → Has m (messages t) ⊎ ((s : ServerId) × (m.header.from ≡ server_node s))
 
--- the number of an ask that comes is the client's next one
-abbrev pub NextAsk : ClientInput → ClientSite → ClientSite → Type 0
-NextAsk (inputs.App op ask) old site = (op ≡ old.asks + 1) × (op ≡ site.asks)
-NextAsk i old site = Unit {0}
+-- the number of an ask that comes is the client's next one, and a message that comes was sent
+abbrev pub NextAsk : World → ClientInput → ClientSite → ClientSite → Type 0
+NextAsk t (inputs.App op ask) old site = (op ≡ old.asks + 1) × (op ≡ site.asks)
+NextAsk t (inputs.Control m) old site = Has m (messages t)
+NextAsk t i old site = Unit {0}
 
 -- A client that is emptied: it has no operation, and no session at the servers that it had.
 pub record IsEmptied (old new : ClientSite) : Type 0 where
   pub operations : new.node.state.operations ≡ []
   pub associations : (b : Association) → Has b new.node.state.associations → (a : Association) × Has a old.node.state.associations × (b.server ≡ a.server) × (b.session ≡ None)
+  pub kept : (a : Association) → Has a old.node.state.associations → (b : Association) × Has b new.node.state.associations × (b.server ≡ a.server)
 
 stopped : (site : ClientSite) → IsEmptied site (ev.stopped_site site)
 unfolding cl.crash
-stopped site = record { operations = refl; associations = λ b h. one b (has_map cl.crashed_association site.node.state.associations b h) }
+stopped site =
+    record {
+      operations = refl;
+      associations = λ b h. one b (has_map cl.crashed_association site.node.state.associations b h);
+      kept = λ a h. (cl.crashed_association a, has_map_in cl.crashed_association site.node.state.associations a h, refl);
+    }
   where
     one : (b : Association) → (a : Association) × Has a site.node.state.associations × (b ≡ cl.crashed_association a) → (a : Association) × Has a site.node.state.associations × (b.server ≡ a.server) × (b.session ≡ None)
     one b z = (z.0, z.1, ap (λ (y : Association). y.server) z.2, ap (λ (y : Association). y.session) z.2)
 
 begun : (site : ClientSite) → IsEmptied site (ev.started_site site)
 unfolding cl.start
-begun site = record { operations = refl; associations = λ b h. one b (has_map cl.started_association site.node.state.associations b h) }
+begun site =
+    record {
+      operations = refl;
+      associations = λ b h. one b (has_map cl.started_association site.node.state.associations b h);
+      kept = λ a h. (cl.started_association a, has_map_in cl.started_association site.node.state.associations a h, refl);
+    }
   where
     one : (b : Association) → (a : Association) × Has a site.node.state.associations × (b ≡ cl.started_association a) → (a : Association) × Has a site.node.state.associations × (b.server ≡ a.server) × (b.session ≡ None)
     one b z = (z.0, z.1, ap (λ (y : Association). y.server) z.2, ap (λ (y : Association). y.session) z.2)
 
 -- what a server sends is its own
 its_own : (s : ServerId) (node : ServerNode) (i : ServerInput) (t : World) → node.state.id ≡ s → (m : Message) → Has (outputs.Send m) (server.server_step node.state (clock_of (ev.counted t) (nodes.Server s)) i).out → m.header.from ≡ server_node s
-its_own s node i t e m h = ((served s node.state.stable.epoch i node.state.stable.names Old node.state (clock_of (ev.counted t) (nodes.Server s)) begins).1.acks.sent m h).0
+its_own s node i t e m h = ((served is_report report_kind s node.state.stable.epoch i node.state.stable.names Old node.state now begins).1.0.acks.sent m h).0
   where
+    now : Stamp
+    now = clock_of (ev.counted t) (nodes.Server s)
+
     Old : ClientId → ℕ → ℕ → Body → Type 0
     Old c life number b = Unit {0}
 
     kept : (c : ClientId) (life : ℕ) (x : SessionState) → KeptState (Old c life) x
-    kept c life (states.Live last (Some bodies.Ack)) = tt
-    kept c life (states.Live last (Some (bodies.Named r))) = tt
-    kept c life (states.Live last (Some b)) = tt
+    kept c life (states.Live last (Some b)) = λ q. tt
     kept c life (states.Live last None) = tt
     kept c life states.Ended = tt
 
-    begins : O s node.state.stable.epoch (Before s node.state.stable.epoch i node.state.stable.names Old) (before_more s node.state.stable.epoch i node.state.stable.names Old) node.state.stable.names (server.turn node.state [])
+    begins : O is_report report_kind s node.state.stable.epoch (Before is_report report_kind s node.state.stable.epoch i node.state.stable.names Old node.state now) (before_more is_report report_kind s node.state.stable.epoch i node.state.stable.names Old node.state now) node.state.stable.names (server.turn node.state [])
     begins = record { acks = record { id = e; epoch = refl; kept = λ c x h. kept c x.life.0 x.state; sent = λ y h. absurd h }; names = refl }
 
 module _ (t : World) (ids : (s : ServerId) (node : ServerNode) → node_of t s ≡ Some node → node.state.id ≡ s) (R : WorldTurn → Type 0)
     (quiet : (sc : WorldTurn) → sc.world.clients ≡ t.clients → OldOrServers t sc.world → NoAnswers sc.seen → R sc)
-    (takes_step : (v : World) → v.clients ≡ t.clients → (c : ClientId) (i : ClientInput) (site old : ClientSite) → site.node ≡ old.node → NextAsk i old site → site.node.running ≡ true → site_of t c ≡ Some old →
+    (takes_step : (v : World) → v.clients ≡ t.clients → (c : ClientId) (i : ClientInput) (site old : ClientSite) → site.node ≡ old.node → NextAsk t i old site → site.node.running ≡ true → site_of t c ≡ Some old →
     (sc : WorldTurn) → Leaves (messages t) (ev.with_site c (SiteAfter v c i site) v) sc.world (ClientTook v c i site).out → AnswersOf c (ClientTook v c i site).out [] sc.seen → R sc)
     (emptied : (c : ClientId) (old new : ClientSite) → site_of t c ≡ Some old → IsEmptied old new → (sc : WorldTurn) → sc.world.clients ≡ with_numbered c.0 new t.clients → messages sc.world ≡ messages t → NoAnswers sc.seen → R sc) where
   w : World
@@ -98,7 +112,7 @@ module _ (t : World) (ids : (s : ServerId) (node : ServerNode) → node_of t s �
   alike : (sc : WorldTurn) → sc.world.clients ≡ t.clients → messages sc.world ≡ messages t → NoAnswers sc.seen → R sc
   alike sc cs ms n = quiet sc cs (λ m h. inl (subst (Has m) ms h)) n
 
-  takes : (v : World) → v.clients ≡ t.clients → v.net ≡ t.net → (c : ClientId) (i : ClientInput) (site old : ClientSite) → site.node ≡ old.node → NextAsk i old site → site_of t c ≡ Some old → R (ev.client_takes v c i site)
+  takes : (v : World) → v.clients ≡ t.clients → v.net ≡ t.net → (c : ClientId) (i : ClientInput) (site old : ClientSite) → site.node ≡ old.node → NextAsk t i old site → site_of t c ≡ Some old → R (ev.client_takes v c i site)
   unfolding ev.client_takes ev.client_took cl.node_step
   takes v cs net c i site old same next at = go site.node.running refl
     where
@@ -136,7 +150,7 @@ module _ (t : World) (ids : (s : ServerId) (node : ServerNode) → node_of t s �
           by m (inr h) = inr (s, its_own s node i t (ids s node at) m h)
       go false = alike (ev.quiet w) refl refl none_answered
 
-  at_client : (c : ClientId) (i : ClientInput) → ((site : ClientSite) → NextAsk i site site) → R (ev.at_client w c i (site_of w c))
+  at_client : (c : ClientId) (i : ClientInput) → ((site : ClientSite) → NextAsk t i site site) → R (ev.at_client w c i (site_of w c))
   unfolding ev.at_client w
   at_client c i next = go (site_of w c) refl
     where
@@ -162,15 +176,15 @@ module _ (t : World) (ids : (s : ServerId) (node : ServerNode) → node_of t s �
 
   delivers : (k : ℕ) → R (ev.delivers w (world.message_of w k))
   unfolding ev.delivers ev.delivers_to w
-  delivers k = go (world.message_of w k)
+  delivers k = go (world.message_of w k) refl
     where
-      to : (m : Message) (n : NodeId) → R (ev.delivers_to w m n)
-      to m (nodes.Client c) = at_client c (inputs.Control m) (λ site. tt)
-      to m (nodes.Server s) = at_server s (serving.Control m)
+      to : (m : Message) (n : NodeId) → Has m (messages t) → R (ev.delivers_to w m n)
+      to m (nodes.Client c) h = at_client c (inputs.Control m) (λ site. h)
+      to m (nodes.Server s) h = at_server s (serving.Control m)
 
-      go : (o : Option SentMessage) → R (ev.delivers w o)
-      go None = alike (ev.quiet w) refl refl none_answered
-      go (Some m) = to m.message (world.receiver_of m)
+      go : (o : Option SentMessage) → world.message_of w k ≡ o → R (ev.delivers w o)
+      go None q = alike (ev.quiet w) refl refl none_answered
+      go (Some m) q = to m.message (world.receiver_of m) (has_map_in message_in t.net.messages m (numbered_has t.net.messages k m q))
 
   loses : (k : ℕ) → R (ev.quiet (ev.loses_message w k (world.message_of w k)))
   unfolding ev.loses_message w

@@ -1,5 +1,5 @@
 -- What a server tells a client, among the messages of the association machine: all of it tells numbers of the client.
-use Rattle.std.proofs.Common.{◌≡◌, ℕ, Bool, true, false, ◌==◌, List, [], ◌++◌, ◌∷◌, Some, refl, sym, ap, ◌∙◌, subst, inl, inr, if◌then◌else◌}
+use Rattle.std.proofs.Common.{◌≡◌, ℕ, Bool, true, false, ◌==◌, List, [], ◌∷◌, Some, refl, sym, ap, ◌∙◌, subst, inl, inr, if◌then◌else◌}
 use Rattle.std.proofs.lemmas.Bool.{eq-eqb, eqb-true}
 use Rattle.st_base.specs.Mode.{number_of}
 use Rattle.st_base.specs.declared.ids.GrantNo.{GrantNo}
@@ -11,16 +11,9 @@ use Rattle.st_messages.specs.declared.message.Why.{Why}
 use Rattle.st_messages.specs.declared.message.Why.TheVariants as why
 use Rattle.st_messages.specs.declared.output.Output.{Output}
 use Rattle.st_messages.specs.declared.output.Output.TheVariants as outputs
-use Rattle.st_base.specs.declared.ids.ServerId.{ServerId}
-use Rattle.st_rules.specs.Events as ev
-use Rattle.st_rules.specs.Events.{WorldTurn}
 use Rattle.st_protocol.specs.Assoc as net
 use Rattle.st_protocol.specs.Assoc.{In, Msg, msg}
 use Rattle.st_lemmas.specs.Lists.{Has}
-use Rattle.st_lemmas.proofs.Tables.{has_map_in}
-use Rattle.st_laws_leases.specs.Dates.Dates.{message_in, messages}
-use Rattle.st_laws_leases.proofs.Dates.Known.{has_right}
-use Rattle.st_laws_leases.proofs.Dates.Said.{server_said}
 use Rattle.st_laws_refine.specs.Views.Messages.{Shown, Shows, refusal, shown, with_date}
 use Rattle.st_laws_refine.proofs.Views.Moves.{Grows, shows_more, shown_more}
 use Rattle.st_laws_steps.proofs.Server.Taking.{if_cases, if_either}
@@ -143,19 +136,3 @@ add_tells o c (outputs.Send x ∷ os) N f k = one o c x (add c os N) (f x (inl r
 add_tells o c (outputs.Submit n a w ∷ os) N f k = add_tells o c os N (λ m h. f m (inr h)) k
 add_tells o c (outputs.Answer op a ∷ os) N f k = add_tells o c os N (λ m h. f m (inr h)) k
 add_tells o c (outputs.Note n ∷ os) N f k = add_tells o c os N (λ m h. f m (inr h)) k
-
--- what a server sends is among the messages
-pub server_tells : (s : ServerId) (os : List Output) (a : WorldTurn) (m : Message) → Has (outputs.Send m) os → Has m (messages (ev.server_says_all s os a).world)
-unfolding ev.server_says_all ev.server_says ev.sends
-server_tells s [] a m h = absurd h
-server_tells s (o ∷ os) a m (inr h) = server_tells s os (ev.server_says a s o) m h
-server_tells s (outputs.Send x ∷ os) a m (inl q) = (server_said s os (ev.server_says a s (outputs.Send x))).old m (subst (λ (y : Message). Has y (messages (ev.sends a x).world)) (sym same) new)
-  where
-    same : m ≡ x
-    same = cc
-
-    new : Has x (messages (ev.sends a x).world)
-    new = has_map_in message_in (a.world.net.messages ++ record { message = x; lost = false } ∷ []) (record { message = x; lost = false }) (has_right a.world.net.messages _ _ (inl refl))
-server_tells s (outputs.Submit n c w ∷ os) a m (inl q) = cc q
-server_tells s (outputs.Answer op c ∷ os) a m (inl q) = cc q
-server_tells s (outputs.Note n ∷ os) a m (inl q) = cc q

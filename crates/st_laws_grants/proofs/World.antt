@@ -53,12 +53,13 @@ use Rattle.st_laws_refine.proofs.Server.Counts.{few_grants}
 use Rattle.st_laws_refine.proofs.Server.OneRow.{alone}
 use Rattle.st_laws_refine.proofs.Views.Moves.{Grows as MoreSent, heard_more, moves_grow, shown_more}
 use Rattle.st_laws_requests.specs.Replies.Reached.{NewOwed}
+use Rattle.st_laws_requests.proofs.Cuts.Seen.{server_sends}
 use Rattle.st_laws_requests.proofs.Replies.EachEvent as each
 use Rattle.st_laws_requests.proofs.Replies.EachEvent.{ClientTook, NodeAfter, ServerLeft, ServerTook, SiteAfter}
 use Rattle.st_laws_grants.specs.Owners.{AllGiveOnce, AllTell, Fits, GivesOnce, Grows, Keeps, LocksOk, Owned, Owner, Pair, RiseFrom, Side, StateOk, Tells, WasSent}
 use Rattle.st_laws_grants.proofs.Moves.{Down, stays_down}
 use Rattle.st_laws_grants.proofs.Locking.{IsDue, top}
-use Rattle.st_laws_grants.proofs.Nets.{add, add_grows, add_shows, add_tells, granted_owned, server_tells}
+use Rattle.st_laws_grants.proofs.Nets.{add, add_grows, add_shows, add_tells, granted_owned}
 use Rattle.st_laws_grants.proofs.Server.{Gives, IsTold, RowsOwned, served}
 
 -- a client's message is its own, and its server can hear it
@@ -356,7 +357,7 @@ module _ (k : Config) (count : ℕ) (w : World) (all : AllStand k count w) (g : 
     came m h = leaves_from (messages w) (ev.with_node s (NodeAfter w s i node) (ev.counted w)) Last (ServerTook w s i node).out l m h
 
     said : (m : Message) → Has (outputs.Send m) (ServerTook w s i node).out → Has m (messages Last)
-    said m h = server_tells s (ServerTook w s i node).out (ev.quiet (ev.with_node s (NodeAfter w s i node) (ev.counted w))) m h
+    said m h = server_sends s (ServerTook w s i node).out (ev.quiet (ev.with_node s (NodeAfter w s i node) (ev.counted w))) m h
 
     site_there : (d : ℕ) (x : ClientSite) → site_of Last (client d) ≡ Some x → site_of w (client d) ≡ Some x
     site_there d x e = ap (λ u. numbered u d) (sym l.clients) ∙ e

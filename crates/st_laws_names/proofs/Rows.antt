@@ -258,7 +258,7 @@ module _ (k : Config) (count : ℕ) (past : List Step) (t : Traced) (e : Event) 
           by (inr w) = inr (now_left y old there b.0.server site.node.state.operations m w.2 (λ o j. none_here o j) (λ a v. absurd (none silent y w.2.operation.op a v)))
 
   -- A client takes a step.
-  module _ (v : World) (same_clients : v.clients ≡ t.world.clients) (c : ClientId) (i : ClientInput) (site old : ClientSite) (same : site.node ≡ old.node) (asks_next : NextAsk i old site) (run : site.node.running ≡ true) (at : site_of t.world c ≡ Some old)
+  module _ (v : World) (same_clients : v.clients ≡ t.world.clients) (c : ClientId) (i : ClientInput) (site old : ClientSite) (same : site.node ≡ old.node) (asks_next : NextAsk t.world i old site) (run : site.node.running ≡ true) (at : site_of t.world c ≡ Some old)
       (l : Leaves (messages t.world) (ev.with_site c (SiteAfter v c i site) v) sc.world (ClientTook v c i site).out) (ans : AnswersOf c (ClientTook v c i site).out [] sc.seen) where
     abbrev u : ClientTurn
     u = ClientTook v c i site
@@ -313,7 +313,7 @@ module _ (k : Config) (count : ℕ) (past : List Step) (t : Traced) (e : Event) 
     ends : Held c (λ op. Came op) (Losses site.node.state (clock_of v (nodes.Client c))).out [] (ClientTook v c i site)
     ends = stepped c (λ op. Was op) (λ op. Came op) (λ op w. inl w) site.node.state (clock_of v (nodes.Client c)) i lost (input i asks_next)
       where
-        input : (j : ClientInput) → NextAsk j old site → Rattle.st_laws_cuts.proofs.Step.InputOk c (λ op. Came op) (Losses site.node.state (clock_of v (nodes.Client c))).out (Losses site.node.state (clock_of v (nodes.Client c))) j
+        input : (j : ClientInput) → NextAsk t.world j old site → Rattle.st_laws_cuts.proofs.Step.InputOk c (λ op. Came op) (Losses site.node.state (clock_of v (nodes.Client c))).out (Losses site.node.state (clock_of v (nodes.Client c))) j
         input inputs.Tick g = tt
         input (inputs.Control m) g = tt
         input (inputs.Done number result) g = tt

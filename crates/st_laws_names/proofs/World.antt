@@ -269,7 +269,7 @@ module _ (k : Config) (count : ℕ) (past : List Step) (t : Traced) (e : Event) 
       no o i = empty site.node.state.operations e o i
 
   -- A client that takes a step.
-  module _ (v : World) (same_clients : v.clients ≡ t.world.clients) (c : ClientId) (i : ClientInput) (site old : ClientSite) (same : site.node ≡ old.node) (asks_next : NextAsk i old site) (run : site.node.running ≡ true) (was : site_of t.world c ≡ Some old)
+  module _ (v : World) (same_clients : v.clients ≡ t.world.clients) (c : ClientId) (i : ClientInput) (site old : ClientSite) (same : site.node ≡ old.node) (asks_next : NextAsk t.world i old site) (run : site.node.running ≡ true) (was : site_of t.world c ≡ Some old)
       (at : site_of sc.world c ≡ Some (SiteAfter v c i site)) where
     abbrev S : ℕ → Type 0
     S op = Asked past t.world c op
@@ -323,7 +323,7 @@ module _ (k : Config) (count : ℕ) (past : List Step) (t : Traced) (e : Event) 
           apart = λ a b j l. absurd l;
         })
       where
-        input : (j : ClientInput) → NextAsk j old site → steps.InputOk S (Key past t.world c) EndedAny RefusedAny (λ op x y. tt) (λ op a x. tt) j
+        input : (j : ClientInput) → NextAsk t.world j old site → steps.InputOk S (Key past t.world c) EndedAny RefusedAny (λ op x y. tt) (λ op a x. tt) j
         input inputs.Tick g = tt
         input (inputs.Control m) g = record { told = λ sv op a f key its. tt; refuses = λ sv op f key its. tt }
         input (inputs.Done number result) g = tt
@@ -413,7 +413,7 @@ module _ (k : Config) (count : ℕ) (past : List Step) (t : Traced) (e : Event) 
           (λ v cs c i site old same asks_next run was u l ans q y r at. took v cs c i site old same asks_next run was (sym (ap (λ (w : WorldTurn). w.world.clients) q) ∙ l.clients ∙ ap (λ w. with_numbered c.0 (SiteAfter v c i site) w) cs) y r at)
           (λ c old new was z u cs ms silent q y r at. left c old new was z (sym (ap (λ (w : WorldTurn). w.world.clients) q) ∙ cs) y r at) e sc taken refl
         where
-          took : (v : World) → v.clients ≡ t.world.clients → (c : ClientId) (i : ClientInput) (site old : ClientSite) → site.node ≡ old.node → NextAsk i old site → site.node.running ≡ true → site_of t.world c ≡ Some old → sc.world.clients ≡ with_numbered c.0 (SiteAfter v c i site) t.world.clients →
+          took : (v : World) → v.clients ≡ t.world.clients → (c : ClientId) (i : ClientInput) (site old : ClientSite) → site.node ≡ old.node → NextAsk t.world i old site → site.node.running ≡ true → site_of t.world c ≡ Some old → sc.world.clients ≡ with_numbered c.0 (SiteAfter v c i site) t.world.clients →
               (y : ClientId) (r : ClientSite) → site_of sc.world y ≡ Some r → SiteOnce past2 sc.world y r
           took v cs c i site old same asks_next run was clients y r at = go (set_cases t.world.clients c.0 y.0 old (SiteAfter v c i site) r was (ap (λ w. numbered w y.0) (sym clients) ∙ at))
             where

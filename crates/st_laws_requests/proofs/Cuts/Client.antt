@@ -12,8 +12,6 @@ use Rattle.st_base.specs.declared.ids.ServerId.{ServerId}
 use Rattle.st_base.specs.declared.ids.Stamp.{Stamp}
 use Rattle.st_base.specs.declared.mode.Mode.{Mode}
 use Rattle.st_base.specs.declared.mode.Mode.TheVariants as modes
-use Rattle.st_base.specs.declared.names.NameAsk.{NameAsk}
-use Rattle.st_base.specs.declared.names.NameAsk.TheVariants as asked
 use Rattle.st_messages.specs.declared.answer.AppAnswer.{AppAnswer}
 use Rattle.st_messages.specs.declared.answer.AppAnswer.TheVariants as answers
 use Rattle.st_messages.specs.declared.ask.Ask.{Ask}
@@ -33,14 +31,12 @@ use Rattle.st_rules.specs.declared.client.Asked.{Asked}
 use Rattle.st_rules.specs.declared.client.Asked.TheVariants as demands
 use Rattle.st_rules.specs.declared.client.Ended.{Ended}
 use Rattle.st_rules.specs.declared.client.Ended.TheVariants as ends
-use Rattle.st_rules.specs.declared.client.HeldLock.{HeldLock}
 use Rattle.st_rules.specs.declared.client.IoKind.{IoKind}
 use Rattle.st_rules.specs.declared.client.IoKind.TheVariants as io
 use Rattle.st_rules.specs.declared.client.KnownExtent.{KnownExtent}
 use Rattle.st_rules.specs.declared.client.MappedBlock.{MappedBlock}
 use Rattle.st_rules.specs.declared.client.Operation.{Operation}
 use Rattle.st_rules.specs.declared.client.PageCommand.{PageCommand}
-use Rattle.st_rules.specs.declared.client.Release.{Release}
 use Rattle.st_rules.specs.declared.client.Request.{Request}
 use Rattle.st_rules.specs.declared.client.WriteRefusal.TheVariants.{DirtyFull}
 use Rattle.st_rules.specs.declared.pages.DirtyPage.{DirtyPage}
@@ -51,503 +47,224 @@ use Rattle.st_rules.specs.ClientPages as pages
 use Rattle.st_rules.specs.ClientPasses as cp
 use Rattle.st_rules.specs.ClientReplies as cr
 use Rattle.st_rules.specs.ClientState as cs
-use Rattle.st_rules.specs.ClientState.{ClientSession, Association, Turn, Requests, answer_to, server_of, say, with_session, with_store, with_operations}
+use Rattle.st_rules.specs.ClientState.{ClientSession, Association, Turn, answer_to, server_of, say, with_session, with_store, with_operations}
 use Rattle.st_rules.specs.Keys.{server_node}
 use Rattle.st_lemmas.specs.Lists.{Has}
-use Rattle.st_lemmas.proofs.Lookups.{some_is}
 use Rattle.st_lemmas.proofs.Tables.{and_true, has_append, has_filter, has_map, not_true}
-use Rattle.st_laws_requests.specs.Cuts.Cuts.{AsksFor, Between, Counts, Given, Keyed, MeansNone, Placed, SameBody, Waits, WaitsAt, is_report, view}
-use Rattle.st_laws_requests.proofs.Cuts.Keeping.{Answers, Base, C, CIn, Free, K, Okay, Plain, SaidOf, Sent, W, WIn, Whole, asked_of, b_fewer, b_more, b_say, free_all, freed, has_middle, if_both, if_case, into, is_free, no_acquire, no_map, no_reassert, only_own, said_of, w_answers, w_condemn, w_extents, w_fewer, w_granted, w_of_other, w_queued, w_reasserted, w_refused, w_removed, w_say, w_view, w_without}
+use Rattle.st_laws_requests.specs.Cuts.Cuts.{AsksFor, Given, Keyed, SameBody, Waits, WaitsAt, is_report, view}
+use Rattle.st_laws_requests.proofs.Cuts.Asking.{w_idle, w_requests}
+use Rattle.st_laws_requests.proofs.Cuts.Keeping.{Answers, C, CIn, Free, Okay, Plain, W, WIn, Whole, asked_of, b_fewer, b_more, b_say, free_all, freed, has_middle, if_both, if_case, into, no_acquire, no_map, no_reassert, only_own, said_of, w_answers, w_condemn, w_extents, w_fewer, w_granted, w_of_other, w_queued, w_reasserted, w_refused, w_removed, w_say, w_view, w_without}
 
 module _ (M : List Message) (c : ClientId) (Known : ℕ → Ask → Type 0) (Before : ServerId → ℕ → ℕ → ℕ → ℕ → Type 0) (Done : ℕ → Ask → AppAnswer → Type 0) where
   module _ (s : ServerId) (B : List Operation) (out0 : List Output) where
-    -- Requests.
-    -- what a new message does to the numbers
-    b_sends : (id : ClientId) (sv : ServerId) (life : ℕ) (v w : Option (ℕ × Requests)) (ops : List Operation) (out : List Output) (x : Message) → Between c sv x → x.header.life ≡ life →
-        ((m : Message) → (Sent M c Known Before Done) out m → Between c sv m → Placed life w m) → Placed life w x → Counts w → (K M c Known Before Done s B out0) id sv life v ops out → (K M c Known Before Done s B out0) id sv life w ops (out ++ outputs.Send x ∷ [])
-    b_sends id sv life v w ops out x t l old new counts b =
-        record {
-          id_ = b.id_;
-          server = b.server;
-          asked = b.asked;
-          others = b.others;
-          numbers = record { lives = λ m h u. lives m (which m h) u; placed = λ m h u. placed m (which m h) u; counts = counts };
-          sent = λ m h. sends m (has_append out (outputs.Send x ∷ []) (outputs.Send m) h);
-          said = λ op a h. says op a (has_append out (outputs.Send x ∷ []) (outputs.Answer op a) h);
-        }
-      where
-        same : (m y : Message) → outputs.Send m ≡ outputs.Send y → m ≡ y
-        same m y e = cc
+    -- Replies.
+    module _ (now : Stamp) (m : Message) (Told : Body → ServerId → Type 0)
+        (ends : (sv : ServerId) (b : Body) (a : AppAnswer) → Told b sv → Answers b a → (q : Request) (o : Operation) → server_of o.ask ≡ sv → 1 ≤ q.number → m.header.number ≡ q.number → AsksFor o.ask q.body → cs.fits b q.body ≡ true →
+        ((y : Message) → Has y M → Keyed c sv m.header.life m.header.epoch q.number y → y.body ≡ q.body) → Before sv m.header.life m.header.epoch q.number o.op → Done o.op o.ask a) where
+      abbrev h : Header
+      h = m.header
 
-        which : (m : Message) → (Sent M c Known Before Done) (out ++ outputs.Send x ∷ []) m → (Sent M c Known Before Done) out m ⊎ (m ≡ x)
-        which m (inl h) = inl (inl h)
-        which m (inr h) = go (has_append out (outputs.Send x ∷ []) (outputs.Send m) h)
-          where
-            go : Has (outputs.Send m) out ⊎ Has (outputs.Send m) (outputs.Send x ∷ []) → (Sent M c Known Before Done) out m ⊎ (m ≡ x)
-            go (inl i) = inl (inr i)
-            go (inr (inl e)) = inr (same m x e)
-            go (inr (inr i)) = absurd i
-
-        lives : (m : Message) → (Sent M c Known Before Done) out m ⊎ (m ≡ x) → Between c sv m → m.header.life ≤ life
-        lives m (inl h) u = b.numbers.lives m h u
-        lives m (inr e) u = let z = ap (λ (y : Message). y.header.life) e in omega (arith, z, l)
-
-        placed : (m : Message) → (Sent M c Known Before Done) out m ⊎ (m ≡ x) → Between c sv m → Placed life w m
-        placed m (inl h) u = old m h u
-        placed m (inr e) u = subst (Placed life w) (sym e) new
-
-        sends : (m : Message) → Has (outputs.Send m) out ⊎ Has (outputs.Send m) (outputs.Send x ∷ []) → Has (outputs.Send m) out0 ⊎ Between c sv m
-        sends m (inl h) = b.sent m h
-        sends m (inr (inl e)) = inr (subst (Between c sv) (sym (same m x e)) t)
-        sends m (inr (inr i)) = absurd i
-
-        says : (op : ℕ) (a : AppAnswer) → Has (outputs.Answer op a) out ⊎ Has (outputs.Answer op a) (outputs.Send x ∷ []) → (SaidOf M c Known Before Done) op a
-        says op a (inl h) = b.said op a h
-        says op a (inr (inl e)) = cc e
-        says op a (inr (inr i)) = absurd i
-
-    -- a message of a turn
-    abbrev message : Turn → ℕ → ℕ → ℕ → Body → Message
-    message t epoch number stamp body = record { header = cs.header_of t epoch number stamp; body = body }
-
-    between : (t : Turn) (epoch number stamp : ℕ) (body : Body) → t.id ≡ c → Between c t.here.server (message t epoch number stamp body)
-    between t epoch number stamp body e = (ap (λ (y : ClientId). y.0) e, refl)
-
-    -- a message that is no request
-    w_idle : (t : Turn) (epoch stamp : ℕ) (body : Body) → (W M c Known Before Done s B out0) t → (W M c Known Before Done s B out0) (cs.send t epoch 0 stamp body)
-    unfolding cs.send
-    w_idle t epoch stamp body w = (w_say M c Known Before Done s B out0) t _ (between t epoch 0 stamp body w.base.id_, refl, refl) w
-
-    module _ (fresh : (sv : ServerId) (life epoch number op : ℕ) → ((m : Message) → Has m M → Keyed c sv life epoch number m → ⊥) → Before sv life epoch number op) where
-      -- a new request, where none is outstanding
-      w_ask : (t : Turn) (x : ClientSession) (now : Stamp) (body : Body) (cutting : Option ℕ) → x.requests.asked ≡ None → (CIn M c Known Before Done s B out0) t x → ((o : Operation) → Has o t.operations → cs.is_asked t.here.server o ≡ true → AsksFor o.ask body) →
-          (W M c Known Before Done s B out0) (cp.ask t x now body cutting)
-      unfolding cp.ask cs.send cs.asking
-      w_ask t x now body cutting e b f =
+      -- the request ends: nothing is outstanding, and who waited is yet to be answered
+      b_ended : (t : Turn) (x : ClientSession) (stamp : Stamp) → (CIn M c Known Before Done s B out0) t x → (CIn M c Known Before Done s B out0) t (cr.ended_by stamp x)
+      b_ended t x stamp b =
           record {
-            base = b_sends t.id t.here.server t.here.life.0 (view (Some x)) (view (Some y)) t.operations t.out m (between t x.epoch.0 n now.0 body b.id_) refl
-                (λ a h u l k. let z = b.numbers.placed a h u l k in record { up_to = z.up_to; below = λ q. let r = z.below q in omega (arith, r); same = λ q p. let r = z.below q in absurd (omega (arith, r, p)) })
-                (λ l k. record { up_to = omega arith; below = λ q. omega arith; same = λ q p. refl }) (let z = b.numbers.counts.0 in (omega arith, (z, omega arith))) b;
-            waits = λ o h a. (f o h a, fresh t.here.server t.here.life.0 x.epoch.0 n o.op (λ a h k. none a h k));
+            id_ = b.id_;
+            server = b.server;
+            asked = b.asked;
+            others = b.others;
+            numbers = record {
+              lives = b.numbers.lives;
+              placed = λ a i u l k. let z = b.numbers.placed a i u l k in record { up_to = z.up_to; below = z.below; same = λ q. tt };
+              one = b.numbers.one;
+              sent = tt;
+              counts = (b.numbers.counts.0, tt);
+            };
+            sent = b.sent;
+            kept = b.kept;
+            said = b.said;
           }
+
+      -- what the note of a renewal leaves
+      record Noted (t u : Turn) (x : ClientSession) : Type 0 where
+        pub here : u.here ≡ t.here
+        pub operations : u.operations ≡ t.operations
+        pub base : (CIn M c Known Before Done s B out0) u x
+
+      noted : (t : Turn) (x y : ClientSession) (stamp : Stamp) → (CIn M c Known Before Done s B out0) t y → Noted t (cr.note_renewal t x stamp) y
+      unfolding cr.note_renewal cr.note_lease
+      noted t x y stamp b = go (lease.is_renewal stamp x.lease)
         where
-          n : ℕ
-          n = x.requests.next
+          go : (z : Bool) → Noted t (if z then cr.note_lease (lease.renewed stamp x.lease) t else t) y
+          go true = record { here = refl; operations = refl; base = (b_say M c Known Before Done s B out0) t.id t.here.server t.here.life.0 (view (Some y)) t.operations t.out _ tt b }
+          go false = record { here = refl; operations = refl; base = b }
 
-          y : ClientSession
-          y = cp.asking_session x now body cutting
+      -- nobody waits for a reply of another kind
+      none_for : (t : Turn) (x : ClientSession) (q : Request) → x.requests.asked ≡ Some q → (WIn M c Known Before Done s B out0) t x → (cs.asks_cut_or_name q.body ≡ true → ⊥) → (Free M c Known Before Done) t.here.server t.operations
+      none_for t x q e w f o i a = f (only_own o.ask q.body (subst (λ r. WaitsAt Before t.here.server t.here.life.0 x.epoch.0 r o) e (w.waits o i a)).0)
 
-          m : Message
-          m = message t x.epoch.0 x.requests.next now.0 body
-
-          none : (a : Message) → Has a M → Keyed c t.here.server t.here.life.0 x.epoch.0 n a → ⊥
-          none a h k =
-              let z = b.numbers.counts.0 in
-              let u = k.under in
-              let r = (b.numbers.placed a (inl h) k.between k.of_life (omega (arith, z, u))).below k.of_epoch in
-              omega (arith, r, u)
-
-      -- the outstanding request again
-      w_again : (t : Turn) (x : ClientSession) (now : Stamp) (q : Request) → x.requests.asked ≡ Some q → (WIn M c Known Before Done s B out0) t x → (W M c Known Before Done s B out0) (cp.ask_again t x now q)
-      unfolding cp.ask_again cs.send
-      w_again t x now q e w =
-          record {
-            base = b_sends t.id t.here.server t.here.life.0 (view (Some x)) (view (Some y)) t.operations t.out (message t x.epoch.0 q.number now.0 q.body) (between t x.epoch.0 q.number now.0 q.body w.base.id_) refl
-                (λ a h u l k. let z = w.base.numbers.placed a h u l k in record { up_to = z.up_to; below = z.below; same = λ p. subst (λ o. SameBody o a) e (z.same p) })
-                (λ l k. record { up_to = omega arith; below = λ p. given.1; same = λ p r. refl }) (w.base.numbers.counts.0, given) w.base;
-            waits = λ o h a. subst (λ r. WaitsAt Before t.here.server t.here.life.0 x.epoch.0 r o) e (w.waits o h a);
-          }
+      -- what a report answers is done for each that waits
+      is_done : (t : Turn) (x : ClientSession) (q : Request) (b : Body) (answer : AppAnswer) → Answers b answer → x.requests.asked ≡ Some q → (WIn M c Known Before Done s B out0) t x → Told b t.here.server → h.life ≡ t.here.life.0 → h.epoch ≡ x.epoch.0 → h.number ≡ q.number →
+          cs.fits b q.body ≡ true → (o : Operation) → Has o t.operations → cs.is_asked t.here.server o ≡ true → Done o.op o.ask answer
+      is_done t x q b answer its e w told lf ep nm fit o i a = ends t.here.server b answer told its q o of given.0 nm waits.0 fit bodies_same (subst (λ n. Before t.here.server n h.epoch q.number o.op) (sym lf) (subst (λ n. Before t.here.server t.here.life.0 n q.number o.op) (sym ep) waits.1))
         where
-          y : ClientSession
-          y = cp.again_session x now q
+          waits : AsksFor o.ask q.body × Before t.here.server t.here.life.0 x.epoch.0 q.number o.op
+          waits = subst (λ r. WaitsAt Before t.here.server t.here.life.0 x.epoch.0 r o) e (w.waits o i a)
 
           given : (1 ≤ q.number) × (q.number < x.requests.next)
           given = subst (Given x.requests.next) e w.base.numbers.counts.1
 
-      -- What an operation asks is its own request, where it is sent with it.
-      want_is : (t : Turn) (x : ClientSession) (now : Stamp) (a : Ask) (w : cp.Wanted) → cp.want t x now a ≡ Some w → w.own ≡ true → AsksFor a w.body
-      unfolding cp.want cp.want_at cp.want_on cp.want_by cp.want_under cp.want_held cp.want_cut cp.want_map cp.want_block cp.want_lock cp.want_name cs.meant
-      want_is t x now a w e f = go a e
+          of : server_of o.ask ≡ t.here.server
+          of = ap (λ n. record { 0 = n }) (eqb-true (server_of o.ask).0 t.here.server.0 (asked_of t.here.server o a).0)
+
+          bodies_same : (y : Message) → Has y M → Keyed c t.here.server h.life h.epoch q.number y → y.body ≡ q.body
+          bodies_same y j k =
+              let g = given.0 in
+              let u = k.under in
+              (subst (λ r. SameBody r y) e ((w.base.numbers.placed y (inl j) k.between (k.of_life ∙ lf) (omega (arith, g, u))).same (k.of_epoch ∙ ep))) k.under
+
+      -- What a reply does, besides ending the request.
+      w_told : (u : Turn) (answer : AppAnswer) → (C M c Known Before Done s B out0) u → ((o : Operation) → Has o u.operations → cs.is_asked u.here.server o ≡ true → Done o.op o.ask answer) →
+          (W M c Known Before Done s B out0) (cs.answer_each (cs.is_asked u.here.server) answer u)
+      unfolding cs.answer_each
+      w_told u answer b f =
+          record {
+            base = (b_more M c Known Before Done s B out0) u.id u.here.server u.here.life.0 (view u.here.session) _ u.out _ okay
+                ((b_fewer M c Known Before Done s B out0) u.id u.here.server u.here.life.0 (view u.here.session) u.operations _ u.out (λ o i. (has_filter _ u.operations o i).0) b);
+            waits = λ o i a. absurd ((freed M c Known Before Done s B out0) u answer o i a);
+            alone = λ o p i j a g. absurd ((freed M c Known Before Done s B out0) u answer o i a);
+          }
         where
-          -- what asks on behalf of an operation
-          lent : (b : Bool) (m : Body) → (if b then None else cp.wanted m) ≡ Some w → ⊥
-          lent true m q = cc
-          lent false m q = cc (ap (λ (z : cp.Wanted). z.own) (some_is q), f)
+          okay : (x : Output) → Has x (map (answer_to answer) (filter (cs.is_asked u.here.server) u.operations)) → (Okay M c Known Before Done) u.here.server u.here.life.0 x
+          okay x i =
+              let z = has_map (answer_to answer) _ x i in
+              let y = has_filter (cs.is_asked u.here.server) u.operations z.0 z.1 in
+              subst ((Okay M c Known Before Done) u.here.server u.here.life.0) (sym z.2) ((said_of M c Known Before Done) z.0.op answer (z.0.ask, b.asked z.0 y.0, f z.0 y.0 y.1))
 
-          lent_then : (b : Bool) (m : Body) → (if b then cp.wanted m else None) ≡ Some w → ⊥
-          lent_then false m q = cc
-          lent_then true m q = cc (ap (λ (z : cp.Wanted). z.own) (some_is q), f)
+      w_acknowledged : (u : Turn) → (C M c Known Before Done s B out0) u → ((o : Operation) → Has o u.operations → cs.is_asked u.here.server o ≡ true → Done o.op o.ask answers.Cut) → (W M c Known Before Done s B out0) (cr.acknowledged u)
+      unfolding cr.acknowledged
+      w_acknowledged u b f = w_told u answers.Cut b f
 
-          cut : (b : Bool) (ino : ℕ) (m : Body) (p : PageNo) → (if b then cp.wanted_cut m ino p else None) ≡ Some w → w.body ≡ m
-          cut false ino m p q = cc
-          cut true ino m p q = sym (ap (λ (z : cp.Wanted). z.body) (some_is q))
+      w_named : (u : Turn) (x : ClientSession) (file : Option ℕ) (r : NameReply) → u.here.session ≡ Some x → (C M c Known Before Done s B out0) u →
+          ((o : Operation) → Has o u.operations → cs.is_asked u.here.server o ≡ true → Done o.op o.ask (cr.name_answer r)) → (W M c Known Before Done s B out0) (cr.named u x file r)
+      unfolding cr.named cr.named_as cs.answer_each
+      w_named u x file r e b f = by r
+        where
+          v : Turn
+          v = cs.answer_each (cs.is_asked u.here.server) (cr.name_answer r) u
 
-          -- a remove of a file does not mean a directory
-          means : (k : NameAsk) (ino : ℕ) (g : GrantNo) → cs.file_of_name k ≡ Some ino → MeansNone k g
-          means (asked.Remove dir x n) ino g i = λ z. no (n == 0) (eq-eqb n 0 z) i
+          all : (W M c Known Before Done s B out0) v
+          all = w_told u (cr.name_answer r) b f
+
+          by : (r2 : NameReply) → (W M c Known Before Done s B out0) (cr.named_as v x file r2)
+          by (replies.Ino ino) = (w_removed M c Known Before Done s B out0) v x file all ((into M c Known Before Done s B out0) v x e all)
+          by (replies.Listed rows) = all
+          by (replies.Refused code) = all
+
+      w_effect : (t u : Turn) (x y : ClientSession) (q : Request) (b : Body) (file : Option ℕ) → x.requests.asked ≡ Some q → (WIn M c Known Before Done s B out0) t x → u.here ≡ record t.here { session = Some y } → u.operations ≡ t.operations → (C M c Known Before Done s B out0) u →
+          cs.fits b q.body ≡ true → (is_report b ≡ true → Told b t.here.server) → h.life ≡ t.here.life.0 → h.epoch ≡ x.epoch.0 → h.number ≡ q.number → (W M c Known Before Done s B out0) (cr.effect u y now b file q.body)
+      unfolding cr.effect
+      w_effect t u x y q b file e w here ops base fit told lf ep nm = go b fit told
+        where
+          same_server : t.here.server ≡ u.here.server
+          same_server = sym (ap (λ (a : Association). a.server) here)
+
+          session : u.here.session ≡ Some y
+          session = ap (λ (a : Association). a.session) here
+
+          free : (cs.asks_cut_or_name q.body ≡ true → ⊥) → (Free M c Known Before Done) u.here.server u.operations
+          free f = subst (λ (z : ServerId). (Free M c Known Before Done) z u.operations) same_server (subst ((Free M c Known Before Done) t.here.server) (sym ops) (none_for t x q e w f))
+
+          whole : (cs.asks_cut_or_name q.body ≡ true → ⊥) → (W M c Known Before Done s B out0) u
+          whole f = (free_all M c Known Before Done s B out0) u.id u.here.server u.here.life.0 (view u.here.session) u.operations u.out (free f) base
+
+          whole_in : (cs.asks_cut_or_name q.body ≡ true → ⊥) → (WIn M c Known Before Done s B out0) u y
+          whole_in f = (into M c Known Before Done s B out0) u y session (whole f)
+
+          done : (b : Body) (answer : AppAnswer) → Answers b answer → Told b t.here.server → cs.fits b q.body ≡ true → (o : Operation) → Has o u.operations → cs.is_asked u.here.server o ≡ true → Done o.op o.ask answer
+          done b answer its k fit o i a = is_done t x q b answer its e w k lf ep nm fit o (subst (Has o) ops i) (subst (λ z. cs.is_asked z o ≡ true) (sym same_server) a)
+
+          go : (b : Body) → cs.fits b q.body ≡ true → (is_report b ≡ true → Told b t.here.server) → (W M c Known Before Done s B out0) (cr.effect u y now b file q.body)
+          go (bodies.Granted ino g mode) f k = (w_granted M c Known Before Done s B out0) u y ino g mode (whole_in (no_acquire ino q.body f))
+          go (bodies.Queued ino mode) f k = (w_queued M c Known Before Done s B out0) u y now ino mode (whole_in (no_acquire ino q.body f))
+          go (bodies.Extents ino rows) f k = (w_extents M c Known Before Done s B out0) u y ino rows q.body (whole (no_map ino q.body f))
+          go bodies.Ack f k = w_acknowledged u base (done bodies.Ack answers.Cut refl (k refl) f)
+          go (bodies.Named reply) f k = w_named u y file reply session base (done (bodies.Named reply) (cr.name_answer reply) refl (k refl) f)
+          go bodies.Reasserted f k = (w_reasserted M c Known Before Done s B out0) u y (whole_in (no_reassert q.body f))
+          go (bodies.Nack z a b) f k = (w_refused M c Known Before Done s B out0) u z a b file q.body base
+          go b f k = cc f
+
+      w_reply_to : (t : Turn) (x : ClientSession) (q : Request) (stamp : Stamp) (b : Body) → x.requests.asked ≡ Some q → (WIn M c Known Before Done s B out0) t x → cs.fits b q.body ≡ true → (is_report b ≡ true → Told b t.here.server) → h.life ≡ t.here.life.0 → h.epoch ≡ x.epoch.0 → h.number ≡ q.number →
+          (W M c Known Before Done s B out0) (cr.reply_to t x now stamp b q.body)
+      unfolding cr.reply_to cr.end_request
+      w_reply_to t x q stamp b e w fit told lf ep nm =
+          let z = noted t x (cr.ended_by stamp x) stamp (b_ended t x stamp w.base) in
+          w_effect t (with_session (cr.ended_by stamp x) (cr.note_renewal t x stamp)) x (cr.ended_by stamp x) q b (cs.file_asked x.cutting q.body) e w (ap (λ (a : Association). record a { session = Some (cr.ended_by stamp x) }) z.here) z.operations z.base fit told lf ep nm
+
+      w_reply : (t : Turn) (x : ClientSession) (b : Body) → t.here.session ≡ Some x → (W M c Known Before Done s B out0) t → (is_report b ≡ true → Told b t.here.server) → h.life ≡ t.here.life.0 → h.epoch ≡ x.epoch.0 → (W M c Known Before Done s B out0) (cr.reply_of t x now h b)
+      unfolding cr.reply_of cr.counted cr.by_request cr.count_reply
+      w_reply t x b e w told lf ep = go x.requests.asked refl
+        where
+          stamp : Stamp
+          stamp = record { 0 = h.stamp }
+
+          go : (r : Option Request) → x.requests.asked ≡ r → (W M c Known Before Done s B out0) (cr.counted t x now h.number stamp b r)
+          go None f = w
+          go (Some q) f = if_case (W M c Known Before Done s B out0) (cr.is_counting h.number b q) (cr.count_reply t x now stamp b q.body) t counts (λ g. w)
             where
-              no : {A : Type 0} (b : Bool) → b ≡ true → (if b then None else Some n) ≡ Some ino → A
-              no true e q = cc
-              no false e q = cc e
-          means k ino g i = tt
+              counts : cr.is_counting h.number b q ≡ true → (W M c Known Before Done s B out0) (cr.count_reply t x now stamp b q.body)
+              counts g =
+                  let z = and_true (cs.is_request_of h.number q) (cs.fits b q.body) g in
+                  if_both (W M c Known Before Done s B out0) (cr.refuses_reassertion b q.body) (cr.condemn t x) (cr.reply_to t x now stamp b q.body) ((w_condemn M c Known Before Done s B out0) t x ((into M c Known Before Done s B out0) t x e w))
+                  (w_reply_to t x q stamp b f ((into M c Known Before Done s B out0) t x e w) z.1 told lf ep (sym (eqb-true q.number h.number z.0)))
 
-          means_none : (k : NameAsk) → MeansNone k locks.no_grant
-          means_none (asked.Remove dir x n) = λ z. refl
-          means_none k = tt
+      w_nack : (t : Turn) (x : ClientSession) (y : Why) (a b : ℕ) → t.here.session ≡ Some x → (W M c Known Before Done s B out0) t → h.life ≡ t.here.life.0 → h.epoch ≡ x.epoch.0 → (W M c Known Before Done s B out0) (cr.nack t x now h y a b)
+      w_nack t x why.Suspect a b e w lf ep = (w_condemn M c Known Before Done s B out0) t x ((into M c Known Before Done s B out0) t x e w)
+      w_nack t x why.NoSession a b e w lf ep = (w_condemn M c Known Before Done s B out0) t x ((into M c Known Before Done s B out0) t x e w)
+      w_nack t x why.OtherEpoch a b e w lf ep = w
+      w_nack t x why.Grace a b e w lf ep = w
+      w_nack t x why.GraceOver a b e w lf ep = (w_condemn M c Known Before Done s B out0) t x ((into M c Known Before Done s B out0) t x e w)
+      w_nack t x why.Conflict a b e w lf ep = (w_condemn M c Known Before Done s B out0) t x ((into M c Known Before Done s B out0) t x e w)
+      w_nack t x y a b e w lf ep = w_reply t x (bodies.Nack y a b) e w (λ f. cc f) lf ep
 
-          held : (a : Ask) (ino : ℕ) (g : GrantNo) → cs.file_of a ≡ Some ino → cp.want_held t a ino g ≡ Some w → AsksFor a w.body
-          held (asks.Read f p) ino g i q = absurd (lent _ _ q)
-          held (asks.Write f p bytes) ino g i q = absurd (lent _ _ q)
-          held (asks.Patch f p at bytes) ino g i q = absurd (lent _ _ q)
-          held (asks.Cut f p) ino g i q = subst (AsksFor (asks.Cut f p)) (sym (cut _ ino _ p q)) (some_is i, refl)
-          held (asks.Name sv k) ino g i q = subst (AsksFor (asks.Name sv k)) (sym (cut _ ino _ _ q)) (g, refl, means k ino g i)
-          held (asks.Sync f) ino g i q = cc
-
-          under : (a : Ask) (ino : ℕ) (l : HeldLock) → cs.file_of a ≡ Some ino → (b : Bool) → (if b then cp.want_held t a ino l.g else cp.want_lock t x now ino (cp.need a)) ≡ Some w → AsksFor a w.body
-          under a ino l i true q = held a ino l.g i q
-          under a ino l i false q = absurd (lent_then _ _ q)
-
-          by : (a : Ask) (ino : ℕ) (o : Option HeldLock) → cs.file_of a ≡ Some ino → cp.want_by t x now a ino o ≡ Some w → AsksFor a w.body
-          by a ino None i q = absurd (lent_then _ _ q)
-          by a ino (Some l) i q = under a ino l i _ q
-
-          name : (a : Ask) → cp.want_name a ≡ Some w → AsksFor a w.body
-          name (asks.Name sv k) q = subst (AsksFor (asks.Name sv k)) (ap (λ (z : cp.Wanted). z.body) (some_is q)) (locks.no_grant, refl, means_none k)
-          name a q = cc q
-
-          at : (a : Ask) (o : Option ℕ) → cs.file_of a ≡ o → cp.want_at t x now a o ≡ Some w → AsksFor a w.body
-          at a None i q = name a q
-          at a (Some ino) i q = by a ino (locks.lock_of x.locks ino) i q
-
-          go : (a : Ask) → cp.want t x now a ≡ Some w → AsksFor a w.body
-          go (asks.Sync f) q = cc
-          go a q = at a (cs.file_of a) refl q
-
-      -- The operations once the first of them asks: those before, and that one sent where the request is its own.
-      record AskingOk (t : Turn) (os : List Operation) (a : cp.Asking) : Type 0 where
-        pub from : (o : Operation) → Has o a.operations → (p : Operation) × Has p os × (o.op ≡ p.op) × (o.ask ≡ p.ask) × ((o ≡ p) ⊎ (cs.is_of t.here.server p ≡ true))
-        pub own : (o : Operation) → Has o a.operations → cs.is_asked t.here.server o ≡ true → AsksFor o.ask a.wanted.body
-
-      asking_is : (t : Turn) (x : ClientSession) (now : Stamp) (os : List Operation) (a : cp.Asking) → cp.first_asking t x now os ≡ Some a → (Free M c Known Before Done) t.here.server os → AskingOk t os a
-      unfolding cp.first_asking cp.asks_or cp.asked_by
-      asking_is t x now [] a e f = cc
-      asking_is t x now (o ∷ os) a e f = go (cp.asked_by t x now o) refl (cp.first_asking t x now os) refl e (λ b g. asking_is t x now os b g (λ p h. f p (inr h)))
+      w_demand : (t : Turn) (x : ClientSession) (ino : ℕ) (g : GrantNo) (to : Mode) → t.here.session ≡ Some x → (W M c Known Before Done s B out0) t → (W M c Known Before Done s B out0) (cr.demand t x ino g to)
+      unfolding cr.demand cr.demand_by cr.demand_as cr.see_demand cr.release_unheld
+      w_demand t x ino g to e w = by (locks.demand x.locks ino g to).asked
         where
-          later : (b : cp.Asking) → a ≡ record b { operations = o ∷ b.operations } → AskingOk t os b → AskingOk t (o ∷ os) a
-          later b e k = subst (AskingOk t (o ∷ os)) (sym e) (record { from = from; own = own })
-            where
-              from : (p : Operation) → Has p (o ∷ b.operations) → (r : Operation) × Has r (o ∷ os) × (p.op ≡ r.op) × (p.ask ≡ r.ask) × ((p ≡ r) ⊎ (cs.is_of t.here.server r ≡ true))
-              from p (inl q) = (o, inl refl, ap (λ (z : Operation). z.op) q, ap (λ (z : Operation). z.ask) q, inl q)
-              from p (inr h) = let z = k.from p h in (z.0, inr z.1, z.2, z.3, z.4)
+          l : ClientSession
+          l = cs.with_cache (locks.demand x.locks ino g to).locks x
 
-              own : (p : Operation) → Has p (o ∷ b.operations) → cs.is_asked t.here.server p ≡ true → AsksFor p.ask b.wanted.body
-              own p (inl q) g = absurd (f o (inl refl) (subst (λ r. cs.is_asked t.here.server r ≡ true) q g))
-              own p (inr h) g = k.own p h g
+          both : (b : Bool) → view (Some (if b then l else cs.with_release ino g modes.None l)) ≡ view (Some x)
+          both true = refl
+          both false = refl
 
-          -- this one asks
-          here : (w : cp.Wanted) → cp.asked_by t x now o ≡ Some w → a ≡ record { wanted = w; operations = cp.sent_if w.own o ∷ os } → AskingOk t (o ∷ os) a
-          here w e1 e2 = subst (AskingOk t (o ∷ os)) (sym e2) (record { from = from; own = own })
-            where
-              asks_it : (cs.is_of t.here.server o ≡ true) × (cp.want t x now o.ask ≡ Some w)
-              asks_it = pick (cp.may_ask t x o) refl e1
-                where
-                  pick : (b : Bool) → cp.may_ask t x o ≡ b → (if b then cp.want t x now o.ask else None) ≡ Some w → (cs.is_of t.here.server o ≡ true) × (cp.want t x now o.ask ≡ Some w)
-                  pick true q r = ((and_true (cs.is_of t.here.server o) _ q).0, r)
-                  pick false q r = cc
+          by : (a : Asked) → (W M c Known Before Done s B out0) (cr.demand_as t l ino g a)
+          by demands.Reduce = (w_idle M c Known Before Done s B out0) (with_session l t) _ _ _ ((into M c Known Before Done s B out0) t x e w)
+          by demands.NotHeld = (w_view M c Known Before Done s B out0) t x (cr.release_unheld l ino g) (both (cr.has_release l ino g)) ((into M c Known Before Done s B out0) t x e w)
+          by demands.Stale = w
 
-              op_same : (b : Bool) → (cp.sent_if b o).op ≡ o.op
-              op_same true = refl
-              op_same false = refl
+      w_of_epoch : (t : Turn) (x : ClientSession) (b : Body) → t.here.session ≡ Some x → (W M c Known Before Done s B out0) t → (is_report b ≡ true → Told b t.here.server) → h.life ≡ t.here.life.0 → h.epoch ≡ x.epoch.0 → (W M c Known Before Done s B out0) (cr.of_epoch t x now h b)
+      unfolding cr.of_epoch cr.grant_or_reply
+      w_of_epoch t x (bodies.Nack y a b) e w told lf ep = w_nack t x y a b e w lf ep
+      w_of_epoch t x (bodies.Granted ino g mode) e w told lf ep = if_both (W M c Known Before Done s B out0) (h.number == 0) _ _ ((w_granted M c Known Before Done s B out0) t x ino g mode ((into M c Known Before Done s B out0) t x e w)) (w_reply t x (bodies.Granted ino g mode) e w told lf ep)
+      w_of_epoch t x (bodies.Demand ino g to) e w told lf ep = w_demand t x ino g to e w
+      w_of_epoch t x b e w told lf ep = w_reply t x b e w told lf ep
 
-              ask_same : (b : Bool) → (cp.sent_if b o).ask ≡ o.ask
-              ask_same true = refl
-              ask_same false = refl
+      w_with : (t : Turn) (x : ClientSession) (b : Body) → t.here.session ≡ Some x → (W M c Known Before Done s B out0) t → (is_report b ≡ true → Told b t.here.server) → h.life ≡ t.here.life.0 → (W M c Known Before Done s B out0) (cr.with_a_session t x now h b)
+      unfolding cr.with_a_session
+      w_with t x b e w told lf = if_case (W M c Known Before Done s B out0) (h.epoch == x.epoch.0) _ _ (λ f. w_of_epoch t x b e w told lf (eqb-true h.epoch x.epoch.0 f)) (λ f. (w_of_other M c Known Before Done s B out0) t x _ b e w)
 
-              from : (p : Operation) → Has p (cp.sent_if w.own o ∷ os) → (r : Operation) × Has r (o ∷ os) × (p.op ≡ r.op) × (p.ask ≡ r.ask) × ((p ≡ r) ⊎ (cs.is_of t.here.server r ≡ true))
-              from p (inl q) = (o, inl refl, ap (λ (z : Operation). z.op) q ∙ op_same w.own, ap (λ (z : Operation). z.ask) q ∙ ask_same w.own, inr asks_it.0)
-              from p (inr h) = (p, inr h, refl, refl, inl refl)
-
-              sent : (b : Bool) → w.own ≡ b → cs.is_asked t.here.server (cp.sent_if b o) ≡ true → AsksFor o.ask w.body
-              sent true q g = want_is t x now o.ask w asks_it.1 q
-              sent false q g = absurd (f o (inl refl) g)
-
-              own : (p : Operation) → Has p (cp.sent_if w.own o ∷ os) → cs.is_asked t.here.server p ≡ true → AsksFor p.ask w.body
-              own p (inl q) g = subst (λ y. AsksFor y w.body) (sym (ap (λ (z : Operation). z.ask) q ∙ ask_same w.own)) (sent w.own refl (subst (λ r. cs.is_asked t.here.server r ≡ true) q g))
-              own p (inr h) g = absurd (f p (inr h) g)
-
-          go : (r : Option cp.Wanted) → cp.asked_by t x now o ≡ r → (l : Option cp.Asking) → cp.first_asking t x now os ≡ l → cp.asks_or o os l r ≡ Some a →
-              ((b : cp.Asking) → cp.first_asking t x now os ≡ Some b → AskingOk t os b) → AskingOk t (o ∷ os) a
-          go None e1 None e2 q k = cc
-          go None e1 (Some b) e2 q k = later b (sym (some_is q)) (k b e2)
-          go (Some w) e1 l e2 q k = here w e1 (sym (some_is q))
-
-      -- with none outstanding nobody waits
-      none_waits : (t : Turn) (x : ClientSession) → x.requests.asked ≡ None → (WIn M c Known Before Done s B out0) t x → (Free M c Known Before Done) t.here.server t.operations
-      none_waits t x e w = (is_free M c Known Before Done s B out0) t.here.server t.here.life.0 x.epoch.0 x.requests.asked t.operations e w.waits
-
-      w_plain_ask : (t : Turn) (x : ClientSession) (now : Stamp) (body : Body) → x.requests.asked ≡ None → (WIn M c Known Before Done s B out0) t x → (W M c Known Before Done s B out0) (cp.ask t x now body None)
-      w_plain_ask t x now body e w = w_ask t x now body None e w.base (λ o h a. absurd (none_waits t x e w o h a))
-
-      w_keep_alive : (t : Turn) (x : ClientSession) (now : Stamp) → x.requests.asked ≡ None → (WIn M c Known Before Done s B out0) t x → (W M c Known Before Done s B out0) t → (W M c Known Before Done s B out0) (cp.keep_alive t x now)
-      unfolding cp.keep_alive
-      w_keep_alive t x now e w y = if_both (W M c Known Before Done s B out0) _ _ t (w_plain_ask t x now _ e w) y
-
-      w_ask_for : (t : Turn) (x : ClientSession) (now : Stamp) (a : cp.Asking) → cp.first_asking t x now t.operations ≡ Some a → x.requests.asked ≡ None → (WIn M c Known Before Done s B out0) t x → (W M c Known Before Done s B out0) (cp.ask_for t x now a)
-      unfolding cp.ask_for
-      w_ask_for t x now a f e w = w_ask (with_store (cp.cut_store a.wanted.cut t.here.store) (with_operations a.operations t)) x now a.wanted.body (cp.file_cut a.wanted.cut) e base k.own
+      pub w_hear : (t : Turn) → (is_report m.body ≡ true → (sv : ServerId) → h.from ≡ server_node sv → Told m.body sv) → (W M c Known Before Done s B out0) t → (W M c Known Before Done s B out0) (cr.receive_at now h m.body t)
+      unfolding cr.receive_at cr.by_session
+      w_hear t told w = if_case (W M c Known Before Done s B out0) (cr.is_heard t now h) (cr.by_session t now h m.body t.here.session) t heard (λ f. w)
         where
-          k : AskingOk t t.operations a
-          k = asking_is t x now t.operations a f (none_waits t x e w)
+          by : (is_report m.body ≡ true → Told m.body t.here.server) → h.life ≡ t.here.life.0 → (o : Option ClientSession) → t.here.session ≡ o → (W M c Known Before Done s B out0) (cr.by_session t now h m.body o)
+          by k lf None e = (w_without M c Known Before Done s B out0) t now h m.body e w
+          by k lf (Some x) e = w_with t x m.body e w k lf
 
-          base : (Base M c Known Before Done) s B out0 t.id t.here.server t.here.life.0 (view (Some x)) a.operations t.out
-          base =
-              record {
-                id_ = w.base.id_;
-                server = w.base.server;
-                asked = λ o h. let z = k.from o h in subst (λ n. Known n o.ask) (sym z.2) (subst (λ y. Known z.0.op y) (sym z.3) (w.base.asked z.0 z.1));
-                others = λ o h g. others o (k.from o h) g;
-                numbers = w.base.numbers;
-                sent = w.base.sent;
-                said = w.base.said;
-              }
-            where
-              clash : {b : Bool} → b ≡ true → b ≡ false → ⊥
-              clash x y = cc
-
-              others : (o : Operation) → (p : Operation) × Has p t.operations × (o.op ≡ p.op) × (o.ask ≡ p.ask) × ((o ≡ p) ⊎ (cs.is_of t.here.server p ≡ true)) → cs.is_of t.here.server o ≡ false → Has o B
-              others o (p, h, a, b, inl q) g = subst (λ y. Has y B) (sym q) (w.base.others p h (subst (λ y. cs.is_of t.here.server y ≡ false) q g))
-              others o (p, h, a, b, inr q) g = absurd (clash q (ap (λ y. (server_of y).0 == t.here.server.0) (sym b) ∙ g))
-
-      w_ask_next : (t : Turn) (x : ClientSession) (now : Stamp) → x.requests.asked ≡ None → (WIn M c Known Before Done s B out0) t x → (W M c Known Before Done s B out0) t → (W M c Known Before Done s B out0) (cp.ask_next t x now)
-      unfolding cp.ask_next cp.ask_for_or
-      w_ask_next t x now e w y = if_both (W M c Known Before Done s B out0) (cs.is_serving t.config x now) _ _ (go (cp.first_asking t x now t.operations) refl) (w_keep_alive t x now e w y)
-        where
-          go : (o : Option cp.Asking) → cp.first_asking t x now t.operations ≡ o → (W M c Known Before Done s B out0) (cp.ask_for_or t x now o)
-          go None f = w_keep_alive t x now e w y
-          go (Some a) f = w_ask_for t x now a f e w
-
-      w_ask_by : (t : Turn) (x : ClientSession) (now : Stamp) (rs : List Release) → x.requests.asked ≡ None → (WIn M c Known Before Done s B out0) t x → (W M c Known Before Done s B out0) t → (W M c Known Before Done s B out0) (cp.ask_by t x now rs)
-      unfolding cp.ask_by cp.ask_release
-      w_ask_by t x now [] e w y = w_ask_next t x now e w y
-      w_ask_by t x now (r ∷ rs) e w y = w_plain_ask t (record x { releases = rs }) now _ e w
-
-      w_requests_at : (t : Turn) (x : ClientSession) (now : Stamp) (tick : Bool) (o : Option Request) → x.requests.asked ≡ o → (WIn M c Known Before Done s B out0) t x → (W M c Known Before Done s B out0) t → (W M c Known Before Done s B out0) (cp.requests_at t x now tick o)
-      unfolding cp.requests_at cp.ask_new cp.reassert cp.repeat
-      w_requests_at t x now tick None e w y = if_both (W M c Known Before Done s B out0) x.due _ _ (w_plain_ask t x now _ e w) (w_ask_by t x now x.releases e w y)
-      w_requests_at t x now tick (Some q) e w y = if_both (W M c Known Before Done s B out0) _ _ t (w_again t x now q e w) y
-
-      w_requests : (now : Stamp) (tick : Bool) (t : Turn) → (W M c Known Before Done s B out0) t → (W M c Known Before Done s B out0) (cp.requests now tick t)
-      unfolding cp.requests cp.requests_by cp.requests_under
-      w_requests now tick t w = go t.here.session refl
-        where
-          go : (o : Option ClientSession) → t.here.session ≡ o → (W M c Known Before Done s B out0) (cp.requests_by t now tick o)
-          go None e = w
-          go (Some x) e = if_both (W M c Known Before Done s B out0) x.lease.condemned t _ w (w_requests_at t x now tick x.requests.asked refl ((into M c Known Before Done s B out0) t x e w) w)
-
-      -- Replies.
-      module _ (now : Stamp) (m : Message) (Told : Body → ServerId → Type 0)
-          (ends : (sv : ServerId) (b : Body) (a : AppAnswer) → Told b sv → Answers b a → (q : Request) (o : Operation) → server_of o.ask ≡ sv → 1 ≤ q.number → m.header.number ≡ q.number → AsksFor o.ask q.body → cs.fits b q.body ≡ true →
-          ((y : Message) → Has y M → Keyed c sv m.header.life m.header.epoch q.number y → y.body ≡ q.body) → Before sv m.header.life m.header.epoch q.number o.op → Done o.op o.ask a) where
-        abbrev h : Header
-        h = m.header
-
-        -- the request ends: nothing is outstanding, and who waited is yet to be answered
-        b_ended : (t : Turn) (x : ClientSession) (stamp : Stamp) → (CIn M c Known Before Done s B out0) t x → (CIn M c Known Before Done s B out0) t (cr.ended_by stamp x)
-        b_ended t x stamp b =
-            record {
-              id_ = b.id_;
-              server = b.server;
-              asked = b.asked;
-              others = b.others;
-              numbers = record {
-                lives = b.numbers.lives;
-                placed = λ a i u l k. let z = b.numbers.placed a i u l k in record { up_to = z.up_to; below = z.below; same = λ q. tt };
-                counts = (b.numbers.counts.0, tt);
-              };
-              sent = b.sent;
-              said = b.said;
-            }
-
-        -- what the note of a renewal leaves
-        record Noted (t u : Turn) (x : ClientSession) : Type 0 where
-          pub here : u.here ≡ t.here
-          pub operations : u.operations ≡ t.operations
-          pub base : (CIn M c Known Before Done s B out0) u x
-
-        noted : (t : Turn) (x y : ClientSession) (stamp : Stamp) → (CIn M c Known Before Done s B out0) t y → Noted t (cr.note_renewal t x stamp) y
-        unfolding cr.note_renewal cr.note_lease
-        noted t x y stamp b = go (lease.is_renewal stamp x.lease)
-          where
-            go : (z : Bool) → Noted t (if z then cr.note_lease (lease.renewed stamp x.lease) t else t) y
-            go true = record { here = refl; operations = refl; base = (b_say M c Known Before Done s B out0) t.id t.here.server t.here.life.0 (view (Some y)) t.operations t.out _ tt b }
-            go false = record { here = refl; operations = refl; base = b }
-
-        -- nobody waits for a reply of another kind
-        none_for : (t : Turn) (x : ClientSession) (q : Request) → x.requests.asked ≡ Some q → (WIn M c Known Before Done s B out0) t x → (cs.asks_cut_or_name q.body ≡ true → ⊥) → (Free M c Known Before Done) t.here.server t.operations
-        none_for t x q e w f o i a = f (only_own o.ask q.body (subst (λ r. WaitsAt Before t.here.server t.here.life.0 x.epoch.0 r o) e (w.waits o i a)).0)
-
-        -- what a report answers is done for each that waits
-        is_done : (t : Turn) (x : ClientSession) (q : Request) (b : Body) (answer : AppAnswer) → Answers b answer → x.requests.asked ≡ Some q → (WIn M c Known Before Done s B out0) t x → Told b t.here.server → h.life ≡ t.here.life.0 → h.epoch ≡ x.epoch.0 → h.number ≡ q.number →
-            cs.fits b q.body ≡ true → (o : Operation) → Has o t.operations → cs.is_asked t.here.server o ≡ true → Done o.op o.ask answer
-        is_done t x q b answer its e w told lf ep nm fit o i a = ends t.here.server b answer told its q o of given.0 nm waits.0 fit bodies_same (subst (λ n. Before t.here.server n h.epoch q.number o.op) (sym lf) (subst (λ n. Before t.here.server t.here.life.0 n q.number o.op) (sym ep) waits.1))
-          where
-            waits : AsksFor o.ask q.body × Before t.here.server t.here.life.0 x.epoch.0 q.number o.op
-            waits = subst (λ r. WaitsAt Before t.here.server t.here.life.0 x.epoch.0 r o) e (w.waits o i a)
-
-            given : (1 ≤ q.number) × (q.number < x.requests.next)
-            given = subst (Given x.requests.next) e w.base.numbers.counts.1
-
-            of : server_of o.ask ≡ t.here.server
-            of = ap (λ n. record { 0 = n }) (eqb-true (server_of o.ask).0 t.here.server.0 (asked_of t.here.server o a).0)
-
-            bodies_same : (y : Message) → Has y M → Keyed c t.here.server h.life h.epoch q.number y → y.body ≡ q.body
-            bodies_same y j k =
-                let g = given.0 in
-                let u = k.under in
-                (subst (λ r. SameBody r y) e ((w.base.numbers.placed y (inl j) k.between (k.of_life ∙ lf) (omega (arith, g, u))).same (k.of_epoch ∙ ep))) k.under
-
-        -- What a reply does, besides ending the request.
-        w_told : (u : Turn) (answer : AppAnswer) → (C M c Known Before Done s B out0) u → ((o : Operation) → Has o u.operations → cs.is_asked u.here.server o ≡ true → Done o.op o.ask answer) →
-            (W M c Known Before Done s B out0) (cs.answer_each (cs.is_asked u.here.server) answer u)
-        unfolding cs.answer_each
-        w_told u answer b f =
-            record {
-              base = (b_more M c Known Before Done s B out0) u.id u.here.server u.here.life.0 (view u.here.session) _ u.out _ okay
-                  ((b_fewer M c Known Before Done s B out0) u.id u.here.server u.here.life.0 (view u.here.session) u.operations _ u.out (λ o i. (has_filter _ u.operations o i).0) b);
-              waits = λ o i a. absurd ((freed M c Known Before Done s B out0) u answer o i a);
-            }
-          where
-            okay : (x : Output) → Has x (map (answer_to answer) (filter (cs.is_asked u.here.server) u.operations)) → (Okay M c Known Before Done) u.here.server u.here.life.0 x
-            okay x i =
-                let z = has_map (answer_to answer) _ x i in
-                let y = has_filter (cs.is_asked u.here.server) u.operations z.0 z.1 in
-                subst ((Okay M c Known Before Done) u.here.server u.here.life.0) (sym z.2) ((said_of M c Known Before Done) z.0.op answer (z.0.ask, b.asked z.0 y.0, f z.0 y.0 y.1))
-
-        w_acknowledged : (u : Turn) → (C M c Known Before Done s B out0) u → ((o : Operation) → Has o u.operations → cs.is_asked u.here.server o ≡ true → Done o.op o.ask answers.Cut) → (W M c Known Before Done s B out0) (cr.acknowledged u)
-        unfolding cr.acknowledged
-        w_acknowledged u b f = w_told u answers.Cut b f
-
-        w_named : (u : Turn) (x : ClientSession) (file : Option ℕ) (r : NameReply) → u.here.session ≡ Some x → (C M c Known Before Done s B out0) u →
-            ((o : Operation) → Has o u.operations → cs.is_asked u.here.server o ≡ true → Done o.op o.ask (cr.name_answer r)) → (W M c Known Before Done s B out0) (cr.named u x file r)
-        unfolding cr.named cr.named_as cs.answer_each
-        w_named u x file r e b f = by r
-          where
-            v : Turn
-            v = cs.answer_each (cs.is_asked u.here.server) (cr.name_answer r) u
-
-            all : (W M c Known Before Done s B out0) v
-            all = w_told u (cr.name_answer r) b f
-
-            by : (r2 : NameReply) → (W M c Known Before Done s B out0) (cr.named_as v x file r2)
-            by (replies.Ino ino) = (w_removed M c Known Before Done s B out0) v x file all ((into M c Known Before Done s B out0) v x e all)
-            by (replies.Listed rows) = all
-            by (replies.Refused code) = all
-
-        w_effect : (t u : Turn) (x y : ClientSession) (q : Request) (b : Body) (file : Option ℕ) → x.requests.asked ≡ Some q → (WIn M c Known Before Done s B out0) t x → u.here ≡ record t.here { session = Some y } → u.operations ≡ t.operations → (C M c Known Before Done s B out0) u →
-            cs.fits b q.body ≡ true → (is_report b ≡ true → Told b t.here.server) → h.life ≡ t.here.life.0 → h.epoch ≡ x.epoch.0 → h.number ≡ q.number → (W M c Known Before Done s B out0) (cr.effect u y now b file q.body)
-        unfolding cr.effect
-        w_effect t u x y q b file e w here ops base fit told lf ep nm = go b fit told
-          where
-            same_server : t.here.server ≡ u.here.server
-            same_server = sym (ap (λ (a : Association). a.server) here)
-
-            session : u.here.session ≡ Some y
-            session = ap (λ (a : Association). a.session) here
-
-            free : (cs.asks_cut_or_name q.body ≡ true → ⊥) → (Free M c Known Before Done) u.here.server u.operations
-            free f = subst (λ (z : ServerId). (Free M c Known Before Done) z u.operations) same_server (subst ((Free M c Known Before Done) t.here.server) (sym ops) (none_for t x q e w f))
-
-            whole : (cs.asks_cut_or_name q.body ≡ true → ⊥) → (W M c Known Before Done s B out0) u
-            whole f = (free_all M c Known Before Done s B out0) u.id u.here.server u.here.life.0 (view u.here.session) u.operations u.out (free f) base
-
-            whole_in : (cs.asks_cut_or_name q.body ≡ true → ⊥) → (WIn M c Known Before Done s B out0) u y
-            whole_in f = (into M c Known Before Done s B out0) u y session (whole f)
-
-            done : (b : Body) (answer : AppAnswer) → Answers b answer → Told b t.here.server → cs.fits b q.body ≡ true → (o : Operation) → Has o u.operations → cs.is_asked u.here.server o ≡ true → Done o.op o.ask answer
-            done b answer its k fit o i a = is_done t x q b answer its e w k lf ep nm fit o (subst (Has o) ops i) (subst (λ z. cs.is_asked z o ≡ true) (sym same_server) a)
-
-            go : (b : Body) → cs.fits b q.body ≡ true → (is_report b ≡ true → Told b t.here.server) → (W M c Known Before Done s B out0) (cr.effect u y now b file q.body)
-            go (bodies.Granted ino g mode) f k = (w_granted M c Known Before Done s B out0) u y ino g mode (whole_in (no_acquire ino q.body f))
-            go (bodies.Queued ino mode) f k = (w_queued M c Known Before Done s B out0) u y now ino mode (whole_in (no_acquire ino q.body f))
-            go (bodies.Extents ino rows) f k = (w_extents M c Known Before Done s B out0) u y ino rows q.body (whole (no_map ino q.body f))
-            go bodies.Ack f k = w_acknowledged u base (done bodies.Ack answers.Cut refl (k refl) f)
-            go (bodies.Named reply) f k = w_named u y file reply session base (done (bodies.Named reply) (cr.name_answer reply) refl (k refl) f)
-            go bodies.Reasserted f k = (w_reasserted M c Known Before Done s B out0) u y (whole_in (no_reassert q.body f))
-            go (bodies.Nack z a b) f k = (w_refused M c Known Before Done s B out0) u z a b file q.body base
-            go b f k = cc f
-
-        w_reply_to : (t : Turn) (x : ClientSession) (q : Request) (stamp : Stamp) (b : Body) → x.requests.asked ≡ Some q → (WIn M c Known Before Done s B out0) t x → cs.fits b q.body ≡ true → (is_report b ≡ true → Told b t.here.server) → h.life ≡ t.here.life.0 → h.epoch ≡ x.epoch.0 → h.number ≡ q.number →
-            (W M c Known Before Done s B out0) (cr.reply_to t x now stamp b q.body)
-        unfolding cr.reply_to cr.end_request
-        w_reply_to t x q stamp b e w fit told lf ep nm =
-            let z = noted t x (cr.ended_by stamp x) stamp (b_ended t x stamp w.base) in
-            w_effect t (with_session (cr.ended_by stamp x) (cr.note_renewal t x stamp)) x (cr.ended_by stamp x) q b (cs.file_asked x.cutting q.body) e w (ap (λ (a : Association). record a { session = Some (cr.ended_by stamp x) }) z.here) z.operations z.base fit told lf ep nm
-
-        w_reply : (t : Turn) (x : ClientSession) (b : Body) → t.here.session ≡ Some x → (W M c Known Before Done s B out0) t → (is_report b ≡ true → Told b t.here.server) → h.life ≡ t.here.life.0 → h.epoch ≡ x.epoch.0 → (W M c Known Before Done s B out0) (cr.reply_of t x now h b)
-        unfolding cr.reply_of cr.counted cr.by_request cr.count_reply
-        w_reply t x b e w told lf ep = go x.requests.asked refl
-          where
-            stamp : Stamp
-            stamp = record { 0 = h.stamp }
-
-            go : (r : Option Request) → x.requests.asked ≡ r → (W M c Known Before Done s B out0) (cr.counted t x now h.number stamp b r)
-            go None f = w
-            go (Some q) f = if_case (W M c Known Before Done s B out0) (cr.is_counting h.number b q) (cr.count_reply t x now stamp b q.body) t counts (λ g. w)
-              where
-                counts : cr.is_counting h.number b q ≡ true → (W M c Known Before Done s B out0) (cr.count_reply t x now stamp b q.body)
-                counts g =
-                    let z = and_true (cs.is_request_of h.number q) (cs.fits b q.body) g in
-                    if_both (W M c Known Before Done s B out0) (cr.refuses_reassertion b q.body) (cr.condemn t x) (cr.reply_to t x now stamp b q.body) ((w_condemn M c Known Before Done s B out0) t x ((into M c Known Before Done s B out0) t x e w))
-                    (w_reply_to t x q stamp b f ((into M c Known Before Done s B out0) t x e w) z.1 told lf ep (sym (eqb-true q.number h.number z.0)))
-
-        w_nack : (t : Turn) (x : ClientSession) (y : Why) (a b : ℕ) → t.here.session ≡ Some x → (W M c Known Before Done s B out0) t → h.life ≡ t.here.life.0 → h.epoch ≡ x.epoch.0 → (W M c Known Before Done s B out0) (cr.nack t x now h y a b)
-        w_nack t x why.Suspect a b e w lf ep = (w_condemn M c Known Before Done s B out0) t x ((into M c Known Before Done s B out0) t x e w)
-        w_nack t x why.NoSession a b e w lf ep = (w_condemn M c Known Before Done s B out0) t x ((into M c Known Before Done s B out0) t x e w)
-        w_nack t x why.OtherEpoch a b e w lf ep = w
-        w_nack t x why.Grace a b e w lf ep = w
-        w_nack t x why.GraceOver a b e w lf ep = (w_condemn M c Known Before Done s B out0) t x ((into M c Known Before Done s B out0) t x e w)
-        w_nack t x why.Conflict a b e w lf ep = (w_condemn M c Known Before Done s B out0) t x ((into M c Known Before Done s B out0) t x e w)
-        w_nack t x y a b e w lf ep = w_reply t x (bodies.Nack y a b) e w (λ f. cc f) lf ep
-
-        w_demand : (t : Turn) (x : ClientSession) (ino : ℕ) (g : GrantNo) (to : Mode) → t.here.session ≡ Some x → (W M c Known Before Done s B out0) t → (W M c Known Before Done s B out0) (cr.demand t x ino g to)
-        unfolding cr.demand cr.demand_by cr.demand_as cr.see_demand cr.release_unheld
-        w_demand t x ino g to e w = by (locks.demand x.locks ino g to).asked
-          where
-            l : ClientSession
-            l = cs.with_cache (locks.demand x.locks ino g to).locks x
-
-            both : (b : Bool) → view (Some (if b then l else cs.with_release ino g modes.None l)) ≡ view (Some x)
-            both true = refl
-            both false = refl
-
-            by : (a : Asked) → (W M c Known Before Done s B out0) (cr.demand_as t l ino g a)
-            by demands.Reduce = w_idle (with_session l t) _ _ _ ((into M c Known Before Done s B out0) t x e w)
-            by demands.NotHeld = (w_view M c Known Before Done s B out0) t x (cr.release_unheld l ino g) (both (cr.has_release l ino g)) ((into M c Known Before Done s B out0) t x e w)
-            by demands.Stale = w
-
-        w_of_epoch : (t : Turn) (x : ClientSession) (b : Body) → t.here.session ≡ Some x → (W M c Known Before Done s B out0) t → (is_report b ≡ true → Told b t.here.server) → h.life ≡ t.here.life.0 → h.epoch ≡ x.epoch.0 → (W M c Known Before Done s B out0) (cr.of_epoch t x now h b)
-        unfolding cr.of_epoch cr.grant_or_reply
-        w_of_epoch t x (bodies.Nack y a b) e w told lf ep = w_nack t x y a b e w lf ep
-        w_of_epoch t x (bodies.Granted ino g mode) e w told lf ep = if_both (W M c Known Before Done s B out0) (h.number == 0) _ _ ((w_granted M c Known Before Done s B out0) t x ino g mode ((into M c Known Before Done s B out0) t x e w)) (w_reply t x (bodies.Granted ino g mode) e w told lf ep)
-        w_of_epoch t x (bodies.Demand ino g to) e w told lf ep = w_demand t x ino g to e w
-        w_of_epoch t x b e w told lf ep = w_reply t x b e w told lf ep
-
-        w_with : (t : Turn) (x : ClientSession) (b : Body) → t.here.session ≡ Some x → (W M c Known Before Done s B out0) t → (is_report b ≡ true → Told b t.here.server) → h.life ≡ t.here.life.0 → (W M c Known Before Done s B out0) (cr.with_a_session t x now h b)
-        unfolding cr.with_a_session
-        w_with t x b e w told lf = if_case (W M c Known Before Done s B out0) (h.epoch == x.epoch.0) _ _ (λ f. w_of_epoch t x b e w told lf (eqb-true h.epoch x.epoch.0 f)) (λ f. (w_of_other M c Known Before Done s B out0) t x _ b e w)
-
-        pub w_hear : (t : Turn) → (is_report m.body ≡ true → (sv : ServerId) → h.from ≡ server_node sv → Told m.body sv) → (W M c Known Before Done s B out0) t → (W M c Known Before Done s B out0) (cr.receive_at now h m.body t)
-        unfolding cr.receive_at cr.by_session
-        w_hear t told w = if_case (W M c Known Before Done s B out0) (cr.is_heard t now h) (cr.by_session t now h m.body t.here.session) t heard (λ f. w)
-          where
-            by : (is_report m.body ≡ true → Told m.body t.here.server) → h.life ≡ t.here.life.0 → (o : Option ClientSession) → t.here.session ≡ o → (W M c Known Before Done s B out0) (cr.by_session t now h m.body o)
-            by k lf None e = (w_without M c Known Before Done s B out0) t now h m.body e w
-            by k lf (Some x) e = w_with t x m.body e w k lf
-
-            heard : cr.is_heard t now h ≡ true → (W M c Known Before Done s B out0) (cr.by_session t now h m.body t.here.session)
-            heard f =
-                let z = and_true (h.from == server_node t.here.server) _ f in
-                by (λ g. told g t.here.server (eqb-true _ _ z.0)) (eqb-true _ _ (and_true (h.life == t.here.life.0) _ z.1).0) t.here.session refl
+          heard : cr.is_heard t now h ≡ true → (W M c Known Before Done s B out0) (cr.by_session t now h m.body t.here.session)
+          heard f =
+              let z = and_true (h.from == server_node t.here.server) _ f in
+              by (λ g. told g t.here.server (eqb-true _ _ z.0)) (eqb-true _ _ (and_true (h.life == t.here.life.0) _ z.1).0) t.here.session refl
 
     -- Losses: the operations of the server are answered, and the next life begins.
     b_answered : (t : Turn) (op : ℕ) (a : AppAnswer) → (Plain M c Known Before Done s B out0) a → (C M c Known Before Done s B out0) t → (C M c Known Before Done s B out0) (cs.answered t op a)
@@ -594,12 +311,16 @@ module _ (M : List Message) (c : ClientId) (Known : ℕ → Ask → Type 0) (Bef
             numbers = record {
               lives = λ m h k. let z = r.base.numbers.lives m h k in omega (arith, z);
               placed = λ m h k l. let z = r.base.numbers.lives m h k in absurd (omega (arith, z, l));
+              one = r.base.numbers.one;
+              sent = tt;
               counts = tt;
             };
             sent = r.base.sent;
+            kept = r.base.kept;
             said = r.base.said;
           };
           waits = λ o h a. absurd (gone o (subst (Has o) r.operations h) (asked_of u.here.server o a).0);
+          alone = λ o p h i a g. absurd (gone o (subst (Has o) r.operations h) (asked_of u.here.server o a).0);
         }
       where
         v : Turn
@@ -675,10 +396,10 @@ module _ (M : List Message) (c : ClientId) (Known : ℕ → Ask → Type 0) (Bef
     r_answer : (os : List Operation) (o : Operation) (a : AppAnswer) (t : Turn) → (Plain M c Known Before Done s B out0) a → R (o ∷ os) t → R os (cp.answer o a t)
     r_answer os o a t p r =
         let z = (w_fewer M c Known Before Done s B out0) t.id t.here.server t.here.life.0 (view t.here.session) (t.operations ++ o ∷ os) (t.operations ++ os) t.out (λ x h. has_middle o x t.operations os h) r in
-        record { base = (b_say M c Known Before Done s B out0) t.id t.here.server t.here.life.0 (view t.here.session) (t.operations ++ os) t.out _ (p o.op) z.base; waits = z.waits }
+        record { base = (b_say M c Known Before Done s B out0) t.id t.here.server t.here.life.0 (view t.here.session) (t.operations ++ os) t.out _ (p o.op) z.base; waits = z.waits; alone = z.alone }
 
     r_say : (os : List Operation) (t : Turn) (o : Output) → (Okay M c Known Before Done) t.here.server t.here.life.0 o → R os t → R os (say t o)
-    r_say os t o k r = record { base = (b_say M c Known Before Done s B out0) t.id t.here.server t.here.life.0 (view t.here.session) (t.operations ++ os) t.out o k r.base; waits = r.waits }
+    r_say os t o k r = record { base = (b_say M c Known Before Done s B out0) t.id t.here.server t.here.life.0 (view t.here.session) (t.operations ++ os) t.out o k r.base; waits = r.waits; alone = r.alone }
 
     r_change : (os : List Operation) (o : Operation) (f : FileId) (p : PageNo) (bytes : List ℕ) (x : Note) (t : Turn) → R (o ∷ os) t → R os (cp.change_page t o f p bytes x)
     unfolding cp.change_page cp.change_by cp.change pages.write
@@ -819,13 +540,13 @@ module _ (M : List Message) (c : ClientId) (Known : ℕ → Ask → Type 0) (Bef
     w_greeting now tick t w = go t.here.session
       where
         go : (o : Option ClientSession) → (W M c Known Before Done s B out0) (cp.greeting_by t now tick o)
-        go None = if_both (W M c Known Before Done s B out0) (cp.must_greet t now tick) _ t (w_idle (cp.with_greeting now t) 0 now.0 bodies.Hello w) w
+        go None = if_both (W M c Known Before Done s B out0) (cp.must_greet t now tick) _ t ((w_idle M c Known Before Done s B out0) (cp.with_greeting now t) 0 now.0 bodies.Hello w) w
         go (Some x) = w
 
     pub w_passes : ((sv : ServerId) (life epoch number op : ℕ) → ((m : Message) → Has m M → Keyed c sv life epoch number m → ⊥) → Before sv life epoch number op) →
         (now : Stamp) (tick : Bool) (t : Turn) → (W M c Known Before Done s B out0) t → (W M c Known Before Done s B out0) (cp.passes now tick t)
     unfolding cp.passes cp.reductions
-    w_passes fresh now tick t w = w_requests fresh now tick _ (w_greeting now tick _ (w_writing now tick _ (w_reduces _ _ (w_operations now t w))))
+    w_passes fresh now tick t w = (w_requests M c Known Before Done s B out0) fresh now tick _ (w_greeting now tick _ (w_writing now tick _ (w_reduces _ _ (w_operations now t w))))
 
     -- Asks of applications.
     pub w_take : (op : ℕ) (ask : Ask) → Known op ask → (t : Turn) → (W M c Known Before Done s B out0) t → (W M c Known Before Done s B out0) (cs.only_at (server_of ask) (cl.take_ask op ask) t)
@@ -852,11 +573,23 @@ module _ (M : List Message) (c : ClientId) (Known : ℕ → Ask → Type 0) (Bef
                 others = λ o h e. others o (has_append t.operations (new ∷ []) o h) e;
                 numbers = w.base.numbers;
                 sent = w.base.sent;
+                kept = w.base.kept;
                 said = w.base.said;
               };
               waits = λ o h e. waits o (has_append t.operations (new ∷ []) o h) e;
+              alone = λ o p h i. alone o p (has_append t.operations (new ∷ []) o h) (has_append t.operations (new ∷ []) p i);
             }
           where
+            asks_not : (o : Operation) → o ≡ new → cs.is_asked t.here.server o ≡ true → ⊥
+            asks_not o q e = unsent (cs.is_of t.here.server new) (subst (λ z. cs.is_asked t.here.server z ≡ true) q e)
+
+            alone : (o p : Operation) → Has o t.operations ⊎ Has o (new ∷ []) → Has p t.operations ⊎ Has p (new ∷ []) → cs.is_asked t.here.server o ≡ true → cs.is_asked t.here.server p ≡ true → o.op ≡ p.op
+            alone o p (inl h) (inl i) e g = w.alone o p h i e g
+            alone o p (inl h) (inr (inl q)) e g = absurd (asks_not p q g)
+            alone o p (inl h) (inr (inr i)) e g = absurd i
+            alone o p (inr (inl q)) i e g = absurd (asks_not o q e)
+            alone o p (inr (inr h)) i e g = absurd h
+
             own : cs.is_of t.here.server new ≡ true
             own = eq-eqb (server_of ask).0 t.here.server.0 (sym (eqb-true t.here.server.0 (server_of ask).0 at))
 
@@ -872,7 +605,7 @@ module _ (M : List Message) (c : ClientId) (Known : ℕ → Ask → Type 0) (Bef
 
             waits : (o : Operation) → Has o t.operations ⊎ Has o (new ∷ []) → cs.is_asked t.here.server o ≡ true → Waits Before t.here.server t.here.life.0 (view t.here.session) o
             waits o (inl h) e = w.waits o h e
-            waits o (inr (inl q)) e = absurd (unsent (cs.is_of t.here.server new) (subst (λ z. cs.is_asked t.here.server z ≡ true) q e))
+            waits o (inr (inl q)) e = absurd (asks_not o q e)
             waits o (inr (inr i)) e = absurd i
 
         by : cs.is_at (server_of ask) t.here ≡ true → (a : Ask) → (W M c Known Before Done s B out0) (cl.take_by t op ask a)

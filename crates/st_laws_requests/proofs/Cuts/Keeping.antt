@@ -32,7 +32,8 @@ use Rattle.st_rules.specs.ClientState as cs
 use Rattle.st_rules.specs.ClientState.{ClientSession, Turn, Requests, answer_to, server_of, say, with_session}
 use Rattle.st_lemmas.specs.Lists.{Has}
 use Rattle.st_lemmas.proofs.Tables.{and_true, has_append, has_filter, has_map, not_true}
-use Rattle.st_laws_requests.specs.Cuts.Cuts.{AllWait, AsksFor, Between, Counts, Numbers, Placed, WaitsAt, view}
+use Rattle.st_laws_leases.proofs.Dates.Known.{has_left}
+use Rattle.st_laws_requests.specs.Cuts.Cuts.{AllWait, AsksFor, Between, Counts, IsSent, Numbers, OneWaits, Placed, SentIn, WaitsAt, view}
 
 -- an operation's server and stage
 pub asked_of : (s : ServerId) (o : Operation) → cs.is_asked s o ≡ true → (cs.is_of s o ≡ true) × (cs.is_asked_at o.stage ≡ true)
@@ -69,6 +70,15 @@ pub has_middle : {A : Type 0} (k p : A) (xs ys : List A) → Has p (xs ++ ys) �
 has_middle k p [] ys h = inr h
 has_middle k p (x ∷ xs) ys (inl e) = inl e
 has_middle k p (x ∷ xs) ys (inr h) = inr (has_middle k p xs ys h)
+
+-- an outstanding request that was sent is among more messages
+pub sent_more : (S T : Message → Type 0) (c : ClientId) (s : ServerId) (life : ℕ) (v : Option (ℕ × Requests)) → ((m : Message) → S m → T m) → SentIn S c s life v → SentIn T c s life v
+sent_more S T c s life None f k = tt
+sent_more S T c s life (Some v) f k = go v.1.asked k
+  where
+    go : (q : Option Request) → IsSent S c s life v.0 q → IsSent T c s life v.0 q
+    go None k = tt
+    go (Some q) k = (k.0, f k.0 k.1, k.2)
 
 -- which answer a report gives
 abbrev pub Answers : Body → AppAnswer → Type 0
@@ -114,12 +124,14 @@ module _ (M : List Message) (c : ClientId) (Known : ℕ → Ask → Type 0) (Bef
     pub others : (o : Operation) → Has o ops → cs.is_of sv o ≡ false → Has o B
     pub numbers : Numbers (Sent out) c sv life v
     pub sent : (m : Message) → Has (outputs.Send m) out → Has (outputs.Send m) out0 ⊎ Between c sv m
+    pub kept : (m : Message) → Has (outputs.Send m) out0 → Has (outputs.Send m) out
     pub said : (op : ℕ) (a : AppAnswer) → Has (outputs.Answer op a) out → SaidOf op a
 
   -- and who waits
   pub record Whole (s : ServerId) (B : List Operation) (out0 : List Output) (id : ClientId) (sv : ServerId) (life : ℕ) (v : Option (ℕ × Requests)) (ops : List Operation) (out : List Output) : Type 0 where
     pub base : Base s B out0 id sv life v ops out
     pub waits : AllWait Before sv life v ops
+    pub alone : OneWaits sv ops
 
   -- nobody waits
   abbrev pub Free : ServerId → List Operation → Type 0
@@ -147,7 +159,7 @@ module _ (M : List Message) (c : ClientId) (Known : ℕ → Ask → Type 0) (Bef
     into t x e w = subst (λ o. Whole s B out0 t.id t.here.server t.here.life.0 (view o) t.operations t.out) e w
 
     pub free_all : (id : ClientId) (sv : ServerId) (life : ℕ) (v : Option (ℕ × Requests)) (ops : List Operation) (out : List Output) → Free sv ops → K id sv life v ops out → Whole s B out0 id sv life v ops out
-    free_all id sv life v ops out f b = record { base = b; waits = λ o h e. absurd (f o h e) }
+    free_all id sv life v ops out f b = record { base = b; waits = λ o h e. absurd (f o h e); alone = λ o p h i e g. absurd (f o h e) }
 
     -- with no outstanding request nobody waits
     pub is_free : (sv : ServerId) (life epoch : ℕ) (q : Option Request) (ops : List Operation) → q ≡ None → ((o : Operation) → Has o ops → cs.is_asked sv o ≡ true → WaitsAt Before sv life epoch q o) → Free sv ops
@@ -162,8 +174,15 @@ module _ (M : List Message) (c : ClientId) (Known : ℕ → Ask → Type 0) (Bef
           server = b.server;
           asked = b.asked;
           others = b.others;
-          numbers = record { lives = λ m h t. lives m (which m h) t; placed = λ m h t. placed m v (which m h) t (b.numbers.placed m); counts = b.numbers.counts };
+          numbers = record {
+            lives = λ m h t. lives m (which m h) t;
+            placed = λ m h t. placed m v (which m h) t (b.numbers.placed m);
+            one = λ m p h i. one m p (which m h) (which p i);
+            sent = sent_more (Sent out) (Sent (out ++ os)) c sv life v more b.numbers.sent;
+            counts = b.numbers.counts;
+          };
           sent = λ m h. sends m (has_append out os (outputs.Send m) h);
+          kept = λ m h. has_left out os (outputs.Send m) (b.kept m h);
           said = λ op a h. says op a (has_append out os (outputs.Answer op a) h);
         }
       where
@@ -175,9 +194,19 @@ module _ (M : List Message) (c : ClientId) (Known : ℕ → Ask → Type 0) (Bef
             go (inl i) = inl (inr i)
             go (inr i) = inr i
 
+        more : (m : Message) → Sent out m → Sent (out ++ os) m
+        more m (inl h) = inl h
+        more m (inr h) = inr (has_left out os (outputs.Send m) h)
+
         lives : (m : Message) → Sent out m ⊎ Has (outputs.Send m) os → Between c sv m → m.header.life ≤ life
         lives m (inl h) t = b.numbers.lives m h t
         lives m (inr h) t = let z = (k (outputs.Send m) h).1 in omega (arith, z)
+
+        one : (m p : Message) → Sent out m ⊎ Has (outputs.Send m) os → Sent out p ⊎ Has (outputs.Send p) os → Between c sv m → Between c sv p → m.header.life ≡ p.header.life → m.header.epoch ≡ p.header.epoch → m.header.number ≡ p.header.number → 1 ≤ m.header.number →
+            m.body ≡ p.body
+        one m p (inl h) (inl i) t u l e n z = b.numbers.one m p h i t u l e n z
+        one m p (inl h) (inr i) t u l e n z = let q = (k (outputs.Send p) i).2 in absurd (omega (arith, q, n, z))
+        one m p (inr h) i t u l e n z = let q = (k (outputs.Send m) h).2 in absurd (omega (arith, q, z))
 
         placed : (m : Message) (v : Option (ℕ × Requests)) → Sent out m ⊎ Has (outputs.Send m) os → Between c sv m → (Sent out m → Between c sv m → Placed life v m) → Placed life v m
         placed m v (inl h) t f = f h t
@@ -200,15 +229,15 @@ module _ (M : List Message) (c : ClientId) (Known : ℕ → Ask → Type 0) (Bef
     b_say id sv life v ops out o k b = b_more id sv life v ops out (o ∷ []) (one_okay sv life o k) b
 
     pub w_say : (t : Turn) (o : Output) → Okay t.here.server t.here.life.0 o → W t → W (say t o)
-    w_say t o k w = record { base = b_say t.id t.here.server t.here.life.0 (view t.here.session) t.operations t.out o k w.base; waits = w.waits }
+    w_say t o k w = record { base = b_say t.id t.here.server t.here.life.0 (view t.here.session) t.operations t.out o k w.base; waits = w.waits; alone = w.alone }
 
     -- fewer operations
     pub b_fewer : (id : ClientId) (sv : ServerId) (life : ℕ) (v : Option (ℕ × Requests)) (ops qs : List Operation) (out : List Output) → ((o : Operation) → Has o qs → Has o ops) → K id sv life v ops out → K id sv life v qs out
     b_fewer id sv life v ops qs out f b =
-        record { id_ = b.id_; server = b.server; asked = λ o h. b.asked o (f o h); others = λ o h e. b.others o (f o h) e; numbers = b.numbers; sent = b.sent; said = b.said }
+        record { id_ = b.id_; server = b.server; asked = λ o h. b.asked o (f o h); others = λ o h e. b.others o (f o h) e; numbers = b.numbers; sent = b.sent; kept = b.kept; said = b.said }
 
     pub w_fewer : (id : ClientId) (sv : ServerId) (life : ℕ) (v : Option (ℕ × Requests)) (ops qs : List Operation) (out : List Output) → ((o : Operation) → Has o qs → Has o ops) → Whole s B out0 id sv life v ops out → Whole s B out0 id sv life v qs out
-    w_fewer id sv life v ops qs out f w = record { base = b_fewer id sv life v ops qs out f w.base; waits = λ o h e. w.waits o (f o h) e }
+    w_fewer id sv life v ops qs out f w = record { base = b_fewer id sv life v ops qs out f w.base; waits = λ o h e. w.waits o (f o h) e; alone = λ o p h i. w.alone o p (f o h) (f p i) }
 
     -- operations are answered
     abbrev pub Plain : AppAnswer → Type 0
@@ -225,7 +254,8 @@ module _ (M : List Message) (c : ClientId) (Known : ℕ → Ask → Type 0) (Bef
 
     pub w_answers : (t : Turn) (picked : Operation → Bool) (a : AppAnswer) → Plain a → W t → W (cs.answer_each picked a t)
     unfolding cs.answer_each
-    w_answers t picked a p w = record { base = b_answers t picked a p w.base; waits = λ o h e. w.waits o (has_filter _ t.operations o h).0 e }
+    w_answers t picked a p w =
+        record { base = b_answers t picked a p w.base; waits = λ o h e. w.waits o (has_filter _ t.operations o h).0 e; alone = λ o q h i. w.alone o q (has_filter _ t.operations o h).0 (has_filter _ t.operations q i).0 }
 
     -- the operations that wait are answered, and nobody waits
     pub freed : (t : Turn) (a : AppAnswer) → Free t.here.server (cs.answer_each (cs.is_asked t.here.server) a t).operations
@@ -342,9 +372,11 @@ module _ (M : List Message) (c : ClientId) (Known : ℕ → Ask → Type 0) (Bef
             others = λ o h e. others o (has_map (cr.stuck t) t.operations o h) e;
             numbers = b.numbers;
             sent = b.sent;
+            kept = b.kept;
             said = b.said;
           };
           waits = λ o h e. absurd (free o (has_map (cr.stuck t) t.operations o h) e);
+          alone = λ o p h i e g. absurd (free o (has_map (cr.stuck t) t.operations o h) e);
         }
       where
         asked : (o : Operation) → From t o → Known o.op o.ask
@@ -388,8 +420,9 @@ module _ (M : List Message) (c : ClientId) (Known : ℕ → Ask → Type 0) (Bef
               server = none.base.server;
               asked = none.base.asked;
               others = none.base.others;
-              numbers = record { lives = none.base.numbers.lives; placed = λ m h b l k. let z = none.base.numbers.placed m h b l in absurd (omega (arith, z, k)); counts = counts };
+              numbers = record { lives = none.base.numbers.lives; placed = λ m h b l k. let z = none.base.numbers.placed m h b l in absurd (omega (arith, z, k)); one = none.base.numbers.one; sent = tt; counts = counts };
               sent = none.base.sent;
+              kept = none.base.kept;
               said = none.base.said;
             })
 
@@ -424,9 +457,12 @@ module _ (M : List Message) (c : ClientId) (Known : ℕ → Ask → Type 0) (Bef
               numbers = record {
                 lives = z.base.numbers.lives;
                 placed = λ m h b k n. let u = (z.base.numbers.placed m h b k n).up_to in record { up_to = omega (arith, u, l); below = λ q. absurd (omega (arith, u, l, q)); same = λ q. absurd (omega (arith, u, l, q)) };
+                one = z.base.numbers.one;
+                sent = tt;
                 counts = (omega arith, tt);
               };
               sent = z.base.sent;
+              kept = z.base.kept;
               said = z.base.said;
             }
 
@@ -435,6 +471,7 @@ module _ (M : List Message) (c : ClientId) (Known : ℕ → Ask → Type 0) (Bef
             record {
               base = b_answers (with_session y t) (cs.is_asked t.here.server) (answers.Uncertain x.epoch.0 epoch.0) (λ op. tt) (moved l);
               waits = λ o h a. absurd (freed (with_session y t) (answers.Uncertain x.epoch.0 epoch.0) o h a);
+              alone = λ o p h i a f. absurd (freed (with_session y t) (answers.Uncertain x.epoch.0 epoch.0) o h a);
             }
 
     pub w_of_other : (t : Turn) (x : ClientSession) (epoch : Epoch) (b : Body) → t.here.session ≡ Some x → W t → W (cr.of_other_epoch t x epoch b)

@@ -93,8 +93,9 @@ fresh_client k servers c =
       count = refl;
       asked = λ o h. absurd h;
       lives = λ a h m i. absurd i;
+      one = λ a h m p i. absurd i;
       all = λ run a h. let z = has_map cl.fresh_association (numbers 1 servers) a h in
-          subst (Rattle.st_laws_requests.specs.Cuts.Cuts.AssociationOk [] [] c []) (sym z.2) (record { numbers = record { lives = λ m i b. absurd i; placed = λ m i b. absurd i; counts = tt }; waits = λ o i. absurd i });
+          subst (Rattle.st_laws_requests.specs.Cuts.Cuts.AssociationOk [] [] c []) (sym z.2) (record { numbers = record { lives = λ m i b. absurd i; placed = λ m i b. absurd i; one = λ m p i. absurd i; sent = tt; counts = tt }; waits = λ o i. absurd i; alone = λ o p i. absurd i });
     }
 
 fresh_server : (k : Config) (servers disks blocks : ℕ) (s : ServerId) → ServerOk [] [] s (node_at_start k servers disks blocks s.0)

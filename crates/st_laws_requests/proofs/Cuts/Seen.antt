@@ -1,11 +1,12 @@
 -- What is observed of the outputs of clients and servers: which lines answer, and which tell a cut.
-use Rattle.std.proofs.Common.{◌≡◌, ℕ, ◌+◌, ◌⊎◌, List, [], ◌∷◌, ◌++◌, Option, Some, None, refl, sym, subst, inl, inr}
+use Rattle.std.proofs.Common.{◌≡◌, ℕ, ◌+◌, ◌⊎◌, false, List, [], ◌∷◌, ◌++◌, Option, Some, None, refl, sym, subst, inl, inr}
 use Rattle.std.specs.Prelude.{length}
 use Rattle.st_base.specs.declared.ids.ClientId.{ClientId}
 use Rattle.st_base.specs.declared.ids.ServerId.{ServerId}
 use Rattle.st_base.specs.declared.ids.FileId.{FileId}
 use Rattle.st_base.specs.declared.ids.PageNo.{PageNo}
 use Rattle.st_messages.specs.declared.answer.AppAnswer.{AppAnswer}
+use Rattle.st_messages.specs.declared.message.Message.{Message}
 use Rattle.st_messages.specs.declared.output.Note.{Note}
 use Rattle.st_messages.specs.declared.output.Note.TheVariants as notes
 use Rattle.st_messages.specs.declared.output.Output.{Output}
@@ -20,9 +21,10 @@ use Rattle.st_rules.specs.Events as ev
 use Rattle.st_rules.specs.Events.{WorldTurn, client_says, client_says_all, server_says, server_says_all}
 use Rattle.st_rules.specs.World.{ClientSite, site_of}
 use Rattle.st_lemmas.specs.Lists.{Has}
-use Rattle.st_lemmas.proofs.Tables.{has_append}
+use Rattle.st_lemmas.proofs.Tables.{has_append, has_map_in}
+use Rattle.st_laws_leases.specs.Dates.Dates.{message_in, messages}
 use Rattle.st_laws_leases.proofs.Dates.Known.{has_right}
-use Rattle.st_laws_leases.proofs.Dates.Said.{server_said}
+use Rattle.st_laws_leases.proofs.Dates.Said.{client_said, server_said}
 
 -- Observations.
 -- it answers nothing
@@ -160,3 +162,35 @@ answered_said c before (o ∷ os) sc d op a h = go (answered_said c before os (c
     go : Has (seen.Answered d op a) (client_says sc c before o).seen ⊎ AnswerOf c d op a os → Has (seen.Answered d op a) sc.seen ⊎ AnswerOf c d op a (o ∷ os)
     go (inl i) = one (answered_one c before o sc d op a i)
     go (inr z) = inr (record { client = z.client; answer = inr z.answer })
+
+-- what a client sends is among the messages
+pub client_sends : (c : ClientId) (before : ClientState) (os : List Output) (a : WorldTurn) (m : Message) → Has (outputs.Send m) os → Has m (messages (client_says_all c before os a).world)
+unfolding client_says_all client_says ev.sends
+client_sends c before [] a m h = absurd h
+client_sends c before (o ∷ os) a m (inr h) = client_sends c before os (client_says a c before o) m h
+client_sends c before (outputs.Send x ∷ os) a m (inl q) = (client_said c before os (client_says a c before (outputs.Send x))).old m (subst (λ (y : Message). Has y (messages (ev.sends a x).world)) (sym same) new)
+  where
+    same : m ≡ x
+    same = cc
+
+    new : Has x (messages (ev.sends a x).world)
+    new = has_map_in message_in (a.world.net.messages ++ record { message = x; lost = false } ∷ []) (record { message = x; lost = false }) (has_right a.world.net.messages _ _ (inl refl))
+client_sends c before (outputs.Submit n w k ∷ os) a m (inl q) = cc q
+client_sends c before (outputs.Answer op w ∷ os) a m (inl q) = cc q
+client_sends c before (outputs.Note n ∷ os) a m (inl q) = cc q
+
+-- what a server sends is among the messages
+pub server_sends : (s : ServerId) (os : List Output) (a : WorldTurn) (m : Message) → Has (outputs.Send m) os → Has m (messages (server_says_all s os a).world)
+unfolding server_says_all server_says ev.sends
+server_sends s [] a m h = absurd h
+server_sends s (o ∷ os) a m (inr h) = server_sends s os (server_says a s o) m h
+server_sends s (outputs.Send x ∷ os) a m (inl q) = (server_said s os (server_says a s (outputs.Send x))).old m (subst (λ (y : Message). Has y (messages (ev.sends a x).world)) (sym same) new)
+  where
+    same : m ≡ x
+    same = cc
+
+    new : Has x (messages (ev.sends a x).world)
+    new = has_map_in message_in (a.world.net.messages ++ record { message = x; lost = false } ∷ []) (record { message = x; lost = false }) (has_right a.world.net.messages _ _ (inl refl))
+server_sends s (outputs.Submit n c w ∷ os) a m (inl q) = cc q
+server_sends s (outputs.Answer op c ∷ os) a m (inl q) = cc q
+server_sends s (outputs.Note n ∷ os) a m (inl q) = cc q

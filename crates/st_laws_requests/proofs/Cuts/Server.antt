@@ -1,5 +1,5 @@
--- The rules of a server, walked once: each report that it sends or keeps is of a request that it served; a cut that it acknowledges was
--- noted, and names did and said what a reply for a name says.
+-- The rules of a server, walked once, for replies of a kind: each that it sends or keeps is of a request that it served, or refuses a
+-- reassertion; a cut that it acknowledges was noted, and names did and said what a reply for a name says.
 use Rattle.std.proofs.Common.{◌≡◌, ℕ, ◌⊎◌, Bool, true, false, List, [], ◌∷◌, ◌++◌, ◌==◌, refl, sym, ap, ◌∙◌, subst, inl, inr, if◌then◌else◌}
 use Rattle.std.specs.Prelude.{Option, Some, None, Result as Res, Ok, Err, find, nat_lt, option_map}
 use Rattle.std.proofs.lemmas.Bool.{eqb-true, eq-eqb}
@@ -29,7 +29,6 @@ use Rattle.st_messages.specs.declared.output.Output.TheVariants as outputs
 use Rattle.st_rules.specs.declared.input.ServerInput.{ServerInput}
 use Rattle.st_rules.specs.declared.input.ServerInput.TheVariants.{Tick, Control}
 use Rattle.st_rules.specs.declared.authority.AcceptRefusal.{AcceptRefusal}
-use Rattle.st_rules.specs.declared.authority.AcceptRefusal.TheVariants as refusals
 use Rattle.st_rules.specs.declared.locks.InstallRefusal.{InstallRefusal}
 use Rattle.st_rules.specs.declared.names.EntryRefusal.{EntryRefusal}
 use Rattle.st_rules.specs.declared.names.EntryRefusal.TheVariants.{IsDir}
@@ -45,6 +44,7 @@ use Rattle.st_rules.specs.Locks.{Locks}
 use Rattle.st_rules.specs.Sessions as sessions
 use Rattle.st_rules.specs.Authority as authority
 use Rattle.st_rules.specs.ClientReplies as cr
+use Rattle.st_rules.specs.ClientState.{reasserts}
 use Rattle.st_rules.specs.Grace as grace
 use Rattle.st_rules.specs.Keys.{client, server_node}
 use Rattle.st_rules.specs.Names as names
@@ -57,17 +57,42 @@ use Rattle.st_lemmas.proofs.Puts.{find_put_by, find_put_other}
 use Rattle.st_lemmas.proofs.Tables.{and_true, find_map, found_at, has_append}
 use Rattle.st_laws_leases.proofs.Dates.Known.{has_left, has_right}
 use Rattle.st_promises.specs.NameAnswers.{Saying, changed, found, listed, refused, said}
-use Rattle.st_laws_requests.specs.Cuts.Cuts.{KeptState, does, does_remove, does_remove_dir, is_report}
+use Rattle.st_laws_requests.specs.Cuts.Cuts.{KeptBy, does, does_remove, does_remove_dir, is_report}
 use Rattle.st_laws_steps.proofs.Server.Taking.{if_either, if_cases, clash, again_state, found_for}
 use Rattle.st_laws_requests.proofs.Clients.{client_same, end_client, keep_client}
 use Rattle.st_laws_requests.proofs.Rules as rules
 
--- Sessions, with a fact of each report that is kept.
-module _ (A : ClientId → ℕ → ℕ → Body → Type 0) where
-  abbrev pub Keeps : sessions.Sessions → Type 0
-  Keeps t = (c : ClientId) (x : Session) → sessions.session_of t c ≡ Some x → KeptState (A c x.life.0) x.state
+-- Replies of a kind: none of them greets, tells of a lock, or refuses a client.
+pub record Kind (Q : Body → Bool) : Type 0 where
+  pub welcome : Q bd.Welcome ≡ false
+  pub reasserted : Q bd.Reasserted ≡ false
+  pub granted : (ino : ℕ) (g : GrantNo) (mode : Mode) → Q (bd.Granted ino g mode) ≡ false
+  pub demand : (ino : ℕ) (g : GrantNo) (mode : Mode) → Q (bd.Demand ino g mode) ≡ false
+  pub suspect : (x y : ℕ) → Q (bd.Nack why.Suspect x y) ≡ false
+  pub no_session : (x y : ℕ) → Q (bd.Nack why.NoSession x y) ≡ false
+  pub other_epoch : (x y : ℕ) → Q (bd.Nack why.OtherEpoch x y) ≡ false
+  pub grace : (x y : ℕ) → Q (bd.Nack why.Grace x y) ≡ false
 
-  kept_new : (t : sessions.Sessions) (x : Session) → ((B : ℕ → Body → Type 0) → KeptState B x.state) → Keeps t → Keeps (sessions.with_session x t)
+-- reports are of a kind
+pub report_kind : Kind is_report
+report_kind =
+    record {
+      welcome = refl;
+      reasserted = refl;
+      granted = λ ino g mode. refl;
+      demand = λ ino g mode. refl;
+      suspect = λ x y. refl;
+      no_session = λ x y. refl;
+      other_epoch = λ x y. refl;
+      grace = λ x y. refl;
+    }
+
+-- Sessions, with a fact of each reply of these that is kept.
+module _ (Q : Body → Bool) (A : ClientId → ℕ → ℕ → Body → Type 0) where
+  abbrev pub Keeps : sessions.Sessions → Type 0
+  Keeps t = (c : ClientId) (x : Session) → sessions.session_of t c ≡ Some x → KeptBy Q (A c x.life.0) x.state
+
+  kept_new : (t : sessions.Sessions) (x : Session) → ((B : ℕ → Body → Type 0) → KeptBy Q B x.state) → Keeps t → Keeps (sessions.with_session x t)
   kept_new t x k o d y h = go (sessions.is_session_of d x) refl
     where
       other : (z : Session) → (x.client.0 == d.0) ≡ false → sessions.is_session_of d z ≡ true → sessions.is_session_of x.client z ≡ false
@@ -77,13 +102,13 @@ module _ (A : ClientId → ℕ → ℕ → Body → Type 0) where
           pick true g = absurd (clash (eq-eqb x.client.0 d.0 (sym (eqb-true _ _ g) ∙ eqb-true _ _ e)) f)
           pick false g = refl
 
-      go : (b : Bool) → sessions.is_session_of d x ≡ b → KeptState (A d y.life.0) y.state
+      go : (b : Bool) → sessions.is_session_of d x ≡ b → KeptBy Q (A d y.life.0) y.state
       go true e =
           let i = find_put_by (sessions.is_session_of d) (sessions.is_session_of x.client) x t.rows e (λ z f. eq-eqb z.client.0 x.client.0 (eqb-true _ _ f ∙ sym (eqb-true _ _ e))) in
-          subst (λ (z : Session). KeptState (A d z.life.0) z.state) (some_is (sym i ∙ h)) (k (A d x.life.0))
+          subst (λ (z : Session). KeptBy Q (A d z.life.0) z.state) (some_is (sym i ∙ h)) (k (A d x.life.0))
       go false e = o d y (sym (find_put_other (sessions.is_session_of d) (sessions.is_session_of x.client) x t.rows e (λ z f. other z e f)) ∙ h)
 
-  kept_hello : (t : sessions.Sessions) (c : ClientId) (life : Life) (rows : Bool) → Keeps t → Keeps (sessions.hello t c life rows).sessions
+  pub kept_hello : (t : sessions.Sessions) (c : ClientId) (life : Life) (rows : Bool) → Keeps t → Keeps (sessions.hello t c life rows).sessions
   unfolding sessions.hello sessions.hello_at sessions.hello_by sessions.hello_live sessions.hello_again sessions.hello_higher sessions.hello_ended sessions.begin_session sessions.greeted
   kept_hello t c life rows o = go (sessions.session_of t c)
     where
@@ -102,67 +127,60 @@ module _ (A : ClientId → ℕ → ℕ → Body → Type 0) where
 
   -- sessions that were changed in place
   kept_map : (t : sessions.Sessions) (f : Session → Session) → ((x : Session) → (f x).client ≡ x.client) →
-      ((c : ClientId) (x : Session) → sessions.session_of t c ≡ Some x → KeptState (A c (f x).life.0) (f x).state) → Keeps (record t { rows = Rattle.std.specs.Prelude.map f t.rows })
+      ((c : ClientId) (x : Session) → sessions.session_of t c ≡ Some x → KeptBy Q (A c (f x).life.0) (f x).state) → Keeps (record t { rows = Rattle.std.specs.Prelude.map f t.rows })
   kept_map t f same k d y h = go (sessions.session_of t d) refl (sym (find_map (sessions.is_session_of d) f (λ x. ap (λ (z : ClientId). z.0 == d.0) (same x)) t.rows) ∙ h)
     where
-      go : (o : Option Session) → sessions.session_of t d ≡ o → option_map f o ≡ Some y → KeptState (A d y.life.0) y.state
+      go : (o : Option Session) → sessions.session_of t d ≡ o → option_map f o ≡ Some y → KeptBy Q (A d y.life.0) y.state
       go None e q = cc
-      go (Some x) e q = subst (λ (z : Session). KeptState (A d z.life.0) z.state) (some_is q) (k d x e)
+      go (Some x) e q = subst (λ (z : Session). KeptBy Q (A d z.life.0) z.state) (some_is q) (k d x e)
 
-  kept_stored : (t : sessions.Sessions) (c : ClientId) (number : ℕ) (b : Body) → (is_report b ≡ true → (x : Session) → sessions.session_of t c ≡ Some x → A c x.life.0 number b) → Keeps t → Keeps (sessions.store t c number b)
+  pub kept_stored : (t : sessions.Sessions) (c : ClientId) (number : ℕ) (b : Body) → (Q b ≡ true → (x : Session) → sessions.session_of t c ≡ Some x → A c x.life.0 number b) → Keeps t → Keeps (sessions.store t c number b)
   unfolding sessions.store sessions.keep_reply
   kept_stored t c number b w o = kept_map t (sessions.keep_of c number b) (keep_client c number b) (λ d x e. go d x e (sessions.is_session_of c x) refl)
     where
-      new : (B : ℕ → Body → Type 0) (b : Body) → (is_report b ≡ true → B number b) → KeptState B (states.Live number (Some b))
-      new B bd.Ack f = f refl
-      new B (bd.Named r) f = f refl
-      new B b f = tt
-
-      kept : (B : ℕ → Body → Type 0) (z : SessionState) → (is_report b ≡ true → B number b) → KeptState B (sessions.kept_state number b z)
-      kept B (states.Live last r) f = new B b f
+      kept : (B : ℕ → Body → Type 0) (z : SessionState) → (Q b ≡ true → B number b) → KeptBy Q B (sessions.kept_state number b z)
+      kept B (states.Live last r) f = f
       kept B states.Ended f = tt
 
-      go : (d : ClientId) (x : Session) → sessions.session_of t d ≡ Some x → (z : Bool) → sessions.is_session_of c x ≡ z → KeptState (A d (if z then sessions.keep_reply number b x else x).life.0) (if z then sessions.keep_reply number b x else x).state
+      go : (d : ClientId) (x : Session) → sessions.session_of t d ≡ Some x → (z : Bool) → sessions.is_session_of c x ≡ z → KeptBy Q (A d (if z then sessions.keep_reply number b x else x).life.0) (if z then sessions.keep_reply number b x else x).state
       go d x e true q =
           let same = client_same d c (eq-eqb d.0 c.0 (sym (eqb-true x.client.0 d.0 (found_at (sessions.is_session_of d) t.rows x e).0) ∙ eqb-true x.client.0 c.0 q)) in
           kept (A d x.life.0) x.state (λ f. subst (λ y. A y x.life.0 number b) (sym same) (w f x (subst (λ y. sessions.session_of t y ≡ Some x) same e)))
       go d x e false q = o d x e
 
-  kept_ended : (t : sessions.Sessions) (c : ClientId) → Keeps t → Keeps (sessions.end t c)
+  pub kept_ended : (t : sessions.Sessions) (c : ClientId) → Keeps t → Keeps (sessions.end t c)
   unfolding sessions.end sessions.ended
   kept_ended t c o = kept_map t (sessions.end_of c) (end_client c) (λ d x e. go d x e (sessions.is_session_of c x))
     where
-      go : (d : ClientId) (x : Session) → sessions.session_of t d ≡ Some x → (z : Bool) → KeptState (A d (if z then sessions.ended x else x).life.0) (if z then sessions.ended x else x).state
+      go : (d : ClientId) (x : Session) → sessions.session_of t d ≡ Some x → (z : Bool) → KeptBy Q (A d (if z then sessions.ended x else x).life.0) (if z then sessions.ended x else x).state
       go d x e true = tt
       go d x e false = o d x e
 
-  kept_reasserted : (t : sessions.Sessions) (c : ClientId) (life : Life) → Keeps t → Keeps (sessions.reasserted t c life)
+  pub kept_reasserted : (t : sessions.Sessions) (c : ClientId) (life : Life) → Q bd.Reasserted ≡ false → Keeps t → Keeps (sessions.reasserted t c life)
   unfolding sessions.reasserted
-  kept_reasserted t c life o = kept_new t (sessions.reasserted_session c life) (λ B. tt) o
+  kept_reasserted t c life n o = kept_new t (sessions.reasserted_session c life) (λ B q. absurd (clash q n)) o
 
--- What a step of a server keeps: of each report of this key that it sends or keeps a fact, which more outputs leave.
-module _ (s : ServerId) (e : Epoch) (F : List Output → ClientId → ℕ → ℕ → Body → Type 0)
+-- What a step of a server keeps: of each reply of this kind and key that it sends or keeps a fact, which more outputs leave.
+module _ (Q : Body → Bool) (kind : Kind Q) (s : ServerId) (e : Epoch) (F : List Output → ClientId → ℕ → ℕ → Body → Type 0)
     (more : (out os : List Output) (c : ClientId) (life number : ℕ) (b : Body) → F out c life number b → F (out ++ os) c life number b) where
-  state_more : (out os : List Output) (c : ClientId) (life : ℕ) (x : SessionState) → KeptState (F out c life) x → KeptState (F (out ++ os) c life) x
-  state_more out os c life (states.Live last (Some bd.Ack)) k = more out os c life last bd.Ack k
-  state_more out os c life (states.Live last (Some (bd.Named r))) k = more out os c life last (bd.Named r) k
-  state_more out os c life (states.Live last (Some b)) k = tt
+  state_more : (out os : List Output) (c : ClientId) (life : ℕ) (x : SessionState) → KeptBy Q (F out c life) x → KeptBy Q (F (out ++ os) c life) x
+  state_more out os c life (states.Live last (Some b)) k = λ q. more out os c life last b (k q)
   state_more out os c life (states.Live last None) k = tt
   state_more out os c life states.Ended k = tt
 
   -- what a message of the server is
   abbrev pub Said : List Output → Message → Type 0
-  Said out x = (x.header.from ≡ server_node s) × (is_report x.body ≡ true → (x.header.epoch ≡ e.0) × F out (client x.header.to) x.header.life x.header.number x.body)
+  Said out x = (x.header.from ≡ server_node s) × (Q x.body ≡ true → (x.header.epoch ≡ e.0) × F out (client x.header.to) x.header.life x.header.number x.body)
 
   -- What stands within a step.
   pub record Acks (t : Turn) : Type 0 where
     pub id : t.state.id ≡ s
     pub epoch : t.state.stable.epoch ≡ e
-    pub kept : Keeps (F t.out) t.state.sessions
+    pub kept : Keeps Q (F t.out) t.state.sessions
     pub sent : (x : Message) → Has (outputs.Send x) t.out → Said t.out x
 
   pub acks_state : (t : Turn) (x : ServerState) → x.id ≡ t.state.id → x.stable.epoch ≡ t.state.stable.epoch → x.sessions ≡ t.state.sessions → Acks t → Acks (record t { state = x })
-  acks_state t x a b c o = record { id = a ∙ o.id; epoch = b ∙ o.epoch; kept = subst (Keeps (F t.out)) (sym c) o.kept; sent = o.sent }
+  acks_state t x a b c o = record { id = a ∙ o.id; epoch = b ∙ o.epoch; kept = subst (Keeps Q (F t.out)) (sym c) o.kept; sent = o.sent }
 
   acks_say : (t : Turn) (o : Output) → ((x : Message) → outputs.Send x ≡ o → Said (t.out ++ o ∷ []) x) → Acks t → Acks (say t o)
   acks_say t o f k = record { id = k.id; epoch = k.epoch; kept = λ c x h. state_more t.out (o ∷ []) c x.life.0 x.state (k.kept c x h); sent = λ x h. go x (has_append t.out (o ∷ []) (outputs.Send x) h) }
@@ -175,7 +193,7 @@ module _ (s : ServerId) (e : Epoch) (F : List Output → ClientId → ℕ → �
   pub acks_note : (t : Turn) (x : Note) → Acks t → Acks (note t x)
   acks_note t x o = acks_say t (outputs.Note x) (λ y q. cc q) o
 
-  pub acks_reply : (t : Turn) (h : Header) (b : Body) → (is_report b ≡ true → F t.out (client h.from) h.life h.number b) → Acks t → Acks (reply t h b)
+  pub acks_reply : (t : Turn) (h : Header) (b : Body) → (Q b ≡ true → F t.out (client h.from) h.life h.number b) → Acks t → Acks (reply t h b)
   unfolding reply
   acks_reply t h b w o = acks_say t (outputs.Send m) (λ x q. subst (Said (t.out ++ outputs.Send m ∷ [])) (sym (same x q)) (ap server_node o.id, λ f. (ap (λ (y : Epoch). y.0) o.epoch, more t.out _ (client h.from) h.life h.number b (w f)))) o
     where
@@ -185,7 +203,7 @@ module _ (s : ServerId) (e : Epoch) (F : List Output → ClientId → ℕ → �
       same : (x : Message) → outputs.Send x ≡ outputs.Send m → x ≡ m
       same x q = cc
 
-  acks_tell : (t : Turn) (c : ClientId) (life : Life) (b : Body) → (is_report b ≡ true → ⊥) → Acks t → Acks (tell t c life b)
+  acks_tell : (t : Turn) (c : ClientId) (life : Life) (b : Body) → (Q b ≡ true → ⊥) → Acks t → Acks (tell t c life b)
   unfolding tell
   acks_tell t c life b w o = acks_say t (outputs.Send m) (λ x q. subst (Said (t.out ++ outputs.Send m ∷ [])) (sym (same x q)) (ap server_node o.id, λ f. absurd (w f))) o
     where
@@ -196,15 +214,10 @@ module _ (s : ServerId) (e : Epoch) (F : List Output → ClientId → ℕ → �
       same x q = cc
 
   -- what is given again is of this key
-  pub again_good : (t : Turn) (h : Header) (b : Body) → sv.take t h ≡ takes.Again b → is_report b ≡ true → Acks t → F t.out (client h.from) h.life h.number b
+  pub again_good : (t : Turn) (h : Header) (b : Body) → sv.take t h ≡ takes.Again b → Q b ≡ true → Acks t → F t.out (client h.from) h.life h.number b
   again_good t h b q f o =
       let z = found_for t.state.sessions (sender h) (life_in h) (sv.epoch_in h) h.number (takes.Again b) (λ x. x ≡ states.Live h.number (Some b)) q (λ r. cc r) (λ r. cc r) (λ r. cc r) (λ x r. again_state b h.number x r) in
-      subst (λ l. F t.out (sender h) l h.number b) z.of_life (kept (F t.out (sender h) z.session.life.0) h.number b f (subst (KeptState (F t.out (sender h) z.session.life.0)) z.state (o.kept (sender h) z.session z.is)))
-    where
-      kept : (B : ℕ → Body → Type 0) (n : ℕ) (b : Body) → is_report b ≡ true → KeptState B (states.Live n (Some b)) → B n b
-      kept B n bd.Ack f k = k
-      kept B n (bd.Named r) f k = k
-      kept B n b f k = cc f
+      subst (λ l. F t.out (sender h) l h.number b) z.of_life ((subst (KeptBy Q (F t.out (sender h) z.session.life.0)) z.state (o.kept (sender h) z.session z.is)) f)
 
   -- The same, where the names of the server are these.
   module _ (n : Names) where
@@ -216,17 +229,17 @@ module _ (s : ServerId) (e : Epoch) (F : List Output → ClientId → ℕ → �
     o_state : (t : Turn) (x : ServerState) → x.id ≡ t.state.id → x.stable ≡ t.state.stable → x.sessions ≡ t.state.sessions → O t → O (record t { state = x })
     o_state t x a b c o = record { acks = acks_state t x a (ap (λ (y : Stable). y.epoch) b) c o.acks; names = ap (λ (y : Stable). y.names) b ∙ o.names }
 
-    o_sessions : (t : Turn) (x : sessions.Sessions) → Keeps (F t.out) x → O t → O (with_sessions x t)
+    o_sessions : (t : Turn) (x : sessions.Sessions) → Keeps Q (F t.out) x → O t → O (with_sessions x t)
     o_sessions t x k o = record { acks = record { id = o.acks.id; epoch = o.acks.epoch; kept = k; sent = o.acks.sent }; names = o.names }
 
     o_note : (t : Turn) (x : Note) → O t → O (note t x)
     o_note t x o = record { acks = acks_note t x o.acks; names = o.names }
 
-    pub o_reply : (t : Turn) (h : Header) (b : Body) → (is_report b ≡ true → F t.out (client h.from) h.life h.number b) → O t → O (reply t h b)
+    pub o_reply : (t : Turn) (h : Header) (b : Body) → (Q b ≡ true → F t.out (client h.from) h.life h.number b) → O t → O (reply t h b)
     unfolding reply
     o_reply t h b w o = record { acks = acks_reply t h b w o.acks; names = o.names }
 
-    o_tell : (t : Turn) (c : ClientId) (life : Life) (b : Body) → (is_report b ≡ true → ⊥) → O t → O (tell t c life b)
+    o_tell : (t : Turn) (c : ClientId) (life : Life) (b : Body) → (Q b ≡ true → ⊥) → O t → O (tell t c life b)
     unfolding tell
     o_tell t c life b w o = record { acks = acks_tell t c life b w o.acks; names = o.names }
 
@@ -239,7 +252,7 @@ module _ (s : ServerId) (e : Epoch) (F : List Output → ClientId → ℕ → �
     o_steal t c None o = o
     o_steal t c (Some x) o =
         let v = o_note t (notes.Stolen c x.life) o in
-        o_sessions (with_locks (locks.forget t.state.locks c) (note t (notes.Stolen c x.life))) _ (kept_ended (F (t.out ++ outputs.Note (notes.Stolen c x.life) ∷ [])) t.state.sessions c v.acks.kept) (o_state _ _ refl refl refl v)
+        o_sessions (with_locks (locks.forget t.state.locks c) (note t (notes.Stolen c x.life))) _ (kept_ended Q (F (t.out ++ outputs.Note (notes.Stolen c x.life) ∷ [])) t.state.sessions c v.acks.kept) (o_state _ _ refl refl refl v)
 
     o_steals : (cs : List ClientId) (t : Turn) → O t → O (steal_each cs t)
     unfolding steal_each steal
@@ -252,36 +265,31 @@ module _ (s : ServerId) (e : Epoch) (F : List Output → ClientId → ℕ → �
 
     o_greet_as : (t : Turn) (now : Stamp) (h : Header) (x : Hello) → O t → O (greet_as t now h x)
     unfolding greet_as
-    o_greet_as t now h hellos.Welcome o = o_reply t h _ (λ q. cc q) o
-    o_greet_as t now h hellos.Replaced o = o_reply _ h _ (λ q. cc q) (o_state t _ refl refl refl o)
+    o_greet_as t now h hellos.Welcome o = o_reply t h _ (λ q. absurd (clash q kind.welcome)) o
+    o_greet_as t now h hellos.Replaced o = o_reply _ h _ (λ q. absurd (clash q kind.welcome)) (o_state t _ refl refl refl o)
     o_greet_as t now h hellos.Old o = o
-    o_greet_as t now h hellos.Wait o = o_reply _ h _ (λ q. cc q) (o_suspect t now (sender h) o)
+    o_greet_as t now h hellos.Wait o = o_reply _ h _ (λ q. absurd (clash q (kind.suspect _ _))) (o_suspect t now (sender h) o)
 
     pub o_hello : (t : Turn) (now : Stamp) (h : Header) → O t → O (hello t now h)
     unfolding hello greet greet_by refuse_in_grace
     o_hello t now h o =
-        if_either O (sv.in_grace t now) _ _ (o_reply t h _ (λ q. cc q) o)
-        (o_greet_as _ now h _ (o_sessions t _ (kept_hello (F t.out) t.state.sessions (sender h) (life_in h) _ o.acks.kept) o))
+        if_either O (sv.in_grace t now) _ _ (o_reply t h _ (λ q. absurd (clash q (kind.grace _ _))) o)
+        (o_greet_as _ now h _ (o_sessions t _ (kept_hello Q (F t.out) t.state.sessions (sender h) (life_in h) _ o.acks.kept) o))
 
     pub o_seen : (t : Turn) (h : Header) (ino : ℕ) (g : GrantNo) → O t → O (demand_seen t h ino g)
     unfolding demand_seen see_demand
     o_seen t h ino g o = if_either O (sv.is_served t h) _ t (o_state t _ refl refl refl o) o
 
-    refused_other : (r : AcceptRefusal) → is_report (sv.refused_reassertion r) ≡ true → ⊥
-    refused_other (refusals.GraceOver a b) q = cc q
-    refused_other (refusals.Conflict a b) q = cc q
-    refused_other (refusals.NotHolder a b) q = cc q
-
     abbrev AcceptedKeeps : List Output → Res grace.Accepted AcceptRefusal → Type 0
-    AcceptedKeeps out (Ok a) = Keeps (F out) a.sessions
+    AcceptedKeeps out (Ok a) = Keeps Q (F out) a.sessions
     AcceptedKeeps out (Err r) = Unit {0}
 
-    accepts : (out : List Output) (g : Option grace.Grace) (now : Stamp) (c : ClientId) (life : Life) (rows : List (ℕ × GrantNo × Mode)) (l : Locks) (t : sessions.Sessions) → Keeps (F out) t → AcceptedKeeps out (grace.accept g now c life rows l t)
+    accepts : (out : List Output) (g : Option grace.Grace) (now : Stamp) (c : ClientId) (life : Life) (rows : List (ℕ × GrantNo × Mode)) (l : Locks) (t : sessions.Sessions) → Keeps Q (F out) t → AcceptedKeeps out (grace.accept g now c life rows l t)
     unfolding grace.accept grace.accept_rows grace.accept_earlier grace.accept_own grace.accept_installed grace.accepted
     accepts out g now c life rows l t o = if_either (AcceptedKeeps out) (grace.is_on g now) _ _ (earlier (find (grace.is_new_grant l) rows)) tt
       where
         installed : (r : Res Locks InstallRefusal) → AcceptedKeeps out (grace.accept_installed t c life r)
-        installed (Ok m) = kept_reasserted (F out) t c life o
+        installed (Ok m) = kept_reasserted Q (F out) t c life kind.reasserted o
         installed (Err r) = tt
 
         own : (x : Option ℕ) → AcceptedKeeps out (grace.accept_own l t c life rows x)
@@ -292,27 +300,31 @@ module _ (s : ServerId) (e : Epoch) (F : List Output → ClientId → ℕ → �
         earlier None = own (grace.own_older l c life)
         earlier (Some r) = tt
 
-    o_reassert_by : (t : Turn) (h : Header) (r : Res grace.Accepted AcceptRefusal) → AcceptedKeeps t.out r → O t → O (reassert_by t h r)
+    -- a refusal of a reassertion has the fact
+    abbrev pub RefusedOk : Turn → Header → Type 0
+    RefusedOk t h = (r : AcceptRefusal) → Q (sv.refused_reassertion r) ≡ true → F t.out (client h.from) h.life h.number (sv.refused_reassertion r)
+
+    o_reassert_by : (t : Turn) (h : Header) (r : Res grace.Accepted AcceptRefusal) → RefusedOk t h → AcceptedKeeps t.out r → O t → O (reassert_by t h r)
     unfolding reassert_by
-    o_reassert_by t h (Ok a) k o = o_reply _ h _ (λ q. cc q) (o_sessions (with_locks a.locks t) _ k (o_state t _ refl refl refl o))
-    o_reassert_by t h (Err r) k o = o_reply t h _ (λ q. absurd (refused_other r q)) o
+    o_reassert_by t h (Ok a) w k o = o_reply _ h _ (λ q. absurd (clash q kind.reasserted)) (o_sessions (with_locks a.locks t) _ k (o_state t _ refl refl refl o))
+    o_reassert_by t h (Err r) w k o = o_reply t h _ (λ q. w r q) o
 
     o_reassert_again : (t : Turn) (h : Header) (x : Taken Body) → sv.take t h ≡ x → O t → O (reassert_again t h x)
     unfolding reassert_again
     o_reassert_again t h (takes.Again b) q o = o_reply t h b (λ f. again_good t h b q f o.acks) o
     o_reassert_again t h x q o = o
 
-    pub o_reassert : (t : Turn) (now : Stamp) (h : Header) (rows : List (ℕ × GrantNo × Mode)) → O t → O (reassert t now h rows)
+    pub o_reassert : (t : Turn) (now : Stamp) (h : Header) (rows : List (ℕ × GrantNo × Mode)) → RefusedOk t h → O t → O (reassert t now h rows)
     unfolding reassert reassert_new
-    o_reassert t now h rows o =
+    o_reassert t now h rows w o =
         if_either O (sessions.knows t.state.sessions (sender h) (life_in h)) _ _
         (o_reassert_again t h (sv.take t h) refl o)
-        (o_reassert_by t h _ (accepts t.out t.state.grace now (sender h) (life_in h) rows t.state.locks t.state.sessions o.acks.kept) o)
+        (o_reassert_by t h _ w (accepts t.out t.state.grace now (sender h) (life_in h) rows t.state.locks t.state.sessions o.acks.kept) o)
 
     pub o_refuse : (t : Turn) (h : Header) (start : Stamp) (b : Body) → O t → O (refuse_suspect t h start b)
     unfolding refuse_suspect
     o_refuse t h start (bd.DemandSeen n g) o = o
-    o_refuse t h start b o = o_reply t h _ (λ f. cc f) o
+    o_refuse t h start b o = o_reply t h _ (λ f. absurd (clash f (kind.suspect _ _))) o
 
     -- The passes.
     o_suspects : (now : Stamp) (cs : List ClientId) (t : Turn) → O t → O (suspect_each now cs t)
@@ -328,7 +340,7 @@ module _ (s : ServerId) (e : Epoch) (F : List Output → ClientId → ℕ → �
     o_told : (rs : List (ClientId × Life × ℕ × GrantNo × Mode)) (t : Turn) → O t → O (tell_granted rs t)
     unfolding tell_granted
     o_told [] t o = o
-    o_told (r ∷ rs) t o = o_told rs _ (o_tell t r.0 r.1 _ (λ f. cc f) o)
+    o_told (r ∷ rs) t o = o_told rs _ (o_tell t r.0 r.1 _ (λ f. clash f (kind.granted _ _ _)) o)
 
     o_granting : (t : Turn) (now : Stamp) → O t → O (granting t now)
     unfolding granting grant_waiting grant_by
@@ -337,7 +349,7 @@ module _ (s : ServerId) (e : Epoch) (F : List Output → ClientId → ℕ → �
     o_demanded : (rs : List (ClientId × Life × ℕ × GrantNo × Mode)) (t : Turn) → O t → O (tell_demanded rs t)
     unfolding tell_demanded
     o_demanded [] t o = o
-    o_demanded (r ∷ rs) t o = o_demanded rs _ (o_tell t r.0 r.1 _ (λ f. cc f) o)
+    o_demanded (r ∷ rs) t o = o_demanded rs _ (o_tell t r.0 r.1 _ (λ f. clash f (kind.demand _ _ _)) o)
 
     o_demanding : (t : Turn) (now : Stamp) (j : ServerInput) → O t → O (demanding t now j)
     unfolding demanding demand_by
@@ -347,19 +359,29 @@ module _ (s : ServerId) (e : Epoch) (F : List Output → ClientId → ℕ → �
     o_passes t now j o = o_demanding _ now j (o_granting _ now (o_suspecting _ now j o))
 
 -- A step of a server with an input, from these names.
-module _ (s : ServerId) (e : Epoch) (i : ServerInput) (n : Names) (Old : ClientId → ℕ → ℕ → Body → Type 0) where
+module _ (Q : Body → Bool) (kind : Kind Q) (s : ServerId) (e : Epoch) (i : ServerInput) (n : Names) (Old : ClientId → ℕ → ℕ → Body → Type 0) (state : ServerState) (now : Stamp) where
+  -- behind the thefts
+  abbrev pub start : Turn
+  start = thefts (turn state []) now
+
   -- names said this, and are these now
   abbrev pub IsSaid : Saying → Names → Body → Type 0
   IsSaid x m (bd.Named r) = x ≡ said m (cr.name_answer r)
-  IsSaid x m b = Unit {0}
+  IsSaid x m b = m ≡ n
 
-  -- a cut was noted, or names did what is asked and said what is replied
+  -- a cut that is acknowledged was noted, or names did what is asked and said what is replied
   abbrev pub Noted : Body → List Output → Names → Body → Type 0
-  Noted (bd.Cut ino g p) out m b = Has (outputs.Note (notes.CutDone (record { server = s; ino = ino }) p)) out
+  Noted (bd.Cut ino g p) out m bd.Ack = Has (outputs.Note (notes.CutDone (record { server = s; ino = ino }) p)) out
   Noted (bd.Name op) out m b = IsSaid (does n op) m b
   Noted asked out m b = Unit {0}
 
-  -- the request that is served, of this key, by which names became these
+  -- the request is served, and its rule replies so
+  pub record Serves (by : Message) (b : Body) : Type 0 where
+    pub client : sv.is_client_node by.header.from ≡ true
+    pub fresh : sv.take start by.header ≡ takes.Fresh
+    pub replied : (rule start now by.header by.body).reply ≡ Some b
+
+  -- the request that is served, of this key, by which names became these; or it is a reassertion, and refused
   pub record New (m : Names) (out : List Output) (c : ClientId) (life number : ℕ) (b : Body) : Type 0 where
     pub by : Message
     pub is : i ≡ Control by
@@ -369,8 +391,9 @@ module _ (s : ServerId) (e : Epoch) (i : ServerInput) (n : Names) (Old : ClientI
     pub of_epoch : by.header.epoch ≡ e.0
     pub under : by.header.number ≡ number
     pub noted : Noted by.body out m b
+    pub how : Serves by b ⊎ (reasserts by.body ≡ true)
 
-  -- a report of this key is of such a request, or stood before
+  -- a reply of this key is of such a request, or stood before
   abbrev pub Good : Names → List Output → ClientId → ℕ → ℕ → Body → Type 0
   Good m out c life number b = Old c life number b ⊎ New m out c life number b
 
@@ -378,49 +401,58 @@ module _ (s : ServerId) (e : Epoch) (i : ServerInput) (n : Names) (Old : ClientI
   Before out c life number b = Old c life number b
 
   noted_more : (m : Names) (asked : Body) (out os : List Output) (b : Body) → Noted asked out m b → Noted asked (out ++ os) m b
-  noted_more m (bd.Cut ino g p) out os b h = has_left out os _ h
+  noted_more m (bd.Cut ino g p) out os bd.Ack h = has_left out os _ h
   noted_more m (bd.Name op) out os b h = h
   noted_more m asked out os b h = tt
 
   pub good_more : (m : Names) (out os : List Output) (c : ClientId) (life number : ℕ) (b : Body) → Good m out c life number b → Good m (out ++ os) c life number b
   good_more m out os c life number b (inl o) = inl o
   good_more m out os c life number b (inr k) =
-      inr (record { by = k.by; is = k.is; from = k.from; there = k.there; of_life = k.of_life; of_epoch = k.of_epoch; under = k.under; noted = noted_more m k.by.body out os b k.noted })
+      inr (record { by = k.by; is = k.is; from = k.from; there = k.there; of_life = k.of_life; of_epoch = k.of_epoch; under = k.under; noted = noted_more m k.by.body out os b k.noted; how = k.how })
 
   pub before_more : (out os : List Output) (c : ClientId) (life number : ℕ) (b : Body) → Before out c life number b → Before (out ++ os) c life number b
   before_more out os c life number b o = o
 
   -- before the input is taken, and behind it
   abbrev Ob : Turn → Type 0
-  Ob t = O s e Before before_more n t
+  Ob t = O Q kind s e Before before_more n t
 
   abbrev Oa : Names → Turn → Type 0
-  Oa m t = O s e (Good m) (good_more m) m t
+  Oa m t = O Q kind s e (Good m) (good_more m) m t
 
+  -- a request was served, by whose rule names became these
+  pub record ServesNames (m : Names) : Type 0 where
+    pub by : Message
+    pub is : i ≡ Control by
+    pub there : by.header.to ≡ server_node s
+    pub client : sv.is_client_node by.header.from ≡ true
+    pub of_epoch : by.header.epoch ≡ e.0
+    pub fresh : sv.take start by.header ≡ takes.Fresh
+    pub names_ : (rule start now by.header by.body).turn.state.stable.names ≡ m
+
+  -- what stands behind the input, and why names are these
   abbrev Left : Turn → Type 0
-  Left t = (m : Names) × Oa m t
+  Left t = (m : Names) × (Oa m t × ((m ≡ n) ⊎ ServesNames m))
 
   -- nothing was served
-  state_left : (out : List Output) (c : ClientId) (life : ℕ) (x : SessionState) → KeptState (Before out c life) x → KeptState (Good n out c life) x
-  state_left out c life (states.Live last (Some bd.Ack)) k = inl k
-  state_left out c life (states.Live last (Some (bd.Named r))) k = inl k
-  state_left out c life (states.Live last (Some b)) k = tt
+  state_left : (out : List Output) (c : ClientId) (life : ℕ) (x : SessionState) → KeptBy Q (Before out c life) x → KeptBy Q (Good n out c life) x
+  state_left out c life (states.Live last (Some b)) k = λ q. inl (k q)
   state_left out c life (states.Live last None) k = tt
   state_left out c life states.Ended k = tt
 
-  acks_left : (m : Names) (t : Turn) → m ≡ n → Acks s e Before before_more t → Acks s e (Good m) (good_more m) t
-  acks_left m t q o = subst (λ y. Acks s e (Good y) (good_more y) t) (sym q)
+  acks_left : (m : Names) (t : Turn) → m ≡ n → Acks Q kind s e Before before_more t → Acks Q kind s e (Good m) (good_more m) t
+  acks_left m t q o = subst (λ y. Acks Q kind s e (Good y) (good_more y) t) (sym q)
       (record { id = o.id; epoch = o.epoch; kept = λ c x h. state_left t.out c x.life.0 x.state (o.kept c x h); sent = λ x h. let z = o.sent x h in (z.0, λ f. let y = z.1 f in (y.0, inl y.1)) })
 
   left : (t : Turn) → Ob t → Left t
-  left t o = (n, record { acks = acks_left n t refl o.acks; names = o.names })
+  left t o = (n, (record { acks = acks_left n t refl o.acks; names = o.names }, inl refl))
 
   -- The rules of requests: a turn with the same sessions.
   abbrev R : Turn → Replied → Type 0
-  R t a = Acks s e Before before_more a.turn × (a.turn.state.sessions ≡ t.state.sessions)
+  R t a = Acks Q kind s e Before before_more a.turn × (a.turn.state.sessions ≡ t.state.sessions)
 
-  r_rule : (t : Turn) (now : Stamp) (h : Header) (m : Body) → Acks s e Before before_more t → R t (rule t now h m)
-  r_rule = rules.r_rule (Acks s e Before before_more) (acks_state s e Before before_more) (acks_note s e Before before_more)
+  r_rule : (t : Turn) (now : Stamp) (h : Header) (m : Body) → Acks Q kind s e Before before_more t → R t (rule t now h m)
+  r_rule = rules.r_rule (Acks Q kind s e Before before_more) (acks_state Q kind s e Before before_more) (acks_note Q kind s e Before before_more)
 
   -- what names say
   abbrev Telling : Saying → Names → Option Body → Type 0
@@ -460,66 +492,69 @@ module _ (s : ServerId) (e : Epoch) (i : ServerInput) (n : Names) (Old : ClientI
   t_if true x y a b p q = p
   t_if false x y a b p q = q
 
-  t_held : (c : Bool) (x : Saying) (t : Turn) (ino : ℕ) (g : GrantNo) (a : Replied) → TellingBy x a → TellingBy x (if c then a else sv.not_holder t ino g)
+  t_held : (c : Bool) (x : Saying) (t : Turn) (ino : ℕ) (g : GrantNo) (a : Replied) → t.state.stable.names ≡ n → TellingBy x a → TellingBy x (if c then a else sv.not_holder t ino g)
   unfolding sv.not_holder
-  t_held true x t ino g a p = p
-  t_held false x t ino g a p = telling x t.state.stable.names (bd.Nack why.NotHolder ino g.0) tt
+  t_held true x t ino g a at p = p
+  t_held false x t ino g a at p = telling x t.state.stable.names (bd.Nack why.NotHolder ino g.0) at
 
-  t_remove : (t : Turn) (h : Header) (dir : ℕ) (x : List ℕ) (g : GrantNo) (r : Res ℕ EntryRefusal) → TellingBy (does_remove t.state.stable.names dir x g r) (sv.remove_found t h dir x g r)
+  t_remove : (t : Turn) (h : Header) (dir : ℕ) (x : List ℕ) (g : GrantNo) (r : Res ℕ EntryRefusal) → t.state.stable.names ≡ n → TellingBy (does_remove t.state.stable.names dir x g r) (sv.remove_found t h dir x g r)
   unfolding sv.remove_found sv.remove_ino sv.remove_file sv.remove_dir
-  t_remove t h dir x g (Err r) = t_refused t r
-  t_remove t h dir x g (Ok ino) =
+  t_remove t h dir x g (Err r) at = t_refused t r
+  t_remove t h dir x g (Ok ino) at =
       t_if (sv.is_file t ino) (changed t.state.stable.names (names.remove t.state.stable.names dir x)) (does_remove_dir t.state.stable.names dir x g) _ _
-      (t_held (sv.holds t h ino g modes.X) (changed t.state.stable.names (names.remove t.state.stable.names dir x)) t ino g (sv.remove_by t (names.remove t.state.stable.names dir x)) (t_removed t (names.remove t.state.stable.names dir x)))
+      (t_held (sv.holds t h ino g modes.X) (changed t.state.stable.names (names.remove t.state.stable.names dir x)) t ino g (sv.remove_by t (names.remove t.state.stable.names dir x)) at (t_removed t (names.remove t.state.stable.names dir x)))
       (t_if (g.0 == 0) (changed t.state.stable.names (names.remove t.state.stable.names dir x)) (refused t.state.stable.names IsDir) _ _ (t_changed t (names.remove t.state.stable.names dir x)) (t_refused t IsDir))
 
-  t_name : (t : Turn) (h : Header) (op : NameOp) → TellingBy (does t.state.stable.names op) (sv.name t h op)
+  pub t_name : (t : Turn) (h : Header) (op : NameOp) → t.state.stable.names ≡ n → TellingBy (does t.state.stable.names op) (sv.name t h op)
   unfolding sv.name sv.remove
-  t_name t h (Lookup dir x) = t_found t _
-  t_name t h (Create dir x) = t_changed t _
-  t_name t h (Mkdir dir x) = t_changed t _
-  t_name t h (Remove dir x g) = t_remove t h dir x g _
-  t_name t h (Rename dir x dir2 x2) = t_changed t _
-  t_name t h (ListFrom dir after) = t_listed t _
+  t_name t h (Lookup dir x) at = t_found t _
+  t_name t h (Create dir x) at = t_changed t _
+  t_name t h (Mkdir dir x) at = t_changed t _
+  t_name t h (Remove dir x g) at = t_remove t h dir x g _ at
+  t_name t h (Rename dir x dir2 x2) at = t_changed t _
+  t_name t h (ListFrom dir after) at = t_listed t _
 
   -- a cut that is acknowledged was noted, and a reply for a name tells what names did
   abbrev Noting : Body → Replied → Type 0
-  Noting m a = (b : Body) → a.reply ≡ Some b → is_report b ≡ true → Noted m a.turn.out a.turn.state.stable.names b
+  Noting m a = (b : Body) → a.reply ≡ Some b → Q b ≡ true → Noted m a.turn.out a.turn.state.stable.names b
 
   rule_notes : (t : Turn) (now : Stamp) (h : Header) (m : Body) → t.state.id ≡ s → t.state.stable.names ≡ n → Noting m (rule t now h m)
   unfolding rule sv.cut sv.cut_held sv.cut_from sv.cut_pages sv.no_file sv.not_holder
-  rule_notes t now h (bd.Cut k g p) id at = if_either (Noting (bd.Cut k g p)) (sv.is_file t k) _ _ (if_either (Noting (bd.Cut k g p)) (sv.holds t h k g modes.X) _ _ cut (λ b q f. no (why.NotHolder) k g.0 b q f)) (λ b q f. no why.NoFile k 0 b q f)
+  rule_notes t now h (bd.Cut k g p) id at = if_either (Noting (bd.Cut k g p)) (sv.is_file t k) _ _ (if_either (Noting (bd.Cut k g p)) (sv.holds t h k g modes.X) _ _ cut (λ b q f. no why.NotHolder k g.0 b q)) (λ b q f. no why.NoFile k 0 b q)
     where
-      no : {A : Type 0} (w : Why) (x y : ℕ) (b : Body) → ◌≡◌ {A = Option Body} (Some (bd.Nack w x y)) (Some b) → is_report b ≡ true → A
-      no w x y b q f = cc (subst (λ z. is_report z ≡ true) (sym (some_is q)) f)
+      no : (w : Why) (x y : ℕ) (b : Body) → ◌≡◌ {A = Option Body} (Some (bd.Nack w x y)) (Some b) → Noted (bd.Cut k g p) t.out t.state.stable.names b
+      no w x y b q = subst (Noted (bd.Cut k g p) t.out t.state.stable.names) (some_is q) tt
 
       cut : Noting (bd.Cut k g p) (sv.cut_from t k p)
-      cut b q f = has_right t.out (outputs.Note (notes.CutDone (sv.file t k) p) ∷ []) _ (inl (ap (λ (y : ServerId). outputs.Note (notes.CutDone (record { server = y; ino = k }) p)) (sym id)))
-  rule_notes t now h (bd.Name op) id at = λ b q f. subst (λ y. IsSaid (does y op) (sv.name t h op).turn.state.stable.names b) at (t_name t h op b q)
+      cut b q f = subst (Noted (bd.Cut k g p) (sv.cut_from t k p).turn.out (sv.cut_from t k p).turn.state.stable.names) (some_is q)
+          (has_right t.out (outputs.Note (notes.CutDone (sv.file t k) p) ∷ []) _ (inl (ap (λ (y : ServerId). outputs.Note (notes.CutDone (record { server = y; ino = k }) p)) (sym id))))
+  rule_notes t now h (bd.Name op) id at = λ b q f. subst (λ y. IsSaid (does y op) (sv.name t h op).turn.state.stable.names b) at (t_name t h op at b q)
   rule_notes t now h m id at = λ b q f. tt
 
-  module _ (m : Message) (is : i ≡ Control m) (there : m.header.to ≡ server_node s) where
-    o_serve : (t : Turn) (a : Replied) → R t a → Noting m.body a → m.header.epoch ≡ e.0 → sv.take t m.header ≡ takes.Fresh → Left (serve m.header a)
+  module _ (m : Message) (is : i ≡ Control m) (there : m.header.to ≡ server_node s) (from_client : sv.is_client_node m.header.from ≡ true) where
+    o_serve : R start (rule start now m.header m.body) → Noting m.body (rule start now m.header m.body) → m.header.epoch ≡ e.0 → sv.take start m.header ≡ takes.Fresh → Left (serve m.header (rule start now m.header m.body))
     unfolding serve keep keep_and_reply
-    o_serve t a r notes_it ep q = go a.reply refl
+    o_serve r notes_it ep q = go a.reply refl
       where
+        a : Replied
+        a = rule start now m.header m.body
+
         y : Names
         y = a.turn.state.stable.names
 
-        good : (b : Body) → a.reply ≡ Some b → is_report b ≡ true → Good y a.turn.out (sender m.header) m.header.life m.header.number b
-        good b f g = inr (record { by = m; is = is; from = refl; there = there; of_life = refl; of_epoch = ep; under = refl; noted = notes_it b f g })
+        good : (b : Body) → a.reply ≡ Some b → Q b ≡ true → Good y a.turn.out (sender m.header) m.header.life m.header.number b
+        good b f g =
+            inr (record { by = m; is = is; from = refl; there = there; of_life = refl; of_epoch = ep; under = refl; noted = notes_it b f g; how = inl (record { client = from_client; fresh = q; replied = f }) })
 
         its_life : (x : Session) → sessions.session_of a.turn.state.sessions (sender m.header) ≡ Some x → x.life.0 ≡ m.header.life
         its_life x j =
-            let z = found_for t.state.sessions (sender m.header) (life_in m.header) (sv.epoch_in m.header) m.header.number takes.Fresh (λ y. Unit {0}) q (λ r. cc r) (λ r. cc r) (λ r. cc r) (λ y r. tt) in
+            let z = found_for start.state.sessions (sender m.header) (life_in m.header) (sv.epoch_in m.header) m.header.number takes.Fresh (λ y. Unit {0}) q (λ r. cc r) (λ r. cc r) (λ r. cc r) (λ y r. tt) in
             let y = some_is (sym (ap (λ (u : sessions.Sessions). sessions.session_of u (sender m.header)) (sym r.1) ∙ j) ∙ z.is) in
             ap (λ (u : Session). u.life.0) y ∙ z.of_life
 
         -- what was kept and sent before
-        state_old : (out : List Output) (c : ClientId) (life : ℕ) (x : SessionState) → KeptState (Before out c life) x → KeptState (Good y out c life) x
-        state_old out c life (states.Live last (Some bd.Ack)) k = inl k
-        state_old out c life (states.Live last (Some (bd.Named r))) k = inl k
-        state_old out c life (states.Live last (Some b)) k = tt
+        state_old : (out : List Output) (c : ClientId) (life : ℕ) (x : SessionState) → KeptBy Q (Before out c life) x → KeptBy Q (Good y out c life) x
+        state_old out c life (states.Live last (Some b)) k = λ q. inl (k q)
         state_old out c life (states.Live last None) k = tt
         state_old out c life states.Ended k = tt
 
@@ -530,62 +565,86 @@ module _ (s : ServerId) (e : Epoch) (i : ServerInput) (n : Names) (Old : ClientI
               names = refl;
             }
 
+        serves : ServesNames y
+        serves = record { by = m; is = is; there = there; client = from_client; of_epoch = ep; fresh = q; names_ = refl }
+
         go : (b : Option Body) → a.reply ≡ b → Left (keep m.header a.turn b)
-        go None f = (y, old)
+        go None f = (y, (old, inr serves))
         go (Some b) f = (
           y,
-          o_reply s e (Good y) (good_more y) y _ m.header b (λ k. good b f k)
-              (record {
-                acks = record {
-                  id = r.0.id;
-                  epoch = r.0.epoch;
-                  kept = kept_stored (Good y a.turn.out) a.turn.state.sessions (sender m.header) m.header.number b
-                      (λ k x j. subst (λ l. Good y a.turn.out (sender m.header) l m.header.number b) (sym (its_life x j)) (good b f k)) old.acks.kept;
-                  sent = old.acks.sent;
-                };
-                names = refl;
-              }),
+          (
+            o_reply Q kind s e (Good y) (good_more y) y _ m.header b (λ k. good b f k)
+                (record {
+                  acks = record {
+                    id = r.0.id;
+                    epoch = r.0.epoch;
+                    kept = kept_stored Q (Good y a.turn.out) a.turn.state.sessions (sender m.header) m.header.number b
+                        (λ k x j. subst (λ l. Good y a.turn.out (sender m.header) l m.header.number b) (sym (its_life x j)) (good b f k)) old.acks.kept;
+                    sent = old.acks.sent;
+                  };
+                  names = refl;
+                }),
+            inr serves,
+          ),
         )
 
-    o_request_by : (t : Turn) (now : Stamp) (x : Taken Body) → sv.take t m.header ≡ x → m.header.epoch ≡ e.0 → Ob t → Left (request_by t now m.header m.body x)
+    o_request_by : (x : Taken Body) → sv.take start m.header ≡ x → m.header.epoch ≡ e.0 → Ob start → Left (request_by start now m.header m.body x)
     unfolding request_by refuse_epoch
-    o_request_by t now takes.OtherEpoch q ep o = left _ (o_reply s e Before before_more n t m.header _ (λ f. cc f) o)
-    o_request_by t now takes.NoSession q ep o = left _ (o_reply s e Before before_more n t m.header _ (λ f. cc f) o)
-    o_request_by t now takes.Stale q ep o = left _ o
-    o_request_by t now (takes.Again b) q ep o = left _ (o_reply s e Before before_more n t m.header b (λ f. again_good s e Before before_more t m.header b q f o.acks) o)
-    o_request_by t now takes.OutOfOrder q ep o = left _ o
-    o_request_by t now takes.Fresh q ep o = o_serve t _ (r_rule t now m.header m.body o.acks) (rule_notes t now m.header m.body o.acks.id o.names) ep q
+    o_request_by takes.OtherEpoch q ep o = left _ (o_reply Q kind s e Before before_more n start m.header _ (λ f. absurd (clash f (kind.other_epoch _ _))) o)
+    o_request_by takes.NoSession q ep o = left _ (o_reply Q kind s e Before before_more n start m.header _ (λ f. absurd (clash f (kind.no_session _ _))) o)
+    o_request_by takes.Stale q ep o = left _ o
+    o_request_by (takes.Again b) q ep o = left _ (o_reply Q kind s e Before before_more n start m.header b (λ f. again_good Q kind s e Before before_more start m.header b q f o.acks) o)
+    o_request_by takes.OutOfOrder q ep o = left _ o
+    o_request_by takes.Fresh q ep o = o_serve (r_rule start now m.header m.body o.acks) (rule_notes start now m.header m.body o.acks.id o.names) ep q
 
-    o_request : (t : Turn) (now : Stamp) (b : Body) → m.body ≡ b → m.header.epoch ≡ e.0 → Ob t → Left (request t now m.header b)
+    -- a reassertion that is refused
+    refuses : (rows : List (ℕ × GrantNo × Mode)) → m.body ≡ bd.Reassert rows → m.header.epoch ≡ e.0 → RefusedOk Q kind s e (Good n) (good_more n) n start m.header
+    refuses rows f ep r q =
+        inr (record {
+          by = m;
+          is = is;
+          from = refl;
+          there = there;
+          of_life = refl;
+          of_epoch = ep;
+          under = refl;
+          noted = subst (λ b. Noted b start.out n (sv.refused_reassertion r)) (sym f) tt;
+          how = inr (ap reasserts f);
+        })
+
+    o_request : (b : Body) → m.body ≡ b → m.header.epoch ≡ e.0 → Ob start → Left (request start now m.header b)
     unfolding request
-    o_request t now (bd.Reassert rows) f ep o = left _ (o_reassert s e Before before_more n t now m.header rows o)
-    o_request t now b f ep o = subst (λ y. Left (request_by t now m.header y (sv.take t m.header))) f (o_request_by t now (sv.take t m.header) refl ep o)
+    o_request (bd.Reassert rows) f ep o = (n, (o_reassert Q kind s e (Good n) (good_more n) n start now m.header rows (refuses rows f ep) (record { acks = acks_left n start refl o.acks; names = o.names }), inl refl))
+    o_request b f ep o = subst (λ y. Left (request_by start now m.header y (sv.take start m.header))) f (o_request_by (sv.take start m.header) refl ep o)
 
-    o_of_epoch : (t : Turn) (now : Stamp) (b : Body) → m.body ≡ b → Ob t → Left (of_epoch t now m.header b)
+    o_of_epoch : (b : Body) → m.body ≡ b → Ob start → Left (of_epoch start now m.header b)
     unfolding of_epoch refuse_epoch
-    o_of_epoch t now b f o =
-        if_cases Left (m.header.epoch == t.state.stable.epoch.0) _ _ (λ q. o_request t now b f (eqb-true _ _ q ∙ ap (λ (y : Epoch). y.0) o.acks.epoch) o) (λ q. left _ (o_reply s e Before before_more n t m.header _ (λ f. cc f) o))
+    o_of_epoch b f o =
+        if_cases Left (m.header.epoch == start.state.stable.epoch.0) _ _ (λ q. o_request b f (eqb-true _ _ q ∙ ap (λ (y : Epoch). y.0) o.acks.epoch) o)
+        (λ q. left _ (o_reply Q kind s e Before before_more n start m.header _ (λ f. absurd (clash f (kind.other_epoch _ _))) o))
 
-    o_by_body : (t : Turn) (now : Stamp) (b : Body) → m.body ≡ b → Ob t → Left (by_body t now m.header b)
+    o_by_body : (b : Body) → m.body ≡ b → Ob start → Left (by_body start now m.header b)
     unfolding by_body
-    o_by_body t now bd.Hello f o = left _ (o_hello s e Before before_more n t now m.header o)
-    o_by_body t now (bd.DemandSeen k g) f o = left _ (o_seen s e Before before_more n t m.header k g o)
-    o_by_body t now b f o = o_of_epoch t now b f o
+    o_by_body bd.Hello f o = left _ (o_hello Q kind s e Before before_more n start now m.header o)
+    o_by_body (bd.DemandSeen k g) f o = left _ (o_seen Q kind s e Before before_more n start m.header k g o)
+    o_by_body b f o = o_of_epoch b f o
 
-    o_by_suspicion : (t : Turn) (now : Stamp) (x : Option Stamp) → Ob t → Left (by_suspicion t now m.header m.body x)
+    o_by_suspicion : (x : Option Stamp) → Ob start → Left (by_suspicion start now m.header m.body x)
     unfolding by_suspicion
-    o_by_suspicion t now None o = o_by_body t now m.body refl o
-    o_by_suspicion t now (Some start) o = left _ (o_refuse s e Before before_more n t m.header start m.body o)
+    o_by_suspicion None o = o_by_body m.body refl o
+    o_by_suspicion (Some since) o = left _ (o_refuse Q kind s e Before before_more n start m.header since m.body o)
 
-  o_input : (t : Turn) (now : Stamp) (j : ServerInput) → i ≡ j → Ob t → Left (take_input t now j)
+  o_input : (j : ServerInput) → i ≡ j → Ob start → Left (take_input start now j)
   unfolding take_input receive receive_from
-  o_input t now Tick q o = left _ o
-  o_input t now (Control m) q o =
-      if_cases Left (sv.is_for t.state m.header) _ _ (λ f. o_by_suspicion m q (eqb-true _ _ (and_true (m.header.to == server_node t.state.id) _ f).0 ∙ ap server_node o.acks.id) t now _ o) (λ f. left _ o)
+  o_input Tick q o = left _ o
+  o_input (Control m) q o = if_cases Left (sv.is_for start.state m.header) _ _ heard (λ f. left _ o)
+    where
+      heard : sv.is_for start.state m.header ≡ true → Left (by_suspicion start now m.header m.body (authority.started start.state.authority (sender m.header)))
+      heard f = let z = and_true (m.header.to == server_node start.state.id) _ f in o_by_suspicion m q (eqb-true _ _ z.0 ∙ ap server_node o.acks.id) z.1 _ o
 
   -- The whole step, and the names that it leaves.
-  pub served : (x : ServerState) (now : Stamp) → Ob (turn x []) → Left (server_step x now i)
+  pub served : Ob (turn state []) → Left (server_step state now i)
   unfolding server_step
-  served x now o =
-      let z = o_input _ now i refl (o_thefts s e Before before_more n x now o) in
-      (z.0, o_passes s e (Good z.0) (good_more z.0) z.0 _ now i z.1)
+  served o =
+      let z = o_input i refl (o_thefts Q kind s e Before before_more n state now o) in
+      (z.0, (o_passes Q kind s e (Good z.0) (good_more z.0) z.0 _ now i z.1.0, z.1.1))

@@ -25,9 +25,10 @@ use Rattle.st_rules.specs.Keys.{server_node}
 use Rattle.st_lemmas.specs.Lists.{Has}
 use Rattle.st_lemmas.proofs.Tables.{has_append, has_map_in}
 use Rattle.st_laws_steps.specs.Lives.Lives.{Once, server_number}
-use Rattle.st_laws_requests.specs.Cuts.Cuts.{AllWait, AsksFor, Between, Keyed, Numbers, is_report, view}
+use Rattle.st_laws_leases.proofs.Dates.Known.{has_left}
+use Rattle.st_laws_requests.specs.Cuts.Cuts.{AllWait, AsksFor, Between, Keyed, Numbers, OneWaits, is_report, view}
 use Rattle.st_laws_requests.proofs.Cuts.Client.{w_finish, w_hear, w_lose, w_passes, w_take}
-use Rattle.st_laws_requests.proofs.Cuts.Keeping.{Answers, SaidOf, Sent, Whole, asked_of}
+use Rattle.st_laws_requests.proofs.Cuts.Keeping.{Answers, SaidOf, Sent, Whole, asked_of, sent_more}
 
 -- associations of servers that differ
 abbrev pub Onces : List Association → Type 0
@@ -52,6 +53,7 @@ module _ (M : List Message) (c : ClientId) (Known : ℕ → Ask → Type 0) (Bef
   pub record At (ops : List Operation) (out : List Output) (a : Association) : Type 0 where
     pub numbers : Numbers (Sent M c Known Before Done out) c a.server a.life.0 (view a.session)
     pub waits : AllWait Before a.server a.life.0 (view a.session) ops
+    pub alone : OneWaits a.server ops
 
   -- what stands of a step so far, with associations that are yet to come
   pub record Held (rest : List Association) (t : ClientTurn) : Type 0 where
@@ -75,10 +77,21 @@ module _ (M : List Message) (c : ClientId) (Known : ℕ → Ask → Type 0) (Bef
   elsewhere : (t : ClientTurn) (a : Association) (u : Turn) → WOf a.server t.state.operations t.out u → (b : Association) → (b.server.0 ≡ a.server.0 → ⊥) → At t.state.operations t.out b → At u.operations u.out b
   elsewhere t a u w b ne k =
       record {
-        numbers = record { lives = λ m h z. k.numbers.lives m (was m h z) z; placed = λ m h z. k.numbers.placed m (was m h z) z; counts = k.numbers.counts };
+        numbers = record {
+          lives = λ m h z. k.numbers.lives m (was m h z) z;
+          placed = λ m h z. k.numbers.placed m (was m h z) z;
+          one = λ m p h i z y. k.numbers.one m p (was m h z) (was p i y) z y;
+          sent = sent_more (Sent M c Known Before Done t.out) (Sent M c Known Before Done u.out) c b.server b.life.0 (view b.session) still k.numbers.sent;
+          counts = k.numbers.counts;
+        };
         waits = λ o h e. k.waits o (w.base.others o h (not_here o e)) e;
+        alone = λ o p h i e f. k.alone o p (w.base.others o h (not_here o e)) (w.base.others p i (not_here p f)) e f;
       }
     where
+      still : (m : Message) → Sent M c Known Before Done t.out m → Sent M c Known Before Done u.out m
+      still m (inl h) = inl h
+      still m (inr h) = inr (w.base.kept m h)
+
       was : (m : Message) → Sent M c Known Before Done u.out m → Between c b.server m → Sent M c Known Before Done t.out m
       was m (inl h) z = inl h
       was m (inr h) z = go (w.base.sent m h)
@@ -111,14 +124,14 @@ module _ (M : List Message) (c : ClientId) (Known : ℕ → Ask → Type 0) (Bef
 
       w : WOf a.server t.state.operations t.out u
       w = ok a.server t.state.operations t.out (enter t a)
-          (record { base = record { id_ = k.id_; server = refl; asked = k.asked; others = λ o h e. h; numbers = here.numbers; sent = λ m h. inl h; said = k.said }; waits = here.waits })
+          (record { base = record { id_ = k.id_; server = refl; asked = k.asked; others = λ o h e. h; numbers = here.numbers; sent = λ m h. inl h; kept = λ m h. h; said = k.said }; waits = here.waits; alone = here.alone })
 
       server : u.here.server.0 ≡ a.server.0
       server = ap (λ (v : ServerId). v.0) w.base.server
 
       done : (b : Association) → Has b t.state.associations ⊎ Has b (u.here ∷ []) → At u.operations u.out b
       done b (inl h) = elsewhere t a u w b (λ e. k.apart b a h (inl refl) e) (k.done b h)
-      done b (inr (inl e)) = subst (At u.operations u.out) (sym e) (record { numbers = w.base.numbers; waits = w.waits })
+      done b (inr (inl e)) = subst (At u.operations u.out) (sym e) (record { numbers = w.base.numbers; waits = w.waits; alone = w.alone })
       done b (inr (inr i)) = absurd i
 
       from : (m : Message) → Has (outputs.Send m) t.out ⊎ Between c u.here.server m → m.header.from ≡ c.0
@@ -156,7 +169,18 @@ module _ (M : List Message) (c : ClientId) (Known : ℕ → Ask → Type 0) (Bef
       record {
         id_ = k.id_;
         asked = k.asked;
-        done = λ b h. let z = k.done b h in record { numbers = record { lives = λ m i y. z.numbers.lives m (was m i) y; placed = λ m i y. z.numbers.placed m (was m i) y; counts = z.numbers.counts }; waits = z.waits };
+        done = λ b h. let z = k.done b h in
+            record {
+              numbers = record {
+                lives = λ m i y. z.numbers.lives m (was m i) y;
+                placed = λ m i y. z.numbers.placed m (was m i) y;
+                one = λ m p i j. z.numbers.one m p (was m i) (was p j);
+                sent = sent_more (Sent M c Known Before Done t.out) (Sent M c Known Before Done (t.out ++ outputs.Answer op a ∷ [])) c b.server b.life.0 (view b.session) more z.numbers.sent;
+                counts = z.numbers.counts;
+              };
+              waits = z.waits;
+              alone = z.alone;
+            };
         todo = λ b h. absurd h;
         said = λ x b h. says x b (has_append t.out (outputs.Answer op a ∷ []) _ h);
         from = λ m h. from m (has_append t.out (outputs.Answer op a ∷ []) _ h);
@@ -165,6 +189,10 @@ module _ (M : List Message) (c : ClientId) (Known : ℕ → Ask → Type 0) (Bef
         apart = λ x y h i e. absurd i;
       }
     where
+      more : (m : Message) → Sent M c Known Before Done t.out m → Sent M c Known Before Done (t.out ++ outputs.Answer op a ∷ []) m
+      more m (inl h) = inl h
+      more m (inr h) = inr (has_left t.out _ _ h)
+
       was : (m : Message) → Sent M c Known Before Done (t.out ++ outputs.Answer op a ∷ []) m → Sent M c Known Before Done t.out m
       was m (inl h) = inl h
       was m (inr h) = go (has_append t.out (outputs.Answer op a ∷ []) (outputs.Send m) h)
@@ -195,7 +223,7 @@ module _ (M : List Message) (c : ClientId) (Known : ℕ → Ask → Type 0) (Bef
     abbrev pub InputOk : ClientInput → Type 0
     InputOk inputs.Tick = Unit {0}
     InputOk (inputs.App op ask) = Known op ask
-    InputOk (inputs.Control m) = is_report m.body ≡ true → (sv : ServerId) → m.header.from ≡ server_node sv → Told m m.body sv
+    InputOk (inputs.Control m) = m.header.to ≡ c.0 → is_report m.body ≡ true → (sv : ServerId) → m.header.from ≡ server_node sv → Told m m.body sv
     InputOk (inputs.Done number result) = Unit {0}
 
     if_held : (b : Bool) (t u : ClientTurn) → Held [] t → Held [] u → Held [] (if b then t else u)
@@ -208,8 +236,14 @@ module _ (M : List Message) (c : ClientId) (Known : ℕ → Ask → Type 0) (Bef
     taken t now (inputs.App op ask) g k =
         if_held (cl.is_full t.state) _ _ (at_once t op answers.OpsFull (λ x. tt) k)
         (if_held (cl.is_configured t.state (server_of ask)) _ _ (each (cs.only_at (server_of ask) (cl.take_ask op ask)) (λ s B out0 u w. w_take M c Known Before Done s B out0 op ask g u w) t k) (at_once t op answers.NoFile (λ x. tt) k))
-    taken t now (inputs.Control m) g k =
-        if_held (m.header.to == t.state.id.0) _ _ (each (cr.receive_at now m.header m.body) (λ s B out0 u w. w_hear M c Known Before Done s B out0 fresh now m (Told m) (ends m) u g w) t k) k
+    taken t now (inputs.Control m) g k = go (m.header.to == t.state.id.0) refl
+      where
+        heard : m.header.to ≡ c.0 → Held [] (at_each (cr.receive_at now m.header m.body) t)
+        heard to = each (cr.receive_at now m.header m.body) (λ s B out0 u w. w_hear M c Known Before Done s B out0 now m (Told m) (ends m) u (g to) w) t k
+
+        go : (b : Bool) → (m.header.to == t.state.id.0) ≡ b → Held [] (if b then at_each (cr.receive_at now m.header m.body) t else t)
+        go true e = heard (eqb-true m.header.to t.state.id.0 e ∙ ap (λ (v : ClientId). v.0) k.id_)
+        go false e = k
     taken t now (inputs.Done number result) g k = each (cl.finish number result) (λ s B out0 u w. w_finish M c Known Before Done s B out0 number result u w) t k
 
     -- the whole step

@@ -46,7 +46,7 @@ use Rattle.st_rules.specs.ClientReplies.{name_answer}
 use Rattle.st_rules.specs.ClientState as cs
 use Rattle.st_rules.specs.ClientState.{Association, ClientTurn, client_turn}
 use Rattle.st_rules.specs.Events as ev
-use Rattle.st_rules.specs.Events.{WorldTurn, client_says_all, server_says_all}
+use Rattle.st_rules.specs.Events.{WorldTurn}
 use Rattle.st_rules.specs.History.{Traced}
 use Rattle.st_rules.specs.Names.{Names}
 use Rattle.st_rules.specs.Server as server
@@ -61,15 +61,16 @@ use Rattle.st_lemmas.proofs.Tables.{and_both, has_append, has_map, has_map_in, s
 use Rattle.st_laws_leases.specs.Dates.Dates.{message_in, messages}
 use Rattle.st_laws_leases.proofs.Dates.Known.{has_left, has_right}
 use Rattle.st_laws_leases.proofs.Dates.Leaving.{Leaves, client_leaves, leaves_from, lost_same, server_leaves, server_not_client, set_cases}
+use Rattle.st_laws_leases.proofs.Dates.Said.{flushed}
 use Rattle.st_laws_pages.proofs.Asks.World.{asks_more}
 use Rattle.st_laws_steps.specs.Lives.Lives.{NodeHolds}
 use Rattle.st_promises.specs.NameAnswers.{is_of_names, said}
-use Rattle.st_laws_requests.specs.Cuts.Cuts.{Acked, AsksFor, Between, ClientOk, IsCutDone, IsDone, IsNameDone, IsNameSaid, CutsHold, Early, Fulfilled, KeptState, Keyed, MeansNone, NameSaid, Numbers, ServerOk, Waits, WaitsAt, asks_of, does, is_report, view}
+use Rattle.st_laws_requests.specs.Cuts.Cuts.{Acked, AsksFor, Between, ClientOk, IsCutDone, IsDone, IsNameDone, IsNameSaid, CutsHold, Early, Fulfilled, KeptState, Keyed, MeansNone, NameSaid, Numbers, OneBody, ServerOk, Waits, WaitsAt, asks_of, does, is_report, view}
 use Rattle.st_laws_requests.specs.Cuts.Law.{CutsAreLogged, NameAskSaid, NamesAreSaid}
-use Rattle.st_laws_requests.proofs.Cuts.Keeping.{Answers, SaidOf, Sent}
+use Rattle.st_laws_requests.proofs.Cuts.Keeping.{Answers, SaidOf, Sent, sent_more}
 use Rattle.st_laws_requests.proofs.Cuts.Step.{Held, onces, stepped}
-use Rattle.st_laws_requests.proofs.Cuts.Server.{Acks, Before, Good, New, Noted, O, before_more, good_more, served}
-use Rattle.st_laws_requests.proofs.Cuts.Seen.{NoAnswers, none_answered, fates_none, server_none, cut_said, AnswerOf, answered_said}
+use Rattle.st_laws_requests.proofs.Cuts.Server.{Acks, Before, Good, New, Noted, O, before_more, good_more, report_kind, served}
+use Rattle.st_laws_requests.proofs.Cuts.Seen.{NoAnswers, none_answered, fates_none, server_none, cut_said, AnswerOf, answered_said, client_sends}
 
 -- What stands for fewer steps and messages stands for more.
 module _ (past : List Step) (x : Step) (ms ns : List Message) (f : (m : Message) → Has m ms → Has m ns) where
@@ -83,9 +84,7 @@ module _ (past : List Step) (x : Step) (ms ns : List Message) (f : (m : Message)
   acked_more c s life epoch number r a = record { by = a.by; among = f a.by a.among; is = a.is; done = done_more c s life epoch number a.by.body r a.done }
 
 state_map : (A B : ℕ → Body → Type 0) → ((n : ℕ) (b : Body) → A n b → B n b) → (x : SessionState) → KeptState A x → KeptState B x
-state_map A B f (states.Live last (Some bodies.Ack)) k = f last bodies.Ack k
-state_map A B f (states.Live last (Some (bodies.Named r))) k = f last (bodies.Named r) k
-state_map A B f (states.Live last (Some b)) k = tt
+state_map A B f (states.Live last (Some b)) k = λ q. f last b (k q)
 state_map A B f (states.Live last None) k = tt
 state_map A B f states.Ended k = tt
 
@@ -97,8 +96,9 @@ waits_map E F s life (Some v) o f w = go v.1.asked w
     go None w = w
     go (Some q) w = (w.0, f v.0 q.number w.1)
 
-numbers_map : (S T : Message → Type 0) (c : ClientId) (s : ServerId) (life : ℕ) (v : Option (ℕ × cs.Requests)) → ((m : Message) → T m → Between c s m → S m) → Numbers S c s life v → Numbers T c s life v
-numbers_map S T c s life v f k = record { lives = λ m h b. k.lives m (f m h b) b; placed = λ m h b. k.placed m (f m h b) b; counts = k.counts }
+pub numbers_map : (S T : Message → Type 0) (c : ClientId) (s : ServerId) (life : ℕ) (v : Option (ℕ × cs.Requests)) → ((m : Message) → T m → Between c s m → S m) → ((m : Message) → S m → T m) → Numbers S c s life v → Numbers T c s life v
+numbers_map S T c s life v f g k =
+    record { lives = λ m h b. k.lives m (f m h b) b; placed = λ m h b. k.placed m (f m h b) b; one = λ m p h i b d. k.one m p (f m h b) (f p i d) b d; sent = sent_more S T c s life v g k.sent; counts = k.counts }
 
 module _ (past : List Step) (t : Traced) (e : Event) (d : CutsHold past t) where
   -- What an event leaves.
@@ -136,17 +136,19 @@ module _ (past : List Step) (t : Traced) (e : Event) (d : CutsHold past t) where
       go (inr (inr j)) = absurd j
 
   -- a client of which nothing happens
-  client_more : (sc : WorldTurn) (c : ClientId) (site : ClientSite) → ((m : Message) → Has m (messages sc.world) → Has m (messages t.world) ⊎ (m.header.from ≢ c.0)) → ask_in c e ≡ None → site_of t.world c ≡ Some site →
+  client_more : (sc : WorldTurn) (c : ClientId) (site : ClientSite) → ((m : Message) → Has m (messages t.world) → Has m (messages sc.world)) → ((m : Message) → Has m (messages sc.world) → Has m (messages t.world) ⊎ (m.header.from ≢ c.0)) → ask_in c e ≡ None → site_of t.world c ≡ Some site →
       ClientOk past (messages t.world) c site → ClientOk (past ++ step t e sc ∷ []) (messages sc.world) c site
-  client_more sc c site new q at k =
+  client_more sc c site old new q at k =
       record {
         count = ap length same ∙ k.count;
         asked = λ o h. ap (λ z. numbered z o.op) same ∙ k.asked o h;
         lives = λ a h m i b. k.lives a h m (was m i b.0) b;
+        one = λ a h m p i j b d. k.one a h m p (was m i b.0) (was p j d.0) b d;
         all = λ run a h. let z = k.all run a h in
             record {
-              numbers = numbers_map (λ m. Has m (messages t.world)) (λ m. Has m (messages sc.world)) c a.server a.life.0 (view a.session) (λ m i b. was m i b.0) z.numbers;
+              numbers = numbers_map (λ m. Has m (messages t.world)) (λ m. Has m (messages sc.world)) c a.server a.life.0 (view a.session) (λ m i b. was m i b.0) old z.numbers;
               waits = λ o i w. waits_map (Early past c) (Early (past ++ step t e sc ∷ []) c) a.server a.life.0 (view a.session) o (λ epoch number y. early_more sc c site at a.server a.life.0 epoch number o.op (below o i) y) (z.waits o i w);
+              alone = z.alone;
             };
       }
     where
@@ -183,7 +185,7 @@ module _ (past : List Step) (t : Traced) (e : Event) (d : CutsHold past t) where
       record {
         old = λ m h. subst (Has m) (sym ms) h;
         new = λ m h. inl (subst (Has m) ms h);
-        clients = λ c site i. let at = ap (λ z. numbered z c.0) (sym cs) ∙ i in client_more sc c site (λ m h. inl (subst (Has m) ms h)) (q c) at (d.clients c site at);
+        clients = λ c site i. let at = ap (λ z. numbered z c.0) (sym cs) ∙ i in client_more sc c site (λ m h. subst (Has m) (sym ms) h) (λ m h. inl (subst (Has m) ms h)) (q c) at (d.clients c site at);
         servers = λ s node i. server_more sc s node (λ m h. subst (Has m) (sym ms) h) (d.servers s node (ap (λ z. numbered z s.0) (sym ss) ∙ i));
         few = subst (λ z. length z ≤ 16) (sym cs) d.few;
         cuts = no_cuts sc n;
@@ -212,7 +214,7 @@ module _ (past : List Step) (t : Traced) (e : Event) (d : CutsHold past t) where
 
       it : (x : ClientId) (y : ClientSite) → ((x.0 ≡ c.0) × (y ≡ new)) ⊎ ((x.0 ≢ c.0) × (site_of t.world x ≡ Some y)) → ClientOk past2 (messages sc.world) x y
       it x y (inl z) = subst (ClientOk past2 (messages sc.world) x) (sym z.1) (subst (λ n. ClientOk past2 (messages sc.world) (record { 0 = n }) new) (sym z.0) its)
-      it x y (inr z) = client_more sc x y (λ m h. inl (subst (Has m) ms h)) (q x) z.1 (d.clients x y z.1)
+      it x y (inr z) = client_more sc x y (λ m h. subst (Has m) (sym ms) h) (λ m h. inl (subst (Has m) ms h)) (q x) z.1 (d.clients x y z.1)
 
   -- A server at its place is another one, and no message is sent.
   server_placed : (s : ServerId) (old new : ServerNode) (sc : WorldTurn) → ((c : ClientId) → ask_in c e ≡ None) → node_of t.world s ≡ Some old → sc.world.servers ≡ with_numbered s.0 new t.world.servers → sc.world.clients ≡ t.world.clients → messages sc.world ≡ messages t.world →
@@ -221,7 +223,7 @@ module _ (past : List Step) (t : Traced) (e : Event) (d : CutsHold past t) where
       record {
         old = λ m h. subst (Has m) (sym ms) h;
         new = λ m h. inl (subst (Has m) ms h);
-        clients = λ c site i. let at = ap (λ z. numbered z c.0) (sym cs) ∙ i in client_more sc c site (λ m h. inl (subst (Has m) ms h)) (q c) at (d.clients c site at);
+        clients = λ c site i. let at = ap (λ z. numbered z c.0) (sym cs) ∙ i in client_more sc c site (λ m h. subst (Has m) (sym ms) h) (λ m h. inl (subst (Has m) ms h)) (q c) at (d.clients c site at);
         servers = λ x y i. it x y (set_cases t.world.servers s.0 x.0 old new y at (ap (λ z. numbered z x.0) (sym ss) ∙ i));
         few = subst (λ z. length z ≤ 16) (sym cs) d.few;
         cuts = no_cuts sc n;
@@ -376,7 +378,7 @@ module _ (past : List Step) (t : Traced) (e : Event) (d : CutsHold past t) where
           tells : (i : ClientInput) → Tells c i → Rattle.st_laws_requests.proofs.Cuts.Step.InputOk M c Known (Early past2 c) Done fresh Told ends_as i
           tells inputs.Tick k = tt
           tells (inputs.App op ask) k = k
-          tells (inputs.Control m) k = λ f s r. subst (λ n. Acked past M (record { 0 = n }) s m.header.life m.header.epoch m.header.number m.body) k.1 (d.acks m k.0 f s r)
+          tells (inputs.Control m) k = λ to f s r. subst (λ n. Acked past M (record { 0 = n }) s m.header.life m.header.epoch m.header.number m.body) k.1 (d.acks m k.0 f s r)
           tells (inputs.Done number result) k = tt
 
       below : (o : Operation) → Has o old.node.state.operations → o.op ≤ old.asks
@@ -390,8 +392,9 @@ module _ (past : List Step) (t : Traced) (e : Event) (d : CutsHold past t) where
             asked = z.known;
             done = λ y h. let k = old_ok.all (ap (λ (n : cl.ClientNode). n.running) (sym z.same) ∙ run) y h in
                 record {
-                  numbers = numbers_map (λ m. Has m M) (Sent M c Known (Early past2 c) Done []) c y.server y.life.0 (view y.session) (λ m h b. sent m h) k.numbers;
+                  numbers = numbers_map (λ m. Has m M) (Sent M c Known (Early past2 c) Done []) c y.server y.life.0 (view y.session) (λ m h b. sent m h) (λ m h. inl h) k.numbers;
                   waits = λ o i w. waits_map (Early past c) (Early past2 c) y.server y.life.0 (view y.session) o (λ epoch number r. early_more sc c old z.there y.server y.life.0 epoch number o.op (below o i) r) (k.waits o i w);
+                  alone = k.alone;
                 };
             todo = λ y h. absurd h;
             said = λ op a h. absurd h;
@@ -430,14 +433,19 @@ module _ (past : List Step) (t : Traced) (e : Event) (d : CutsHold past t) where
           sent : (m : Message) → Has m (messages last) → Sent M c Known (Early past2 c) Done u.out m
           sent m h = leaves_from M a.world last u.out l m h
 
+          back : (m : Message) → Sent M c Known (Early past2 c) Done u.out m → Has m (messages last)
+          back m (inl h) = l.old m h
+          back m (inr h) = subst (Has m) (sym (ap (λ (n : world.Net). map message_in n.messages) (flushed c node.state (world.all_servers b.world) b.world).net)) (client_sends c site.node.state u.out a m h)
+
           own : ClientOk past2 (messages last) c (ev.at_node node site)
           own =
               record {
                 count = ap length (asked_all sc c) ∙ z.count;
                 asked = λ o h. ap (λ w. numbered w o.op) (asked_all sc c) ∙ k.asked o h;
                 lives = λ y h m i r. (k.done y h).numbers.lives m (sent m i) r;
+                one = λ y h m p i j. (k.done y h).numbers.one m p (sent m i) (sent p j);
                 all = λ on y h. let w = k.done y h in
-                    record { numbers = numbers_map (Sent M c Known (Early past2 c) Done u.out) (λ m. Has m (messages last)) c y.server y.life.0 (view y.session) (λ m i r. sent m i) w.numbers; waits = w.waits };
+                    record { numbers = numbers_map (Sent M c Known (Early past2 c) Done u.out) (λ m. Has m (messages last)) c y.server y.life.0 (view y.session) (λ m i r. sent m i) back w.numbers; waits = w.waits; alone = w.alone };
               }
 
           other : (y : ClientId) → y.0 ≢ c.0 → (m : Message) → Has m M ⊎ Has (outputs.Send m) u.out → Has m M ⊎ (m.header.from ≢ y.0)
@@ -446,7 +454,7 @@ module _ (past : List Step) (t : Traced) (e : Event) (d : CutsHold past t) where
 
           it : (y : ClientId) (r : ClientSite) → ((y.0 ≡ c.0) × (r ≡ ev.at_node node site)) ⊎ ((y.0 ≢ c.0) × (site_of t.world y ≡ Some r)) → ClientOk past2 (messages last) y r
           it y r (inl q) = subst (ClientOk past2 (messages last) y) (sym q.1) (subst (λ n. ClientOk past2 (messages last) (record { 0 = n }) (ev.at_node node site)) (sym q.0) own)
-          it y r (inr q) = client_more sc y r (λ m h. other y q.0 m (leaves_from M a.world last u.out l m h)) (z.others y q.0) q.1 (d.clients y r q.1)
+          it y r (inr q) = client_more sc y r l.old (λ m h. other y q.0 m (leaves_from M a.world last u.out l m h)) (z.others y q.0) q.1 (d.clients y r q.1)
 
           cut : (y : ClientId) (op : ℕ) → Has (seen.Answered y op answers.Cut) [] ⊎ AnswerOf c y op answers.Cut u.out → was_cut past y op (numbered (asks_of past2 y) op) ≡ true
           cut y op (inl h) = absurd h
@@ -523,16 +531,16 @@ module _ (past : List Step) (t : Traced) (e : Event) (d : CutsHold past t) where
       Old : ClientId → ℕ → ℕ → Body → Type 0
       Old c life number b = Acked past M c s life epoch number b
 
-      begins : O s node.state.stable.epoch (Before s node.state.stable.epoch i names Old) (before_more s node.state.stable.epoch i names Old) names (server.turn node.state [])
+      begins : O is_report report_kind s node.state.stable.epoch (Before is_report report_kind s node.state.stable.epoch i names Old node.state now) (before_more is_report report_kind s node.state.stable.epoch i names Old node.state now) names (server.turn node.state [])
       begins = record { acks = record { id = ok.id; epoch = refl; kept = λ c y h. ok.kept c y h; sent = λ y h. absurd h }; names = refl }
 
-      left : (m : Names) × O s node.state.stable.epoch (Good s node.state.stable.epoch i names Old m) (good_more s node.state.stable.epoch i names Old m) m u
-      left = served s node.state.stable.epoch i names Old node.state now begins
+      left : (m : Names) × O is_report report_kind s node.state.stable.epoch (Good is_report report_kind s node.state.stable.epoch i names Old node.state now m) (good_more is_report report_kind s node.state.stable.epoch i names Old node.state now m) m u
+      left = let z = served is_report report_kind s node.state.stable.epoch i names Old node.state now begins in (z.0, z.1.0)
 
-      k : Acks s node.state.stable.epoch (Good s node.state.stable.epoch i names Old left.0) (good_more s node.state.stable.epoch i names Old left.0) u
+      k : Acks is_report report_kind s node.state.stable.epoch (Good is_report report_kind s node.state.stable.epoch i names Old node.state now left.0) (good_more is_report report_kind s node.state.stable.epoch i names Old node.state now left.0) u
       k = left.1.acks
 
-      done : (c : ClientId) (life number : ℕ) (by : Message) → i ≡ serving.Control by → Keyed c s life epoch number by → (b r : Body) → Noted s node.state.stable.epoch i names Old b u.out left.0 r → Fulfilled past2 c s life epoch number b r
+      done : (c : ClientId) (life number : ℕ) (by : Message) → i ≡ serving.Control by → Keyed c s life epoch number by → (b r : Body) → Noted is_report report_kind s node.state.stable.epoch i names Old node.state now b u.out left.0 r → Fulfilled past2 c s life epoch number b r
       done c life number by is key (bodies.Cut ino g p) bodies.Ack h =
           let z = cut_said s (record { server = s; ino = ino }) p u.out a h in
           record { at = x; among = has_right past _ _ (inl refl); index = z.0; cut = z.1; by = by; before = subst Brings is brings; is = key }
@@ -551,11 +559,11 @@ module _ (past : List Step) (t : Traced) (e : Event) (d : CutsHold past t) where
           }
       done c life number by is key b r h = tt
 
-      good : (c : ClientId) (life number : ℕ) (b : Body) → Good s node.state.stable.epoch i names Old left.0 u.out c life number b → Acked past2 (messages sc.world) c s life epoch number b
+      good : (c : ClientId) (life number : ℕ) (b : Body) → Good is_report report_kind s node.state.stable.epoch i names Old node.state now left.0 u.out c life number b → Acked past2 (messages sc.world) c s life epoch number b
       good c life number b (inl o) = acked_more past x M (messages sc.world) l.old c s life epoch number b o
       good c life number b (inr n) = record { by = n.by; among = l.old n.by (subst Brings n.is brings); is = key n; done = done c life number n.by n.is (key n) n.by.body b n.noted }
         where
-          key : (n : New s node.state.stable.epoch i names Old left.0 u.out c life number b) → Keyed c s life epoch number n.by
+          key : (n : New is_report report_kind s node.state.stable.epoch i names Old node.state now left.0 u.out c life number b) → Keyed c s life epoch number n.by
           key n = record { between = (n.from, n.there); of_life = n.of_life; of_epoch = n.of_epoch; under = n.under }
 
       mine : (m : Message) → Has m M ⊎ Has (outputs.Send m) u.out → Has m M ⊎ (is_report m.body ≡ true → (v : ServerId) → m.header.from ≡ server_node v → Acked past2 (messages sc.world) (client m.header.to) v m.header.life m.header.epoch m.header.number m.body)
@@ -563,7 +571,7 @@ module _ (past : List Step) (t : Traced) (e : Event) (d : CutsHold past t) where
       mine m (inr h) = inr (λ f v r. its v r f (k.sent m h))
         where
           its : (v : ServerId) → m.header.from ≡ server_node v → is_report m.body ≡ true →
-              (m.header.from ≡ server_node s) × (is_report m.body ≡ true → (m.header.epoch ≡ epoch) × Good s node.state.stable.epoch i names Old left.0 u.out (client m.header.to) m.header.life m.header.number m.body) →
+              (m.header.from ≡ server_node s) × (is_report m.body ≡ true → (m.header.epoch ≡ epoch) × Good is_report report_kind s node.state.stable.epoch i names Old node.state now left.0 u.out (client m.header.to) m.header.life m.header.number m.body) →
               Acked past2 (messages sc.world) (client m.header.to) v m.header.life m.header.epoch m.header.number m.body
           its v r rep (f, g) =
               let z = g rep in
@@ -591,7 +599,7 @@ module _ (past : List Step) (t : Traced) (e : Event) (d : CutsHold past t) where
           record {
             old = l.old;
             new = λ m h. mine m (leaves_from M a.world sc.world u.out l m h);
-            clients = λ c site r. let there = ap (λ z. numbered z c.0) (sym l.clients) ∙ r in client_more sc c site (λ m h. of_server m c site there (leaves_from M a.world sc.world u.out l m h)) (q c) there (d.clients c site there);
+            clients = λ c site r. let there = ap (λ z. numbered z c.0) (sym l.clients) ∙ r in client_more sc c site l.old (λ m h. of_server m c site there (leaves_from M a.world sc.world u.out l m h)) (q c) there (d.clients c site there);
             servers = λ y n r. it y n (set_cases t.world.servers s.0 y.0 node next n at (ap (λ z. numbered z y.0) (sym l.servers) ∙ r));
             few = subst (λ z. length z ≤ 16) (sym l.clients) d.few;
             cuts = no_cuts sc (server_none s u.out a none_answered);
@@ -612,6 +620,8 @@ crashed_ok past past2 ms c site q k =
       lives = λ a h m i b. let z = has_map cl.crashed_association site.node.state.associations a h in
           let y = k.lives z.0 z.1 m i (subst (λ (v : Association). Between c v.server m) z.2 b) in
           subst (λ (v : Association). m.header.life ≤ v.life.0) (sym z.2) y;
+      one = λ a h m p i j b d. let z = has_map cl.crashed_association site.node.state.associations a h in
+          k.one z.0 z.1 m p i j (subst (λ (v : Association). Between c v.server m) z.2 b) (subst (λ (v : Association). Between c v.server p) z.2 d);
       all = λ run. absurd (none run);
     }
   where
@@ -625,10 +635,12 @@ started_ok past past2 ms c site q k =
       count = ap length q ∙ k.count;
       asked = λ o h. absurd h;
       lives = λ a h m i b. let y = below a (has_map cl.started_association site.node.state.associations a h) m i b in omega (arith, y);
+      one = λ a h. one a (has_map cl.started_association site.node.state.associations a h);
       all = λ run a h.
           record {
             numbers = numbers a (has_map cl.started_association site.node.state.associations a h);
             waits = λ o i. absurd i;
+            alone = λ o p i. absurd i;
           };
     }
   where
@@ -637,9 +649,12 @@ started_ok past past2 ms c site q k =
         let y = k.lives p h m i (subst (λ (v : Association). Between c v.server m) e b) in
         let l : a.life.0 ≡ p.life.0 + 1 = ap (λ (v : Association). v.life.0) e in omega (arith, y, l)
 
+    one : (a : Association) → (b : Association) × Has b site.node.state.associations × (a ≡ cl.started_association b) → OneBody (λ m. Has m ms) c a.server
+    one a (p, h, e) m q i j b d = k.one p h m q i j (subst (λ (v : Association). Between c v.server m) e b) (subst (λ (v : Association). Between c v.server q) e d)
+
     numbers : (a : Association) → (b : Association) × Has b site.node.state.associations × (a ≡ cl.started_association b) → Numbers (λ m. Has m ms) c a.server a.life.0 (view a.session)
     numbers a z = subst (λ o. Numbers (λ m. Has m ms) c a.server a.life.0 (view o)) (sym (ap (λ (v : Association). v.session) z.2))
-        (record { lives = λ m i b. let y = below a z m i b in omega (arith, y); placed = λ m i b l. let y = below a z m i b in absurd (omega (arith, y, l)); counts = tt })
+        (record { lives = λ m i b. let y = below a z m i b in omega (arith, y); placed = λ m i b l. let y = below a z m i b in absurd (omega (arith, y, l)); one = one a z; sent = tt; counts = tt })
 
 -- a server that crashed or started
 crashed_server : (past : List Step) (ms : List Message) (s : ServerId) (node : ServerNode) → node.state.id ≡ s → ServerOk past ms s (server.crash_node node)

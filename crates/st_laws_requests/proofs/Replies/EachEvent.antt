@@ -17,7 +17,6 @@ use Rattle.st_rules.specs.declared.input.ServerInput.TheVariants as serving
 use Rattle.st_rules.specs.declared.node.StepRefusal.TheVariants.{Crashed}
 use Rattle.st_rules.specs.declared.world.IssuedCommand.{IssuedCommand}
 use Rattle.st_rules.specs.declared.world.SentMessage.{SentMessage}
-use Rattle.st_rules.specs.Keys.{client}
 use Rattle.st_rules.specs.Client as cl
 use Rattle.st_rules.specs.ClientState.{ClientTurn}
 use Rattle.st_rules.specs.Events as ev
@@ -61,11 +60,13 @@ NodeAfter t s i node = record node { state = (ServerTook t s i node).state }
 abbrev pub ServerLeft : World → ServerId → ServerInput → ServerNode → WorldTurn
 ServerLeft t s i node = server_says_all s (ServerTook t s i node).out (ev.quiet (ev.with_node s (NodeAfter t s i node) (ev.counted t)))
 
-module _ (t : World) (R : World → Type 0)
+-- An event, and what is known of the input that a server takes in it.
+module _ (t : World) (e : Event) (B : ServerInput → Type 0) (ticks_one : (s : ServerId) → e ≡ events.Tick (nodes.Server s) → B serving.Tick)
+    (delivers_one : (k : ℕ) (m : SentMessage) → e ≡ events.Deliver k → world.message_of t k ≡ Some m → B (serving.Control m.message)) (R : World → Type 0)
     (alike : (v : World) → v.clients ≡ t.clients → v.servers ≡ t.servers → messages v ≡ messages t → R v)
     (client_step : (v : World) → v.clients ≡ t.clients → v.servers ≡ t.servers → (c : ClientId) (i : ClientInput) (site old : ClientSite) → site.node ≡ old.node → site.node.running ≡ true → site_of t c ≡ Some old → Comes t i →
     (last : World) → Leaves (messages t) (ev.with_site c (SiteAfter v c i site) v) last (ClientTook v c i site).out → R last)
-    (server_step : (s : ServerId) (i : ServerInput) (node : ServerNode) → node_of t s ≡ Some node → node.running ≡ true → Brings t i →
+    (server_step : (s : ServerId) (i : ServerInput) (node : ServerNode) → node_of t s ≡ Some node → node.running ≡ true → B i →
     InputNew (server.thefts (server.turn node.state []) (clock_of (ev.counted t) (nodes.Server s))) (clock_of (ev.counted t) (nodes.Server s)) i →
     Leaves (messages t) (ev.with_node s (NodeAfter t s i node) (ev.counted t)) (ServerLeft t s i node).world (ServerTook t s i node).out → R (ServerLeft t s i node).world)
     (stopped : (c : ClientId) (site : ClientSite) → site_of t c ≡ Some site → R (ev.crashes_client (ev.counted t) c (Some site)).world)
@@ -93,7 +94,7 @@ module _ (t : World) (R : World → Type 0)
       go true run = client_step v cs ss c i site old same run at k _ (client_leaves (messages t) c site.node.state u.state u.out a before)
       go false run = alike v cs ss before
 
-  serves : (s : ServerId) (i : ServerInput) (node : ServerNode) → node_of t s ≡ Some node → Brings t i → InputNew (server.thefts (server.turn node.state []) (clock_of w (nodes.Server s))) (clock_of w (nodes.Server s)) i →
+  serves : (s : ServerId) (i : ServerInput) (node : ServerNode) → node_of t s ≡ Some node → B i → InputNew (server.thefts (server.turn node.state []) (clock_of w (nodes.Server s))) (clock_of w (nodes.Server s)) i →
       R (ev.server_takes w s i node).world
   unfolding ev.server_takes ev.server_took server.node_step w
   serves s i node at k owed = go node.running refl
@@ -110,7 +111,7 @@ module _ (t : World) (R : World → Type 0)
       go None r = alike w refl refl refl
       go (Some site) r = takes w refl refl refl c i site site refl r k
 
-  at_server : (s : ServerId) (i : ServerInput) → Brings t i → ((node : ServerNode) → node_of w s ≡ Some node → InputNew (server.thefts (server.turn node.state []) (clock_of w (nodes.Server s))) (clock_of w (nodes.Server s)) i) → R (ev.at_server w s i (node_of w s)).world
+  at_server : (s : ServerId) (i : ServerInput) → B i → ((node : ServerNode) → node_of w s ≡ Some node → InputNew (server.thefts (server.turn node.state []) (clock_of w (nodes.Server s))) (clock_of w (nodes.Server s)) i) → R (ev.at_server w s i (node_of w s)).world
   unfolding ev.at_server w
   at_server s i k owed = go (node_of w s) refl
     where
@@ -126,17 +127,17 @@ module _ (t : World) (R : World → Type 0)
       go None r = alike w refl refl refl
       go (Some site) r = takes w refl refl refl c (inputs.App (site.asks + 1) ask) (ev.asked_once_more site) site refl r tt
 
-  delivers : (k : ℕ) → AtMessage w (world.message_of w k) → R (ev.delivers w (world.message_of w k)).world
+  delivers : (k : ℕ) → e ≡ events.Deliver k → AtMessage w (world.message_of w k) → R (ev.delivers w (world.message_of w k)).world
   unfolding ev.delivers ev.delivers_to w
-  delivers k = go (world.message_of w k) refl
+  delivers k is = go (world.message_of w k) refl
     where
-      to : (m : Message) (n : NodeId) → Has m (messages t) → AtReceiver w m n → R (ev.delivers_to w m n).world
-      to m (nodes.Client c) h f = at_client c (inputs.Control m) h
-      to m (nodes.Server s) h f = at_server s (serving.Control m) h (λ node q. subst (AtServer w m s) q f)
+      to : (m : Message) (n : NodeId) → Has m (messages t) → B (serving.Control m) → AtReceiver w m n → R (ev.delivers_to w m n).world
+      to m (nodes.Client c) h b f = at_client c (inputs.Control m) h
+      to m (nodes.Server s) h b f = at_server s (serving.Control m) b (λ node q. subst (AtServer w m s) q f)
 
       go : (o : Option SentMessage) → world.message_of w k ≡ o → AtMessage w o → R (ev.delivers w o).world
       go None q f = alike w refl refl refl
-      go (Some m) q f = to m.message (world.receiver_of m) (has_map_in message_in t.net.messages m (numbered_has t.net.messages k m q)) f
+      go (Some m) q f = to m.message (world.receiver_of m) (has_map_in message_in t.net.messages m (numbered_has t.net.messages k m q)) (delivers_one k m is q) f
 
   loses : (k : ℕ) → R (ev.loses_message w k (world.message_of w k))
   unfolding ev.loses_message w
@@ -203,24 +204,41 @@ module _ (t : World) (R : World → Type 0)
       go None q = alike w refl refl refl
       go (Some node) q = started s node q
 
-  happens : (e : Event) → NewOwed w e → R (ev.happens w e).world
+  happens : (x : Event) → e ≡ x → NewOwed w x → R (ev.happens w x).world
   unfolding ev.happens ev.ticks ev.crashes ev.starts ev.advances ev.effects ev.marks w
-  happens (events.Tick (nodes.Client c)) f = at_client c inputs.Tick tt
-  happens (events.Tick (nodes.Server s)) f = at_server s serving.Tick tt (λ node q. tt)
-  happens (events.App c ask) f = asks_happen c ask
-  happens (events.Deliver k) f = delivers k f
-  happens (events.Lose k) f = loses k
-  happens (events.Cut from to) f = alike (ev.happens w (events.Cut from to)).world refl refl refl
-  happens (events.Heal from to) f = alike (ev.happens w (events.Heal from to)).world refl refl refl
-  happens (events.Advance steps) f = alike (ev.happens w (events.Advance steps)).world refl refl refl
-  happens (events.Effect k) f = alike (ev.happens w (events.Effect k)).world refl refl refl
-  happens (events.Report k ok) f = reports k ok
-  happens (events.Crash (nodes.Client c)) f = crashes_client c
-  happens (events.Crash (nodes.Server s)) f = crashes_server s
-  happens (events.Start (nodes.Client c)) f = starts_client c
-  happens (events.Start (nodes.Server s)) f = starts_server s
+  happens (events.Tick (nodes.Client c)) is f = at_client c inputs.Tick tt
+  happens (events.Tick (nodes.Server s)) is f = at_server s serving.Tick (ticks_one s is) (λ node q. tt)
+  happens (events.App c ask) is f = asks_happen c ask
+  happens (events.Deliver k) is f = delivers k is f
+  happens (events.Lose k) is f = loses k
+  happens (events.Cut from to) is f = alike (ev.happens w (events.Cut from to)).world refl refl refl
+  happens (events.Heal from to) is f = alike (ev.happens w (events.Heal from to)).world refl refl refl
+  happens (events.Advance steps) is f = alike (ev.happens w (events.Advance steps)).world refl refl refl
+  happens (events.Effect k) is f = alike (ev.happens w (events.Effect k)).world refl refl refl
+  happens (events.Report k ok) is f = reports k ok
+  happens (events.Crash (nodes.Client c)) is f = crashes_client c
+  happens (events.Crash (nodes.Server s)) is f = crashes_server s
+  happens (events.Start (nodes.Client c)) is f = starts_client c
+  happens (events.Start (nodes.Server s)) is f = starts_server s
 
   -- an event that happens
-  pub event_leaves : (e : Event) (sc : WorldTurn) → NewOwed (ev.counted t) e → world_step t e ≡ Ok sc → R sc.world
+  pub event_brings : (sc : WorldTurn) → NewOwed (ev.counted t) e → world_step t e ≡ Ok sc → R sc.world
   unfolding w
-  event_leaves e sc f h = let z = step_happens t e sc h in subst (λ (x : WorldTurn). R x.world) (sym z.1) (happens e f)
+  event_brings sc f h = let z = step_happens t e sc h in subst (λ (x : WorldTurn). R x.world) (sym z.1) (happens e refl f)
+
+-- An event, where a message that a server takes was sent.
+module _ (t : World) (R : World → Type 0)
+    (alike : (v : World) → v.clients ≡ t.clients → v.servers ≡ t.servers → messages v ≡ messages t → R v)
+    (client_step : (v : World) → v.clients ≡ t.clients → v.servers ≡ t.servers → (c : ClientId) (i : ClientInput) (site old : ClientSite) → site.node ≡ old.node → site.node.running ≡ true → site_of t c ≡ Some old → Comes t i →
+    (last : World) → Leaves (messages t) (ev.with_site c (SiteAfter v c i site) v) last (ClientTook v c i site).out → R last)
+    (server_step : (s : ServerId) (i : ServerInput) (node : ServerNode) → node_of t s ≡ Some node → node.running ≡ true → Brings t i →
+    InputNew (server.thefts (server.turn node.state []) (clock_of (ev.counted t) (nodes.Server s))) (clock_of (ev.counted t) (nodes.Server s)) i →
+    Leaves (messages t) (ev.with_node s (NodeAfter t s i node) (ev.counted t)) (ServerLeft t s i node).world (ServerTook t s i node).out → R (ServerLeft t s i node).world)
+    (stopped : (c : ClientId) (site : ClientSite) → site_of t c ≡ Some site → R (ev.crashes_client (ev.counted t) c (Some site)).world)
+    (begun : (c : ClientId) (site : ClientSite) → site_of t c ≡ Some site → R (ev.starts_client (ev.counted t) c (Some site)))
+    (crashed : (s : ServerId) (node : ServerNode) → node_of t s ≡ Some node → R (ev.crashes_server (ev.counted t) s (Some node)))
+    (started : (s : ServerId) (node : ServerNode) → node_of t s ≡ Some node → R (ev.starts_server (ev.counted t) s (Some node))) where
+  -- an event that happens
+  pub event_leaves : (e : Event) (sc : WorldTurn) → NewOwed (ev.counted t) e → world_step t e ≡ Ok sc → R sc.world
+  event_leaves e sc =
+      event_brings t e (Brings t) (λ s q. tt) (λ k m q r. has_map_in message_in t.net.messages m (numbered_has t.net.messages k m r)) R alike client_step server_step stopped begun crashed started sc

@@ -152,10 +152,28 @@ abbrev pub Counts : Option (ℕ × Requests) → Type 0
 Counts None = Unit {0}
 Counts (Some v) = (1 ≤ v.1.next) × Given v.1.next v.1.asked
 
--- what was sent to a server is of no later life, and its numbers are the session's
+-- two messages to a server under one number, in one life and one epoch, have one body
+abbrev pub OneBody : (Message → Type 0) → ClientId → ServerId → Type 0
+OneBody S c s =
+    (m p : Message) → S m → S p → Between c s m → Between c s p → m.header.life ≡ p.header.life → m.header.epoch ≡ p.header.epoch →
+    m.header.number ≡ p.header.number → 1 ≤ m.header.number → m.body ≡ p.body
+
+-- the outstanding request was sent
+abbrev pub IsSent : (Message → Type 0) → ClientId → ServerId → ℕ → ℕ → Option Request → Type 0
+IsSent S c s life epoch None = Unit {0}
+IsSent S c s life epoch (Some q) = (m : Message) × S m × Keyed c s life epoch q.number m
+
+-- in a session
+abbrev pub SentIn : (Message → Type 0) → ClientId → ServerId → ℕ → Option (ℕ × Requests) → Type 0
+SentIn S c s life None = Unit {0}
+SentIn S c s life (Some v) = IsSent S c s life v.0 v.1.asked
+
+-- what was sent to a server is of no later life, its numbers are the session's, and each has one body; the outstanding request is among it
 pub record Numbers (S : Message → Type 0) (c : ClientId) (s : ServerId) (life : ℕ) (v : Option (ℕ × Requests)) : Type 0 where
   pub lives : (m : Message) → S m → Between c s m → m.header.life ≤ life
   pub placed : (m : Message) → S m → Between c s m → Placed life v m
+  pub one : OneBody S c s
+  pub sent : SentIn S c s life v
   pub counts : Counts v
 
 -- a remove that means a directory names no grant
@@ -206,6 +224,10 @@ Waits E s life (Some v) o = WaitsAt E s life v.0 v.1.asked o
 abbrev pub AllWait : (ServerId → ℕ → ℕ → ℕ → ℕ → Type 0) → ServerId → ℕ → Option (ℕ × Requests) → List Operation → Type 0
 AllWait E s life v ops = (o : Operation) → Has o ops → is_asked s o ≡ true → Waits E s life v o
 
+-- one operation at most waits for a reply of a server
+abbrev pub OneWaits : ServerId → List Operation → Type 0
+OneWaits s ops = (o p : Operation) → Has o ops → Has p ops → is_asked s o ≡ true → is_asked s p ≡ true → o.op ≡ p.op
+
 -- what a client was asked in these steps
 abbrev pub asks_of : List Step → ClientId → List Ask
 asks_of past c = filter_map (ask_in c) (map event_of past)
@@ -214,21 +236,26 @@ asks_of past c = filter_map (ask_in c) (map event_of past)
 pub record AssociationOk (past : List Step) (ms : List Message) (c : ClientId) (ops : List Operation) (a : Association) : Type 0 where
   pub numbers : Numbers (λ m. Has m ms) c a.server a.life.0 (view a.session)
   pub waits : AllWait (Early past c) a.server a.life.0 (view a.session) ops
+  pub alone : OneWaits a.server ops
 
 -- what stands of a client
 pub record ClientOk (past : List Step) (ms : List Message) (c : ClientId) (site : ClientSite) : Type 0 where
   pub count : length (asks_of past c) ≡ site.asks
   pub asked : (o : Operation) → Has o site.node.state.operations → numbered (asks_of past c) o.op ≡ Some o.ask
   pub lives : (a : Association) → Has a site.node.state.associations → (m : Message) → Has m ms → Between c a.server m → m.header.life ≤ a.life.0
+  pub one : (a : Association) → Has a site.node.state.associations → OneBody (λ m. Has m ms) c a.server
   pub all : site.node.running ≡ true → (a : Association) → Has a site.node.state.associations → AssociationOk past ms c site.node.state.operations a
 
 -- The servers.
 
+-- a fact of the reply that is kept, where it is one of these, and of its number
+abbrev pub KeptBy : (Body → Bool) → (ℕ → Body → Type 0) → SessionState → Type 0
+KeptBy Q A (states.Live last (Some body)) = Q body ≡ true → A last body
+KeptBy Q A state = Unit {0}
+
 -- a kept report is of a request that was sent, and what it asks was done
 abbrev pub KeptState : (ℕ → Body → Type 0) → SessionState → Type 0
-KeptState A (states.Live last (Some bodies.Ack)) = A last bodies.Ack
-KeptState A (states.Live last (Some (bodies.Named reply))) = A last (bodies.Named reply)
-KeptState A state = Unit {0}
+KeptState A state = KeptBy is_report A state
 
 -- what stands of a server
 pub record ServerOk (past : List Step) (ms : List Message) (s : ServerId) (node : ServerNode) : Type 0 where
