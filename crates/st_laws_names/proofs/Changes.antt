@@ -99,11 +99,11 @@ one_other t v s old new at q how y n there = go (set_cases t.servers s.0 y.0 old
     go (inl z) = subst (CameFrom t y) (sym z.1) (subst (λ k. CameFrom t (record { 0 = k }) new) (sym z.0) own)
     go (inr z) = record { old = n; was = z.1; how = inl refl }
 
-crashed_names : (node : ServerNode) → (server.crash_node node).state.stable.names ≡ node.state.stable.names
+pub crashed_names : (node : ServerNode) → (server.crash_node node).state.stable.names ≡ node.state.stable.names
 unfolding server.crash
 crashed_names node = refl
 
-started_names : (node : ServerNode) (now : Stamp) → (server.start_node node now).state.stable.names ≡ node.state.stable.names
+pub started_names : (node : ServerNode) (now : Stamp) → (server.start_node node now).state.stable.names ≡ node.state.stable.names
 unfolding server.start server.begin_epoch
 started_names node now = refl
 
@@ -187,7 +187,7 @@ waits_same v c op s u life epoch number life2 epoch2 number2 k w =
     }
 
 -- a message that a server serves next is not past
-not_past : (c : ClientId) (n : ServerNode) (m : Message) (served : Rattle.st_laws_cuts.specs.Served.IsServedBy n.state m) → n.running ≡ true → m.header.from ≡ c.0 → IsPast c n m → ⊥
+pub not_past : (c : ClientId) (n : ServerNode) (m : Message) (served : Rattle.st_laws_cuts.specs.Served.IsServedBy n.state m) → n.running ≡ true → m.header.from ≡ c.0 → IsPast c n m → ⊥
 not_past c n m z run from p = by p
   where
     same : client m.header.from ≡ c
@@ -202,7 +202,7 @@ not_past c n m z run from p = by p
     by (inr q) = go (subst (λ o. IsBehind o m.header.life m.header.number) z.is (subst (λ d. IsBehind (sessions.session_of n.state.sessions d) m.header.life m.header.number) (sym same) (q.1 run)))
 
 -- past under one key is past under the same
-past_same : (c : ClientId) (n : ServerNode) (m p : Message) → m.header.life ≡ p.header.life → m.header.epoch ≡ p.header.epoch → m.header.number ≡ p.header.number → IsPast c n m → IsPast c n p
+pub past_same : (c : ClientId) (n : ServerNode) (m p : Message) → m.header.life ≡ p.header.life → m.header.epoch ≡ p.header.epoch → m.header.number ≡ p.header.number → IsPast c n m → IsPast c n p
 past_same c n m p a b d (inl l) = inl (omega (arith, l, b))
 past_same c n m p a b d (inr q) = inr (sym b ∙ q.0, λ run. subst (λ k. IsBehind (sessions.session_of n.state.sessions c) k p.header.number) a (subst (λ k. IsBehind (sessions.session_of n.state.sessions c) m.header.life k) d (q.1 run)))
 
@@ -430,13 +430,13 @@ pub record ChangesHold (k : Config) (count : ℕ) (past : List Step) (t : Traced
   pub rows : RowsHold past t.world
   pub pairs : PairsHold past t.world
 
-one : (k : Config) (count : ℕ) (past : List Step) (t : Traced) (e : Event) (sc : WorldTurn) → is_event count e ≡ true → ChangesHold k count past t → world_step t.world e ≡ Ok sc → AsksChangeOnce past (step t e sc) × ChangesHold k count (past ++ step t e sc ∷ []) (traced_after e t sc)
+pub one : (k : Config) (count : ℕ) (past : List Step) (t : Traced) (e : Event) (sc : WorldTurn) → is_event count e ≡ true → ChangesHold k count past t → world_step t.world e ≡ Ok sc → AsksChangeOnce past (step t e sc) × ChangesHold k count (past ++ step t e sc ∷ []) (traced_after e t sc)
 one k count past t e sc r h taken = (asks_once k count past t e sc r h.names_ n taken h.rows h.pairs, record { names_ = n; rows = rows_on k count past t e sc r h.names_.all n.all taken h.rows; pairs = record { pairs = pairs_on k count past t e sc r h.names_ n taken h.rows h.pairs; pasts = pasts_on k count past t e sc r h.names_ n taken h.rows h.pairs } })
   where
     n : NamesHold k count (past ++ step t e sc ∷ []) (traced_after e t sc)
     n = (once.one k count past t e sc r h.names_ taken).1
 
-changes_begin : (k : base.Config) (clients servers disks blocks form : ℕ) → IsHead k clients servers disks blocks form → ChangesHold (terms_of k) (clients + servers) [] (traced (fresh_world k clients servers disks blocks form))
+pub changes_begin : (k : base.Config) (clients servers disks blocks form : ℕ) → IsHead k clients servers disks blocks form → ChangesHold (terms_of k) (clients + servers) [] (traced (fresh_world k clients servers disks blocks form))
 changes_begin k clients servers disks blocks form head =
     record {
       names_ = names_begin k clients servers disks blocks form head;

@@ -6,3 +6,6 @@ pub mod Serving
 pub mod Waiting
 pub mod Rows
 pub mod Changes
+pub mod Keys
+pub mod Replies
+pub mod Facts

@@ -57,7 +57,7 @@ stored_reached t c number b x e f =
     go false q = cc
 
 -- The rule of a request for a name replies, and leaves the sessions.
-record Replies (t : Turn) (a : Replied) : Type 0 where
+pub record Replies (t : Turn) (a : Replied) : Type 0 where
   pub body : Body
   pub is : a.reply ≡ Some body
   pub kept : a.turn.state.sessions ≡ t.state.sessions
@@ -99,14 +99,14 @@ unfolding sv.remove_found sv.remove_ino sv.remove_file sv.remove_dir
 y_remove t h dir x g (Err r) = y_refused t r
 y_remove t h dir x g (Ok ino) = y_if t (sv.is_file t ino) _ _ (y_if t (sv.holds t h ino g modes.X) _ _ (y_removed t _) (y_not_holder t ino g)) (y_if t (g.0 == 0) _ _ (y_changed t _) (y_refused t _))
 
-y_name : (t : Turn) (now : Stamp) (h : Header) (op : NameOp) → Replies t (rule t now h (bd.Name op))
+pub name_replies : (t : Turn) (now : Stamp) (h : Header) (op : NameOp) → Replies t (rule t now h (bd.Name op))
 unfolding rule sv.name sv.remove
-y_name t now h (Lookup dir x) = y_found t _
-y_name t now h (Create dir x) = y_changed t _
-y_name t now h (Mkdir dir x) = y_changed t _
-y_name t now h (Remove dir x g) = y_remove t h dir x g _
-y_name t now h (Rename dir x dir2 x2) = y_changed t _
-y_name t now h (ListFrom dir after) = y_listed t _
+name_replies t now h (Lookup dir x) = y_found t _
+name_replies t now h (Create dir x) = y_changed t _
+name_replies t now h (Mkdir dir x) = y_changed t _
+name_replies t now h (Remove dir x g) = y_remove t h dir x g _
+name_replies t now h (Rename dir x dir2 x2) = y_changed t _
+name_replies t now h (ListFrom dir after) = y_listed t _
 
 -- The request is served, and its session reaches its number; or the names stay.
 module _ (t : Turn) (h : Header) (op : NameOp) where
@@ -118,7 +118,7 @@ module _ (t : Turn) (h : Header) (op : NameOp) where
 
   d_serve : (now : Stamp) → sv.take t h ≡ takes.Fresh → D (serve h (rule t now h (bd.Name op)))
   unfolding serve keep keep_and_reply reply
-  d_serve now q = inr (go (rule t now h (bd.Name op)).reply (y_name t now h op).is)
+  d_serve now q = inr (go (rule t now h (bd.Name op)).reply (name_replies t now h op).is)
     where
       a : Replied
       a = rule t now h (bd.Name op)
@@ -127,9 +127,9 @@ module _ (t : Turn) (h : Header) (op : NameOp) where
       z = found_for t.state.sessions (sender h) (life_in h) (sv.epoch_in h) h.number takes.Fresh (FreshState h.number) q (λ r. cc r) (λ r. cc r) (λ r. cc r) (λ x r. fresh_state h.number x r)
 
       found : sessions.session_of (rule t now h (bd.Name op)).turn.state.sessions (sender h) ≡ Some z.session
-      found = ap (λ (u : sessions.Sessions). sessions.session_of u (sender h)) (y_name t now h op).kept ∙ z.is
+      found = ap (λ (u : sessions.Sessions). sessions.session_of u (sender h)) (name_replies t now h op).kept ∙ z.is
 
-      go : (o : Option Body) → o ≡ Some (y_name t now h op).body → Behind (keep h (rule t now h (bd.Name op)).turn o)
+      go : (o : Option Body) → o ≡ Some (name_replies t now h op).body → Behind (keep h (rule t now h (bd.Name op)).turn o)
       go None e = cc e
       go (Some b) e = subst (λ l. IsBehind (sessions.session_of (sessions.store (rule t now h (bd.Name op)).turn.state.sessions (sender h) h.number b) (sender h)) l h.number) z.of_life (stored_reached (rule t now h (bd.Name op)).turn.state.sessions (sender h) h.number b z.session found z.state)
 

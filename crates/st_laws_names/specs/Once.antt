@@ -40,3 +40,9 @@ abbrev pub OperationsAskOnce : Promise
 OperationsAskOnce past x =
     (y : Step) → Has y (past ++ x ∷ []) → (c : ClientId) (s t : ServerId) (life epoch number life2 epoch2 number2 op : ℕ) →
     WaitsUnder y.after.world c s life epoch number op → WaitsUnder x.after.world c t life2 epoch2 number2 op → SameKey s t life epoch number life2 epoch2 number2
+
+-- Keys have one operation: of two operations that waited under one key, behind these events, both are one.
+abbrev pub KeysHaveOneOperation : Promise
+KeysHaveOneOperation past x =
+    (y z : Step) → Has y (past ++ x ∷ []) → Has z (past ++ x ∷ []) → (c : ClientId) (s : ServerId) (life epoch number op n : ℕ) →
+    WaitsUnder y.after.world c s life epoch number op → WaitsUnder z.after.world c s life epoch number n → op ≡ n

@@ -3,7 +3,8 @@
 
 ghost use Rattle.st_laws_leases.specs.Sides.Law.{InEveryRun};
 ghost use Rattle.st_laws_names.specs.Changes.{AsksChangeOnce};
-ghost use Rattle.st_laws_names.specs.Once.{OperationsAskOnce};
+ghost use Rattle.st_laws_names.specs.Keys.{RepliesAreOfTheirEvents};
+ghost use Rattle.st_laws_names.specs.Once.{KeysHaveOneOperation, OperationsAskOnce};
 
 /// In every run operations ask once: where a client waits for the reply to the request of an operation, that request never had another key, which is
 /// a server, a life, an epoch and a number.
@@ -15,4 +16,15 @@ pub fn operations_ask_once()
 /// settled, whose operation waited under the key of the request by which they changed; and no ask did so at two events.
 pub fn asks_change_once()
     ensures { InEveryRun AsksChangeOnce }
+{}
+
+/// In every run keys have one operation: operations of a client that waited for the replies to requests of one key are one.
+pub fn keys_have_one_operation()
+    ensures { InEveryRun KeysHaveOneOperation }
+{}
+
+/// In every run replies are of their events: a reply of a server that tells an operation its end was made in the one event in which the request of
+/// its key was delivered and served, unless that request is a reassertion.
+pub fn replies_are_of_their_events()
+    ensures { InEveryRun RepliesAreOfTheirEvents }
 {}
