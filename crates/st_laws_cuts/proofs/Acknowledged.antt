@@ -7,6 +7,7 @@ use Rattle.st_base.specs.declared.ids.ClientId.{ClientId}
 use Rattle.st_base.specs.declared.ids.FileId.{FileId}
 use Rattle.st_base.specs.declared.ids.GrantNo.{GrantNo}
 use Rattle.st_base.specs.declared.ids.Life.{Life}
+use Rattle.st_base.specs.declared.ids.NodeId.TheVariants as nodes
 use Rattle.st_base.specs.declared.ids.PageNo.{PageNo}
 use Rattle.st_base.specs.declared.ids.ServerId.{ServerId}
 use Rattle.st_base.specs.declared.ids.Stamp.{Stamp}
@@ -45,7 +46,7 @@ use Rattle.st_rules.specs.Safety.{Step, is_event, step}
 use Rattle.st_rules.specs.Server as sv
 use Rattle.st_rules.specs.Server.{ServerState, Turn, Replied, turn, sender, reply, say, tell, steal_at, steal_from, steal, steal_each, thefts, suspect_client, refuse_epoch, rule, keep_and_reply, keep, serve, request_by, request, of_epoch, by_body, refuse_suspect, by_suspicion, receive_from, receive, take_input, suspect_unless, suspect_each, suspecting, suspecting_on, tell_granted, grant_by, grant_waiting, granting, tell_demanded, demand_by, demanding, server_step}
 use Rattle.st_rules.specs.Sessions as sessions
-use Rattle.st_rules.specs.World.{fresh_world}
+use Rattle.st_rules.specs.World.{clock_of, fresh_world}
 use Rattle.st_protocol.specs.Assoc.{Config}
 use Rattle.st_lemmas.specs.Lists.{Has}
 use Rattle.st_lemmas.proofs.Once.{none_any}
@@ -381,12 +382,12 @@ there (o ∷ os) e = go o refl (is_cut_line o) refl e (there os)
     go x q false r e k = let z = k e in (z.0, z.1, z.2, inr z.3)
 
 -- a step of a server that logs a cut
-acknowledged : (w : Rattle.st_rules.specs.World.World) (sc : WorldTurn) → ServedStep w sc → (index : ℕ) (f : FileId) (p : PageNo) → Has (seen.CutAt index f p) sc.seen → (list_any is_done_line sc.seen && not (list_any is_refusal_line sc.seen)) ≡ true
+acknowledged : (w : Rattle.st_rules.specs.World.World) (e : Event) (sc : WorldTurn) (index : ℕ) (f : FileId) (p : PageNo) → ServedStep w e sc f p → Has (seen.CutAt index f p) sc.seen → (list_any is_done_line sc.seen && not (list_any is_refusal_line sc.seen)) ≡ true
 unfolding Noted Said
-acknowledged w sc z index f p h = go (stepped z.state z.now z.input)
+acknowledged w e sc index f p z h = go (stepped z.node.state (clock_of w (nodes.Server z.who)) z.input)
   where
     here : WorldTurn
-    here = ev.server_says_all z.who (server_step z.state z.now z.input).out z.start
+    here = ev.server_says_all z.who (server_step z.node.state (clock_of w (nodes.Server z.who)) z.input).out z.start
 
     lined : Has (seen.CutAt index f p) here.seen
     lined = subst (λ (x : WorldTurn). Has (seen.CutAt index f p) x.seen) z.is h
@@ -394,11 +395,11 @@ acknowledged w sc z index f p h = go (stepped z.state z.now z.input)
     back : (list_any is_done_line here.seen && not (list_any is_refusal_line here.seen)) ≡ true → (list_any is_done_line sc.seen && not (list_any is_refusal_line sc.seen)) ≡ true
     back e = subst (λ (x : WorldTurn). (list_any is_done_line x.seen && not (list_any is_refusal_line x.seen)) ≡ true) (sym z.is) e
 
-    go : Fine (server_step z.state z.now z.input) → (list_any is_done_line sc.seen && not (list_any is_refusal_line sc.seen)) ≡ true
-    go (inl n) = absurd (server_all Never z.who (server_step z.state z.now z.input).out z.start n (subst (λ os. (i : ℕ) (g : FileId) (q : PageNo) → Has (seen.CutAt i g q) os → ⊥) (sym z.empty) (none Never)) index f p lined)
+    go : Fine (server_step z.node.state (clock_of w (nodes.Server z.who)) z.input) → (list_any is_done_line sc.seen && not (list_any is_refusal_line sc.seen)) ≡ true
+    go (inl n) = absurd (server_all Never z.who (server_step z.node.state (clock_of w (nodes.Server z.who)) z.input).out z.start n (subst (λ os. (i : ℕ) (g : FileId) (q : PageNo) → Has (seen.CutAt i g q) os → ⊥) (sym z.empty) (none Never)) index f p lined)
     go (inr g) =
-        back (and_both _ _ (says z.who (server_step z.state z.now z.input).out z.start g.1.message g.1.among g.1.done)
-        (ap not (none_any is_refusal_line here.seen (line_all z.who (server_step z.state z.now z.input).out z.start g.0 (subst Lines (sym z.empty) (λ o i. absurd i))))))
+        back (and_both _ _ (says z.who (server_step z.node.state (clock_of w (nodes.Server z.who)) z.input).out z.start g.1.message g.1.among g.1.done)
+        (ap not (none_any is_refusal_line here.seen (line_all z.who (server_step z.node.state (clock_of w (nodes.Server z.who)) z.input).out z.start g.0 (subst Lines (sym z.empty) (λ o i. absurd i))))))
 
 -- Every event, and whole runs.
 one : (k : Config) (count : ℕ) (past : List Step) (t : Traced) (e : Event) (sc : WorldTurn) → is_event count e ≡ true → Hold k count past t → world_step t.world e ≡ Ok sc → CutsAreAcknowledged past (step t e sc) × Hold k count (past ++ step t e sc ∷ []) (traced_after e t sc)
@@ -406,7 +407,7 @@ one k count past t e sc r h taken = (go (list_any is_cut_line sc.seen) refl, (sa
   where
     go : (b : Bool) → list_any is_cut_line sc.seen ≡ b → (not b || (list_any is_done_line sc.seen && not (list_any is_refusal_line sc.seen))) ≡ true
     go false q = refl
-    go true q = let z = there sc.seen q in acknowledged (ev.counted t.world) sc (cuts_served t.world e sc (λ s n at. (h.cuts.servers s n at).id) taken z.0 z.1 z.2 z.3) z.0 z.1 z.2 z.3
+    go true q = let z = there sc.seen q in acknowledged (ev.counted t.world) e sc z.0 z.1 z.2 (cuts_served t.world e sc (λ s n at. (h.cuts.servers s n at).id) taken z.0 z.1 z.2 z.3) z.3
 
 pub law : InEveryRun CutsAreAcknowledged
 law k clients servers disks blocks form es head events =

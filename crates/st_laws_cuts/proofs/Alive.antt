@@ -109,7 +109,7 @@ module _ (k : Config) (count : ℕ) (past : List Step) (t : Traced) (h : Hold k 
     remove_to : (cutting : Option ℕ) (n : NameAsk) (op : NameOp) → RemoveNamed G cutting (bodies.Name op) → MeansName n cutting op → MeansGrant G n op
     remove_to cutting n op r e = record { g = e.g; is = e.is; none = e.none; of = of_grant cutting n e.g (subst (λ z. RemoveNamed G cutting (bodies.Name z)) e.is r) e.cut }
 
-    means_to : (ask : Ask) (b : Body) → server_of ask ≡ a.server → RemoveNamed G x.cutting b → Means ask x.cutting b → MeansTo G a.server ask b
+    pub means_to : (ask : Ask) (b : Body) → server_of ask ≡ a.server → RemoveNamed G x.cutting b → Means ask x.cutting b → MeansTo G a.server ask b
     means_to (asks.Cut f p) (bodies.Cut ino g q) s r e = (s, e.0, e.1)
     means_to (asks.Name sv n) (bodies.Name op) s r e = (s, remove_to x.cutting n op r e)
     means_to ask b s r e = absurd e

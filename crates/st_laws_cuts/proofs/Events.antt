@@ -83,9 +83,10 @@ begun site =
     one : (b : Association) → (a : Association) × Has a site.node.state.associations × (b ≡ cl.started_association a) → (a : Association) × Has a site.node.state.associations × (b.server ≡ a.server) × (b.session ≡ None)
     one b z = (z.0, z.1, ap (λ (y : Association). y.server) z.2, ap (λ (y : Association). y.session) z.2)
 
--- what a server sends is its own
-its_own : (s : ServerId) (node : ServerNode) (i : ServerInput) (t : World) → node.state.id ≡ s → (m : Message) → Has (outputs.Send m) (server.server_step node.state (clock_of (ev.counted t) (nodes.Server s)) i).out → m.header.from ≡ server_node s
-its_own s node i t e m h = ((served is_report report_kind s node.state.stable.epoch i node.state.stable.names Old node.state now begins).1.0.acks.sent m h).0
+-- what a server sends is its own, and a step leaves its epoch
+its_step : (s : ServerId) (node : ServerNode) (i : ServerInput) (t : World) → node.state.id ≡ s →
+    ((m : Message) → Has (outputs.Send m) (server.server_step node.state (clock_of (ev.counted t) (nodes.Server s)) i).out → m.header.from ≡ server_node s) × ((server.server_step node.state (clock_of (ev.counted t) (nodes.Server s)) i).state.stable.epoch ≡ node.state.stable.epoch)
+its_step s node i t e = let z = (served is_report report_kind s node.state.stable.epoch i node.state.stable.names Old node.state now begins).1.0.acks in (λ m h. (z.sent m h).0, z.epoch)
   where
     now : Stamp
     now = clock_of (ev.counted t) (nodes.Server s)
@@ -100,6 +101,12 @@ its_own s node i t e m h = ((served is_report report_kind s node.state.stable.ep
 
     begins : O is_report report_kind s node.state.stable.epoch (Before is_report report_kind s node.state.stable.epoch i node.state.stable.names Old node.state now) (before_more is_report report_kind s node.state.stable.epoch i node.state.stable.names Old node.state now) node.state.stable.names (server.turn node.state [])
     begins = record { acks = record { id = e; epoch = refl; kept = λ c x h. kept c x.life.0 x.state; sent = λ y h. absurd h }; names = refl }
+
+its_own : (s : ServerId) (node : ServerNode) (i : ServerInput) (t : World) → node.state.id ≡ s → (m : Message) → Has (outputs.Send m) (server.server_step node.state (clock_of (ev.counted t) (nodes.Server s)) i).out → m.header.from ≡ server_node s
+its_own s node i t e = (its_step s node i t e).0
+
+pub same_epoch : (s : ServerId) (node : ServerNode) (i : ServerInput) (t : World) → node.state.id ≡ s → (server.server_step node.state (clock_of (ev.counted t) (nodes.Server s)) i).state.stable.epoch ≡ node.state.stable.epoch
+same_epoch s node i t e = (its_step s node i t e).1
 
 module _ (t : World) (ids : (s : ServerId) (node : ServerNode) → node_of t s ≡ Some node → node.state.id ≡ s) (R : WorldTurn → Type 0)
     (quiet : (sc : WorldTurn) → sc.world.clients ≡ t.clients → OldOrServers t sc.world → NoAnswers sc.seen → R sc)

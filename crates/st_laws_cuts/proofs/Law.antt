@@ -87,7 +87,7 @@ module _ (k : Config) (count : ℕ) (past : List Step) (t : Traced) (h : Hold k 
       go b a = absurd a
 
   -- what the request asks is what was cut
-  asks_it : (a : Ask) (b : Body) → MeansTo (gifts k count t.world h.all (client z.message.header.from) f.server) f.server a b → AsksCut b f.ino p z.by.row.g → asks_cut f p a ≡ true
+  pub asks_it : (a : Ask) (b : Body) → MeansTo (gifts k count t.world h.all (client z.message.header.from) f.server) f.server a b → AsksCut b f.ino p z.by.row.g → asks_cut f p a ≡ true
   asks_it (asks.Cut g q) (bodies.Cut ino n from) e a =
       and_both _ _ (and_both _ _ (eq-eqb _ _ (ap (λ (y : ServerId). y.0) e.0)) (eq-eqb _ _ (e.1 ∙ a.0))) (eq-eqb _ _ (ap (λ (y : PageNo). y.0) (e.2 ∙ a.1)))
   asks_it (asks.Name sv n) (bodies.Name op) e a = name n op e.1 a
@@ -122,7 +122,7 @@ module _ (k : Config) (count : ℕ) (past : List Step) (t : Traced) (h : Hold k 
       by o = some_passes (is_open_cut past (client z.message.header.from) f p) _ (o.op, o.ask) (opened.under k count past t h d f.server served own o.op o.ask o.asked) (and_both _ _ (asks_it o.ask z.message.body o.means z.by.asks) (ap not o.unsettled))
 
   -- the client had the file alone
-  alone : has_alone_at (client z.message.header.from) f.ino (node_of t.world f.server) ≡ true
+  pub alone : has_alone_at (client z.message.header.from) f.ino (node_of t.world f.server) ≡ true
   alone = subst (λ o. has_alone_at (client z.message.header.from) f.ino o ≡ true) (sym z.there) (and_both _ _ z.running (subst (λ o. is_exclusive o ≡ true) (sym z.by.found) (ap (λ x. covers x modes.X) z.by.exclusive)))
 
   pub is_asked : list_any (cuts_by past t.world f p) (all_clients t.world) ≡ true
@@ -134,12 +134,17 @@ pub record AllHold (k : Config) (count : ℕ) (past : List Step) (t : Traced) : 
   pub base : Hold k count past t
   pub owners : OwnersHold past (gifts k count t.world base.all) t.world
 
-pub one : (k : Config) (count : ℕ) (past : List Step) (t : Traced) (e : Event) (sc : WorldTurn) → is_event count e ≡ true → AllHold k count past t → world_step t.world e ≡ Ok sc → CutsAreAsked past (step t e sc) × AllHold k count (past ++ step t e sc ∷ []) (traced_after e t sc)
-one k count past t e sc r h taken = (all_pass (is_cut_asked past t.world) sc.seen asked, record { base = next.0; owners = subst (λ a. OwnersHold (past ++ step t e sc ∷ []) (gifts k count sc.world a) sc.world) (sym next.1) (owners_on k count past t e sc r h.base taken h.owners) })
+-- what stands behind an event; what is known of messages there is what followed from before it
+pub holds_on : (k : Config) (count : ℕ) (past : List Step) (t : Traced) (e : Event) (sc : WorldTurn) (r : is_event count e ≡ true) (h : AllHold k count past t) (taken : world_step t.world e ≡ Ok sc) →
+    (n : AllHold k count (past ++ step t e sc ∷ []) (traced_after e t sc)) × (n.base.all ≡ (followed k count past t e sc r h.base taken).after)
+holds_on k count past t e sc r h taken = (record { base = next.0; owners = subst (λ a. OwnersHold (past ++ step t e sc ∷ []) (gifts k count sc.world a) sc.world) (sym next.1) (owners_on k count past t e sc r h.base taken h.owners) }, next.1)
   where
     next : (n : Hold k count (past ++ step t e sc ∷ []) (traced_after e t sc)) × (n.all ≡ (followed k count past t e sc r h.base taken).after)
     next = same_all k count past t e sc r h.base taken
 
+pub one : (k : Config) (count : ℕ) (past : List Step) (t : Traced) (e : Event) (sc : WorldTurn) → is_event count e ≡ true → AllHold k count past t → world_step t.world e ≡ Ok sc → CutsAreAsked past (step t e sc) × AllHold k count (past ++ step t e sc ∷ []) (traced_after e t sc)
+one k count past t e sc r h taken = (all_pass (is_cut_asked past t.world) sc.seen asked, (holds_on k count past t e sc r h taken).0)
+  where
     asked : (o : Observation) → Has o sc.seen → is_cut_asked past t.world o ≡ true
     asked (seen.CutAt index f p) i = is_asked k count past t h.base h.owners f p (record { node = known.node; there = known.there; running = known.running; message = known.message; among = known.among; by = known.by })
       where

@@ -30,7 +30,7 @@ use Rattle.st_rules.specs.ClientState.{ClientState}
 use Rattle.st_rules.specs.Server as server
 use Rattle.st_rules.specs.Server.{ServerNode}
 use Rattle.st_rules.specs.World as world
-use Rattle.st_rules.specs.World.{World, ClientSite, site_of, node_of, issued_of, clock_of}
+use Rattle.st_rules.specs.World.{World, ClientSite, site_of, node_of, issued_of, clock_of, numbered}
 use Rattle.st_rules.specs.Events as ev
 use Rattle.st_rules.specs.Events.{WorldTurn}
 use Rattle.st_lemmas.specs.Lists.{Has}
@@ -38,7 +38,7 @@ use Rattle.st_lemmas.proofs.Steps.{step_happens}
 use Rattle.st_base.specs.declared.ids.FileId.{FileId}
 use Rattle.st_base.specs.declared.ids.PageNo.{PageNo}
 use Rattle.st_rules.specs.declared.observation.Observation.TheVariants as seen
-use Rattle.st_lemmas.proofs.Numbers.{numbered_has}
+use Rattle.st_lemmas.proofs.Numbers.{numbered_has, numbered_own}
 use Rattle.st_lemmas.proofs.Tables.{has_append, has_map_in}
 use Rattle.st_rules.specs.Server.{server_step}
 use Rattle.st_rules.specs.Events.{world_step}
@@ -145,35 +145,56 @@ module _ (P : FileId → PageNo → Type 0) where
   server_all s [] sc c h = h
   server_all s (o ∷ os) sc c h = server_all s os (ev.server_says sc s o) (λ f p i. c f p (inr i)) (server_one s o sc (λ f p e. c f p (inl e)) h)
 
--- an event that is the step of a server
-pub record ServedStep (w : World) (sc : WorldTurn) : Type 0 where
+-- an event that delivers a message to a server, with this input
+pub record Delivery (w : World) (e : Event) (s : ServerId) (input : ServerInput) : Type 0 where
+  pub index : ℕ
+  pub delivers : e ≡ events.Deliver index
+  pub sent : SentMessage
+  pub is_sent : world.message_of w index ≡ Some sent
+  pub receiver : world.receiver_of sent ≡ nodes.Server s
+  pub comes : input ≡ serving.Control sent.message
+
+-- an event that is the step of a server, in which it notes this cut
+pub record ServedStep (w : World) (e : Event) (sc : WorldTurn) (f : FileId) (p : PageNo) : Type 0 where
   pub who : ServerId
-  pub state : server.ServerState
-  pub now : Stamp
+  pub node : ServerNode
+  pub there : node_of w who ≡ Some node
+  pub running : node.running ≡ true
   pub input : ServerInput
+  pub delivery : Delivery w e who input
   pub start : WorldTurn
   pub empty : start.seen ≡ []
-  pub is : sc ≡ ev.server_says_all who (server_step state now input).out start
+  pub is : sc ≡ ev.server_says_all who (server_step node.state (clock_of w (nodes.Server who)) input).out start
+  pub noted : Has (outputs.Note (notes.CutDone f p)) (server_step node.state (clock_of w (nodes.Server who)) input).out
+  pub left : node_of sc.world who ≡ Some (server.node_turn node (server_step node.state (clock_of w (nodes.Server who)) input)).node
 
 -- each cut that is observed is of a server, in a step that leaves the clients and the clocks
-abbrev CutThere : World → WorldTurn → Type 0
-CutThere w sc = Known (λ f p. CutIn w f p × Unmoved w sc.world × ServedStep w sc) sc.seen
+abbrev CutThere : World → Event → WorldTurn → Type 0
+CutThere w e sc = Known (λ f p. CutIn w f p × Unmoved w sc.world × ServedStep w e sc f p) sc.seen
 
 -- Every event.
 module _ (w : World) where
-  at_server : (s : ServerId) (input : ServerInput) (o : Option ServerNode) → node_of w s ≡ o →
-      ((n : ServerNode) → o ≡ Some n → n.running ≡ true → (f : FileId) (p : PageNo) → Has (outputs.Note (notes.CutDone f p)) (server_step n.state (clock_of w (nodes.Server s)) input).out → CutIn w f p) → CutThere w (ev.at_server w s input o)
+  at_server : (e : Event) (s : ServerId) (input : ServerInput) (o : Option ServerNode) → node_of w s ≡ o →
+      ((n : ServerNode) → o ≡ Some n → n.running ≡ true → (f : FileId) (p : PageNo) → Has (outputs.Note (notes.CutDone f p)) (server_step n.state (clock_of w (nodes.Server s)) input).out → CutIn w f p × Delivery w e s input) → CutThere w e (ev.at_server w s input o)
   unfolding ev.at_server ev.server_takes ev.server_took server.node_step
-  at_server s input None e k = quiet _ w
-  at_server s input (Some node) e k = go node.running refl
+  at_server e s input None q k = quiet _ w
+  at_server e s input (Some node) q k = go node.running refl
     where
       t : server.Turn
       t = server.server_step node.state (clock_of w (nodes.Server s)) input
 
-      go : (x : Bool) → node.running ≡ x → CutThere w (ev.server_took w s (if x then Ok (server.node_turn node t) else Err Crashed))
+      last : WorldTurn
+      last = ev.server_says_all s t.out (ev.quiet (ev.with_node s (server.node_turn node t).node w))
+
+      go : (x : Bool) → node.running ≡ x → CutThere w e (ev.server_took w s (if x then Ok (server.node_turn node t) else Err Crashed))
       go false r = quiet _ w
-      go true r = server_all (λ f p. CutIn w f p × Unmoved w (ev.server_says_all s t.out (ev.quiet (ev.with_node s (server.node_turn node t).node w))).world × ServedStep w (ev.server_says_all s t.out (ev.quiet (ev.with_node s (server.node_turn node t).node w)))) s t.out (ev.quiet (ev.with_node s (server.node_turn node t).node w))
-          (λ f p h. (k node refl r f p h, let y = all_parts s t.out (ev.quiet (ev.with_node s (server.node_turn node t).node w)) in record { clients = y.clients; clocks = y.clocks }, record { who = s; state = node.state; now = clock_of w (nodes.Server s); input = input; start = ev.quiet (ev.with_node s (server.node_turn node t).node w); empty = refl; is = refl })) (none _)
+      go true r = server_all (λ f p. CutIn w f p × Unmoved w last.world × ServedStep w e last f p) s t.out (ev.quiet (ev.with_node s (server.node_turn node t).node w)) one (none _)
+        where
+          one : (f : FileId) (p : PageNo) → Has (outputs.Note (notes.CutDone f p)) t.out → CutIn w f p × Unmoved w last.world × ServedStep w e last f p
+          one f p h =
+              let z = k node refl r f p h in
+              let y = all_parts s t.out (ev.quiet (ev.with_node s (server.node_turn node t).node w)) in
+              (z.0, record { clients = y.clients; clocks = y.clocks }, record { who = s; node = node; there = q; running = r; input = input; delivery = z.1; start = ev.quiet (ev.with_node s (server.node_turn node t).node w); empty = refl; is = refl; noted = h; left = ap (λ z. numbered z s.0) y.servers ∙ numbered_own w.servers s.0 (server.node_turn node t).node node q })
 
   module _ (ids : (s : ServerId) (n : ServerNode) → node_of w s ≡ Some n → n.state.id ≡ s) where
     by_message : (s : ServerId) (m : Message) → Has m (messages w) → (n : ServerNode) → node_of w s ≡ Some n → n.running ≡ true → (f : FileId) (p : PageNo) →
@@ -182,24 +203,25 @@ module _ (w : World) where
         let c = step_cuts n.state (clock_of w (nodes.Server s)) m f p h in
         record { node = n; there = ap (node_of w) (c.server ∙ ids s n at) ∙ at; running = run; message = m; among = among; by = c }
 
-    happens : (e : Event) → CutThere w (ev.happens w e)
+    happens : (e : Event) → CutThere w e (ev.happens w e)
     unfolding ev.happens ev.ticks ev.asks_at ev.delivers ev.delivers_to ev.loses_message ev.advances ev.marks ev.effects ev.reports_of ev.tells ev.tells_client ev.tells_site ev.crashes ev.crashes_client ev.crashes_server ev.starts ev.starts_client ev.starts_server
     happens (events.Tick (nodes.Client c)) = at_client _ w c _ (site_of w c)
-    happens (events.Tick (nodes.Server s)) = at_server s serving.Tick (node_of w s) refl (λ n e run f p h. absurd (tick_cuts n.state (clock_of w (nodes.Server s)) f p h))
+    happens (events.Tick (nodes.Server s)) = at_server (events.Tick (nodes.Server s)) s serving.Tick (node_of w s) refl (λ n e run f p h. absurd (tick_cuts n.state (clock_of w (nodes.Server s)) f p h))
     happens (events.App c ask) = go (site_of w c)
       where
-        go : (x : Option ClientSite) → CutThere w (ev.asks_at w c ask x)
+        go : (x : Option ClientSite) → CutThere w (events.App c ask) (ev.asks_at w c ask x)
         go None = quiet _ w
         go (Some site) = client_takes _ w c _ (ev.asked_once_more site)
     happens (events.Deliver k) = go (world.message_of w k) refl
       where
-        to : (m : Message) → Has m (messages w) → (n : NodeId) → CutThere w (ev.delivers_to w m n)
-        to m h (nodes.Client c) = at_client _ w c _ (site_of w c)
-        to m h (nodes.Server s) = at_server s (serving.Control m) (node_of w s) refl (λ n e. by_message s m h n e)
+        to : (m : SentMessage) → world.message_of w k ≡ Some m → (n : NodeId) → world.receiver_of m ≡ n → CutThere w (events.Deliver k) (ev.delivers_to w m.message n)
+        to m q (nodes.Client c) r = at_client _ w c _ (site_of w c)
+        to m q (nodes.Server s) r =
+            at_server (events.Deliver k) s (serving.Control m.message) (node_of w s) refl (λ n e run f p h. (by_message s m.message (has_map_in message_in w.net.messages m (numbered_has w.net.messages k m q)) n e run f p h, record { index = k; delivers = refl; sent = m; is_sent = q; receiver = r; comes = refl }))
 
-        go : (m : Option SentMessage) → world.message_of w k ≡ m → CutThere w (ev.delivers w m)
+        go : (m : Option SentMessage) → world.message_of w k ≡ m → CutThere w (events.Deliver k) (ev.delivers w m)
         go None q = quiet _ w
-        go (Some m) q = to m.message (has_map_in message_in w.net.messages m (numbered_has w.net.messages k m q)) (world.receiver_of m)
+        go (Some m) q = to m q (world.receiver_of m) refl
     happens (events.Lose k) = quiet _ (ev.loses_message w k (world.message_of w k))
     happens (events.Cut from to) = quiet _ (ev.with_cut from to w)
     happens (events.Heal from to) = quiet _ (ev.without_cut from to w)
@@ -210,20 +232,20 @@ module _ (w : World) where
         v : World
         v = ev.with_disks (ev.disks_after w.disks (disks.done w.disks k ok)) w
 
-        same : (x : IssuedCommand) (site : ClientSite) (b : Bool) → CutThere w (if b then ev.client_takes v x.client (ev.end_told v k ok x) site else ev.quiet v)
+        same : (x : IssuedCommand) (site : ClientSite) (b : Bool) → CutThere w (events.Report k ok) (if b then ev.client_takes v x.client (ev.end_told v k ok x) site else ev.quiet v)
         same x site true = client_takes _ v x.client (ev.end_told v k ok x) site
         same x site false = quiet _ v
 
-        told : (x : IssuedCommand) (s : Option ClientSite) → CutThere w (ev.tells_client v k ok x s)
+        told : (x : IssuedCommand) (s : Option ClientSite) → CutThere w (events.Report k ok) (ev.tells_client v k ok x s)
         told x None = quiet _ v
         told x (Some site) = same x site (ev.is_same_instance x site)
 
-        go : (x : Option IssuedCommand) → CutThere w (ev.tells v k ok x)
+        go : (x : Option IssuedCommand) → CutThere w (events.Report k ok) (ev.tells v k ok x)
         go None = quiet _ v
         go (Some x) = told x (site_of v x.client)
     happens (events.Crash (nodes.Client c)) = go (site_of w c)
       where
-        go : (x : Option ClientSite) → CutThere w (ev.crashes_client w c x)
+        go : (x : Option ClientSite) → CutThere w (events.Crash (nodes.Client c)) (ev.crashes_client w c x)
         go None = quiet _ w
         go (Some site) = marks _ 1 w.log (ev.log_crashed w c)
     happens (events.Crash (nodes.Server s)) = quiet _ (ev.crashes_server w s (node_of w s))
@@ -233,8 +255,8 @@ module _ (w : World) where
 -- Each cut that a step logs is of a server because of a message.
 pub cuts_known : (w : World) (e : Event) (sc : WorldTurn) → ((s : ServerId) (n : ServerNode) → node_of w s ≡ Some n → n.state.id ≡ s) → world_step w e ≡ Ok sc → (index : ℕ) (f : FileId) (p : PageNo) → Has (seen.CutAt index f p) sc.seen → CutIn (ev.counted w) f p × Unmoved (ev.counted w) sc.world
 cuts_known w e sc ids h index f p i =
-    let z = step_happens w e sc h in let y = subst (λ (x : WorldTurn). CutThere (ev.counted w) x) (sym z.1) (happens (ev.counted w) ids e) index f p i in (y.0, y.1)
+    let z = step_happens w e sc h in let y = subst (λ (x : WorldTurn). CutThere (ev.counted w) e x) (sym z.1) (happens (ev.counted w) ids e) index f p i in (y.0, y.1)
 
 -- and it is the step of that server
-pub cuts_served : (w : World) (e : Event) (sc : WorldTurn) → ((s : ServerId) (n : ServerNode) → node_of w s ≡ Some n → n.state.id ≡ s) → world_step w e ≡ Ok sc → (index : ℕ) (f : FileId) (p : PageNo) → Has (seen.CutAt index f p) sc.seen → ServedStep (ev.counted w) sc
-cuts_served w e sc ids h index f p i = let z = step_happens w e sc h in (subst (λ (x : WorldTurn). CutThere (ev.counted w) x) (sym z.1) (happens (ev.counted w) ids e) index f p i).2
+pub cuts_served : (w : World) (e : Event) (sc : WorldTurn) → ((s : ServerId) (n : ServerNode) → node_of w s ≡ Some n → n.state.id ≡ s) → world_step w e ≡ Ok sc → (index : ℕ) (f : FileId) (p : PageNo) → Has (seen.CutAt index f p) sc.seen → ServedStep (ev.counted w) e sc f p
+cuts_served w e sc ids h index f p i = let z = step_happens w e sc h in (subst (λ (x : WorldTurn). CutThere (ev.counted w) e x) (sym z.1) (happens (ev.counted w) ids e) index f p i).2
