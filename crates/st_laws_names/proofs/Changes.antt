@@ -1,5 +1,5 @@
 -- Asks change names once: behind every event, and over whole runs.
-use Rattle.std.proofs.Common.{◌≡◌, ◌≢◌, ◌⊎◌, ℕ, ◌+◌, ◌≤◌, zero, suc, arith, Bool, true, false, not, List, [], ◌∷◌, ◌++◌, Option, Some, None, Ok, refl, sym, ap, ◌∙◌, subst, inl, inr}
+use Rattle.std.proofs.Common.{◌≡◌, ◌≢◌, ◌⊎◌, ℕ, ◌+◌, ◌≤◌, arith, true, not, List, [], ◌∷◌, ◌++◌, Option, Some, None, Ok, refl, sym, ap, ◌∙◌, subst, inl, inr}
 use Rattle.std.specs.List.{list_any}
 use Rattle.st_base.specs.declared.ids.ClientId.{ClientId}
 use Rattle.st_base.specs.declared.ids.ServerId.{ServerId}
@@ -20,7 +20,7 @@ use Rattle.st_rules.specs.Keys.{client}
 use Rattle.st_rules.specs.Safety.{Step, is_event, step}
 use Rattle.st_rules.specs.Server as server
 use Rattle.st_rules.specs.Server.{ServerNode}
-use Rattle.st_rules.specs.World.{World, ClientSite, all_clients, all_servers, clock_of, fresh_world, node_of, numbered, site_of, with_numbered}
+use Rattle.st_rules.specs.World.{World, ClientSite, clock_of, fresh_world, node_of, numbered, site_of, with_numbered}
 use Rattle.st_protocol.specs.Assoc.{Config}
 use Rattle.st_lemmas.specs.Lists.{Has}
 use Rattle.st_lemmas.proofs.Tables.{some_passes}
@@ -35,38 +35,30 @@ use Rattle.st_laws_requests.proofs.Cuts.Names.{names_same, says_it}
 use Rattle.st_laws_requests.specs.Cuts.Cuts.{does}
 use Rattle.st_laws_extents.proofs.CutRequests.Law.{owed}
 use Rattle.st_promises.specs.NameAnswers.{becomes_at, changes_at, leaves, said, same_names, says}
-use Rattle.st_laws_cuts.specs.Served.{IsServedAt, NamesBy}
+use Rattle.st_laws_cuts.specs.Served.{NamesBy}
 use Rattle.st_laws_cuts.proofs.Naming.{step_names}
 use Rattle.st_base.specs.declared.config.Config as base
 use Rattle.st_rules.specs.Safety.{IsHead}
-use Rattle.st_lemmas.proofs.Numbers.{get_there}
-use Rattle.std.specs.Prelude.{length, nat_le}
-use Rattle.std.proofs.lemmas.Bool.{eqb-true, leb-true}
-use Rattle.st_rules.specs.ClientState.{Association}
 use Rattle.st_rules.specs.ClientState as cs
-use Rattle.st_rules.specs.Keys.{server_node}
 use Rattle.st_rules.specs.Sessions as sessions
-use Rattle.st_rules.specs.World as world
-use Rattle.st_lemmas.proofs.Tables.{and_true, has_append, same_or_not}
+use Rattle.st_lemmas.proofs.Tables.{has_append, same_or_not}
 use Rattle.st_lemmas.proofs.Lookups.{some_is}
-use Rattle.st_laws_refine.specs.Client.Law.{Place}
-use Rattle.st_laws_leases.specs.Sides.Stands.{Standing}
-use Rattle.st_laws_leases.proofs.Dates.Known.{has_right}
-use Rattle.st_laws_requests.specs.Replies.Reached.{IsBehind, Reached}
-use Rattle.st_laws_requests.specs.Cuts.Cuts.{AsksFor, Between, asks_of}
+use Rattle.st_laws_requests.specs.Replies.Reached.{IsBehind}
+use Rattle.st_laws_requests.specs.Cuts.Cuts.{AsksFor, asks_of}
 use Rattle.st_laws_extents.specs.CutRequests.EndedLives.{Goes, IsPast}
 use Rattle.st_laws_extents.proofs.CutRequests.ServersGoOn.{event_goes}
-use Rattle.st_promises.specs.CutAsks.{settles_in}
 use Rattle.st_promises.specs.NameAnswers.{changes_in}
 use Rattle.st_laws_cuts.specs.Over.{AllPast}
-use Rattle.st_laws_cuts.proofs.Words.{clash, unsettled_past}
+use Rattle.st_laws_cuts.proofs.Words.{clash}
 use Rattle.st_laws_names.specs.Once.{SameKey, WaitsUnder}
 use Rattle.st_laws_names.specs.Changes.{AskChanges, AsksChangeOnce, ChangedBy, IsBefore}
-use Rattle.st_laws_names.proofs.World.{Asked, NamesHold, OnceHold, Worlds, names_begin, now_key}
+use Rattle.st_laws_names.proofs.World.{Asked, NamesHold, Worlds, names_begin, now_key}
 use Rattle.st_laws_names.proofs.World as once
 use Rattle.st_laws_names.proofs.Serving.{step_serves}
-use Rattle.st_laws_names.proofs.Waiting.{Pending, Row, alive}
-use Rattle.st_laws_names.proofs.Rows.{Known, Over, RowsHold, past_on, rows_on}
+use Rattle.st_laws_extents.specs.CutRequests.Law.{gifts}
+use Rattle.st_laws_names.proofs.Waiting.{Row}
+use Rattle.st_laws_names.proofs.Rows.{Known, RowsHold, past_on, rows_on}
+use Rattle.st_laws_names.proofs.Behind.{Behind, behind, not_past}
 
 -- a server that runs serves a message of its world, by which its names become another one's
 record ByRequest (t : World) (old new : ServerNode) : Type 0 where
@@ -142,20 +134,6 @@ came t e sc owes taken =
     started : (s : ServerId) (node : ServerNode) → node_of t s ≡ Some node → AllCame t (ev.starts_server (ev.counted t) s (Some node))
     started s node at = one_other t (ev.starts_server (ev.counted t) s (Some node)) s node (server.start_node node (clock_of (ev.counted t) (nodes.Server s))) at refl (inl (started_names node (clock_of (ev.counted t) (nodes.Server s))))
 
-numbered_there : {A : Type 0} (xs : List A) (n : ℕ) → 1 ≤ n → n ≤ length xs → (v : A) × (numbered xs n ≡ Some v)
-numbered_there xs zero l h = absurd (omega (arith, l))
-numbered_there xs (suc n) l h = get_there xs n (omega (arith, h))
-
-site_there : (w : World) (c : ClientId) → 1 ≤ c.0 → c.0 ≤ length w.clients → (site : ClientSite) × (site_of w c ≡ Some site)
-site_there w c l h = numbered_there w.clients c.0 l h
-
--- its association with a server
-association_there : (k : Config) (s c : ℕ) (site : ClientSite) (es : List Rattle.st_rules.specs.declared.world.LeaseLife.LeaseLife) (N : List Rattle.st_protocol.specs.Assoc.Msg) → Standing k s c site es N → (a : Association) × Has a site.node.state.associations × (a.server ≡ world.server s)
-association_there k s c site es N z = (z.association, subst (Has z.association) (sym p.is) (has_right p.before (z.association ∷ p.after) z.association (inl refl)), p.here)
-  where
-    p : Place (world.server s) site.node.state.associations z.association
-    p = z.sim.place
-
 -- What stands behind every event.
 pub record PairsHold (past : List Step) (w : World) : Type 0 where
   pub pairs : (c : ClientId) (op : ℕ) (a b : Asked past w c op) → SameKey a.server b.server a.life_ a.epoch_ a.number_ b.life_ b.epoch_ b.number_
@@ -186,28 +164,13 @@ waits_same v c op s u life epoch number life2 epoch2 number2 k w =
       under = w.under ∙ k.number_;
     }
 
--- a message that a server serves next is not past
-pub not_past : (c : ClientId) (n : ServerNode) (m : Message) (served : Rattle.st_laws_cuts.specs.Served.IsServedBy n.state m) → n.running ≡ true → m.header.from ≡ c.0 → IsPast c n m → ⊥
-not_past c n m z run from p = by p
-  where
-    same : client m.header.from ≡ c
-    same = ap (λ k. record { 0 = k }) from
-
-    go : IsBehind (Some z.session) m.header.life m.header.number → ⊥
-    go (inl l) = let y = z.of_life in omega (arith, y, l)
-    go (inr l) = let y = subst (Reached m.header.number) z.state l.1 in let q = z.next in omega (arith, y, q)
-
-    by : IsPast c n m → ⊥
-    by (inl l) = let y = z.of_epoch in omega (arith, y, l)
-    by (inr q) = go (subst (λ o. IsBehind o m.header.life m.header.number) z.is (subst (λ d. IsBehind (sessions.session_of n.state.sessions d) m.header.life m.header.number) (sym same) (q.1 run)))
-
 -- past under one key is past under the same
 pub past_same : (c : ClientId) (n : ServerNode) (m p : Message) → m.header.life ≡ p.header.life → m.header.epoch ≡ p.header.epoch → m.header.number ≡ p.header.number → IsPast c n m → IsPast c n p
 past_same c n m p a b d (inl l) = inl (omega (arith, l, b))
 past_same c n m p a b d (inr q) = inr (sym b ∙ q.0, λ run. subst (λ k. IsBehind (sessions.session_of n.state.sessions c) k p.header.number) a (subst (λ k. IsBehind (sessions.session_of n.state.sessions c) m.header.life k) d (q.1 run)))
 
 module _ (k : Config) (count : ℕ) (past : List Step) (t : Traced) (e : Event) (sc : WorldTurn) (ranges : is_event count e ≡ true) (h : NamesHold k count past t) (n : NamesHold k count (past ++ step t e sc ∷ []) (traced_after e t sc)) (taken : world_step t.world e ≡ Ok sc)
-    (d : RowsHold past t.world) (p : PairsHold past t.world) where
+    (d : RowsHold past (gifts k count t.world h.all.base.all) t.world) (p : PairsHold past t.world) where
   abbrev past2 : List Step
   past2 = past ++ step t e sc ∷ []
 
@@ -281,14 +244,8 @@ module _ (k : Config) (count : ℕ) (past : List Step) (t : Traced) (e : Event) 
     abbrev c : ClientId
     c = client r.message.header.from
 
-    bounds : (1 ≤ r.message.header.from) × (r.message.header.from ≤ 16)
-    bounds = let q = and_true (nat_le 1 r.message.header.from) (nat_le r.message.header.from 16) r.by.served.client in (leb-true 1 r.message.header.from q.0, leb-true r.message.header.from 16 q.1)
-
     id : old.state.id ≡ s
     id = (h.all.base.cuts.servers s old was).id
-
-    found : (site : ClientSite) × (site_of t.world (client r.message.header.from) ≡ Some site)
-    found = site_there t.world (client r.message.header.from) bounds.0 (h.all.owners.senders r.message r.among r.by.served.client)
 
     own : asks_cut_or_name r.message.body ≡ true
     own = subst (λ b. asks_cut_or_name b ≡ true) (sym r.by.body) refl
@@ -306,64 +263,8 @@ module _ (k : Config) (count : ℕ) (past : List Step) (t : Traced) (e : Event) 
         go (inl q) = subst (λ n. IsPast (client r.message.header.from) n r.message) is (inr (q, λ run. r.behind))
         go (inr ne) = subst (λ n. IsPast (client r.message.header.from) n r.message) is (inl (let y = r.by.served.of_epoch in omega (arith, y, up, ne)))
 
-    -- the operation that waited under its key
-    record Behind : Type 0 where
-      pub op : ℕ
-      pub ask : Ask
-      pub asked : numbered (asks_of past (client r.message.header.from)) op ≡ Some ask
-      pub of : cs.server_of ask ≡ s
-      pub means : AsksFor ask r.message.body
-      pub row : Row past t.world (client r.message.header.from) s r.message op
-      pub unsettled : list_any (settles_in (client r.message.header.from) op) past ≡ false
-
-    behind : Behind
-    behind = at found.0 found.1
-      where
-        at : (site : ClientSite) → site_of t.world (client r.message.header.from) ≡ Some site → Behind
-        at site there = by site.node.running refl (same_or_not r.message.header.life y.0.life.0)
-          where
-            y : (a : Association) × Has a site.node.state.associations × (a.server ≡ world.server s.0)
-            y = association_there k s.0 r.message.header.from site t.world.ended ((h.all.base.all.servers s.0 old was).ghosts r.message.header.from).net ((h.all.base.all.servers s.0 old was).both.clients r.message.header.from site there)
-
-            here : y.0.server ≡ s
-            here = y.2
-
-            between : Between (client r.message.header.from) y.0.server r.message
-            between = (refl, r.by.served.to ∙ ap server_node id ∙ ap server_node (sym here))
-
-            pos : 1 ≤ r.message.header.number
-            pos = let q = r.by.served.next in omega (arith, q)
-
-            up : r.message.header.life ≤ y.0.life.0
-            up = (h.all.base.cuts.clients (client r.message.header.from) site there).lives y.0 y.1 r.message r.among between
-
-            past_here : AllPast t.world (client r.message.header.from) y.0.server r.message → ⊥
-            past_here q = not_past (client r.message.header.from) old r.message r.by.served r.running refl (q old (ap (node_of t.world) here ∙ was))
-
-            row_here : (op : ℕ) → Row past t.world (client r.message.header.from) y.0.server r.message op → Row past t.world (client r.message.header.from) s r.message op
-            row_here op w = subst (λ (s : ServerId). Row past t.world (client r.message.header.from) s r.message op) here w
-
-            left : Over past t.world (client r.message.header.from) y.0.server site.node.state.operations r.message → Behind
-            left (inl q) = absurd (past_here q)
-            left (inr q) = record { op = q.op; ask = q.ask; asked = q.asked; of = q.of ∙ here; means = q.means; row = row_here q.op q.row; unsettled = q.unsettled }
-
-            waits : AllPast t.world (client r.message.header.from) y.0.server r.message ⊎ Pending past t.world (client r.message.header.from) y.0.server site.node.state.operations r.message → Behind
-            waits (inl q) = absurd (past_here q)
-            waits (inr q) =
-                record {
-                  op = q.operation.op;
-                  ask = q.operation.ask;
-                  asked = (h.all.base.cuts.clients (client r.message.header.from) site there).asked q.operation q.there;
-                  of = ap (λ n. record { 0 = n }) (eqb-true (cs.server_of q.operation.ask).0 y.0.server.0 (and_true (cs.is_of y.0.server q.operation) _ q.asked).0) ∙ here;
-                  means = q.means;
-                  row = row_here q.operation.op q.row;
-                  unsettled = unsettled_past (client r.message.header.from) q.operation.op past (h.all.owners.unsaid (client r.message.header.from) site there q.operation q.there);
-                }
-
-            by : (b : Bool) → site.node.running ≡ b → (r.message.header.life ≡ y.0.life.0) ⊎ (r.message.header.life ≢ y.0.life.0) → Behind
-            by false w l = left (d.over (client r.message.header.from) site there y.0 y.1 r.message r.among between pos own (inr w))
-            by true w (inr n) = left (d.over (client r.message.header.from) site there y.0 y.1 r.message r.among between pos own (inl (omega (arith, n, up))))
-            by true w (inl l) = waits (alive k count past t h.all.base h.all.owners.owned (client r.message.header.from) site (record { there = there; runs = w }) y.0 y.1 r.message r.among between l pos own)
+    found : Behind past (gifts k count t.world h.all.base.all (client r.message.header.from) s) t.world s r.message
+    found = behind k count past t h.all d s old was r.running r.message r.among r.by.served own
 
     changed_by : (op : ℕ) → Row past t.world (client r.message.header.from) s r.message op → ChangedBy past (step t e sc) s (client r.message.header.from) op
     changed_by op w =
@@ -384,18 +285,18 @@ module _ (k : Config) (count : ℕ) (past : List Step) (t : Traced) (e : Event) 
         }
 
     ask_changes : AskChanges past (step t e sc) s
-    ask_changes = by behind.ask behind.asked behind.of (subst (AsksFor behind.ask) r.by.body behind.means)
+    ask_changes = by found.ask found.asked found.of (subst (AsksFor found.ask) r.by.body found.means)
       where
-        by : (a : Ask) → numbered (asks_of past (client r.message.header.from)) behind.op ≡ Some a → cs.server_of a ≡ s → AsksFor a (bodies.Name r.by.op) → AskChanges past (step t e sc) s
+        by : (a : Ask) → numbered (asks_of past (client r.message.header.from)) found.op ≡ Some a → cs.server_of a ≡ s → AsksFor a (bodies.Name r.by.op) → AskChanges past (step t e sc) s
         by (asks.Name sv ask) q of a =
             record {
               c = client r.message.header.from;
-              op = behind.op;
+              op = found.op;
               ask = ask;
-              changed = changed_by behind.op behind.row;
-              asked = subst (λ z. numbered (asks_of past (client r.message.header.from)) behind.op ≡ Some (asks.Name z ask)) of q;
+              changed = changed_by found.op found.row;
+              asked = subst (λ z. numbered (asks_of past (client r.message.header.from)) found.op ≡ Some (asks.Name z ask)) of q;
               becomes = subst (λ o. becomes_at ask o (node_of sc.world s) ≡ true) (sym was) (subst (λ o. becomes_at ask (Some old) o ≡ true) (sym became) one);
-              unsettled = behind.unsettled;
+              unsettled = found.unsettled;
             }
           where
             one : list_any (leaves new.state.stable.names) (says old.state.stable.names ask) ≡ true
@@ -427,11 +328,11 @@ module _ (k : Config) (count : ℕ) (past : List Step) (t : Traced) (e : Event) 
 -- Over whole runs.
 pub record ChangesHold (k : Config) (count : ℕ) (past : List Step) (t : Traced) : Type 0 where
   pub names_ : NamesHold k count past t
-  pub rows : RowsHold past t.world
+  pub rows : RowsHold past (gifts k count t.world names_.all.base.all) t.world
   pub pairs : PairsHold past t.world
 
 pub one : (k : Config) (count : ℕ) (past : List Step) (t : Traced) (e : Event) (sc : WorldTurn) → is_event count e ≡ true → ChangesHold k count past t → world_step t.world e ≡ Ok sc → AsksChangeOnce past (step t e sc) × ChangesHold k count (past ++ step t e sc ∷ []) (traced_after e t sc)
-one k count past t e sc r h taken = (asks_once k count past t e sc r h.names_ n taken h.rows h.pairs, record { names_ = n; rows = rows_on k count past t e sc r h.names_.all n.all taken h.rows; pairs = record { pairs = pairs_on k count past t e sc r h.names_ n taken h.rows h.pairs; pasts = pasts_on k count past t e sc r h.names_ n taken h.rows h.pairs } })
+one k count past t e sc r h taken = (asks_once k count past t e sc r h.names_ n taken h.rows h.pairs, record { names_ = n; rows = subst (λ a. RowsHold (past ++ step t e sc ∷ []) (gifts k count sc.world a) sc.world) (sym (once.same_ghosts k count past t e sc r h.names_ taken)) (rows_on k count past t e sc r h.names_.all n.all taken h.rows); pairs = record { pairs = pairs_on k count past t e sc r h.names_ n taken h.rows h.pairs; pasts = pasts_on k count past t e sc r h.names_ n taken h.rows h.pairs } })
   where
     n : NamesHold k count (past ++ step t e sc ∷ []) (traced_after e t sc)
     n = (once.one k count past t e sc r h.names_ taken).1

@@ -19,8 +19,9 @@ use Rattle.st_rules.specs.ClientLease as lease
 use Rattle.st_rules.specs.ClientLocks as locks
 use Rattle.st_rules.specs.ClientReplies as cr
 use Rattle.st_rules.specs.ClientState as cs
-use Rattle.st_rules.specs.ClientState.{ClientSession, Association, Turn, Requests, answer_to, server_of, say, with_session, with_store, with_operations}
+use Rattle.st_rules.specs.ClientState.{ClientSession, Turn}
 use Rattle.st_lemmas.specs.Lists.{Has}
+use Rattle.st_laws_requests.specs.Replies.Reached.{KeptWhy}
 use Rattle.st_base.specs.declared.names.NameAsk.{NameAsk}
 
 pub clash : {A : Type 0} {b : Bool} → b ≡ true → b ≡ false → A
@@ -31,10 +32,15 @@ abbrev pub view : Option ClientSession → Option (ℕ × Option Request)
 view None = None
 view (Some x) = Some (x.epoch.0, x.requests.asked)
 
--- a refusal
-abbrev pub IsNack : Body → Type 0
-IsNack (bodies.Nack w a b) = Unit {0}
-IsNack b = ⊥
+-- a refusal that is kept
+abbrev pub IsKeptRefusal : Body → Type 0
+IsKeptRefusal (bodies.Nack w a b) = KeptWhy w
+IsKeptRefusal b = ⊥
+
+-- a reply that is no refusal, or a refusal that is kept
+abbrev pub Counts : Body → Type 0
+Counts (bodies.Nack w a b) = KeptWhy w
+Counts b = Unit {0}
 
 -- only a cut or a name
 abbrev pub Own : Ask → Type 0

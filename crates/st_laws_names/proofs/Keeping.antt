@@ -45,7 +45,7 @@ use Rattle.st_rules.specs.ClientPages as pages
 use Rattle.st_rules.specs.ClientPasses as cp
 use Rattle.st_rules.specs.ClientReplies as cr
 use Rattle.st_rules.specs.ClientState as cs
-use Rattle.st_rules.specs.ClientState.{ClientSession, Association, Turn, Requests, answer_to, server_of, say, with_session, with_store, with_operations}
+use Rattle.st_rules.specs.ClientState.{ClientSession, Turn, Requests, answer_to, server_of, say, with_session, with_store, with_operations}
 use Rattle.st_lemmas.specs.Lists.{Has}
 use Rattle.st_lemmas.proofs.Lookups.{some_is}
 use Rattle.st_lemmas.proofs.Tables.{and_both, and_true, has_append, has_filter, has_map, not_true}
@@ -55,7 +55,7 @@ use Rattle.st_rules.specs.declared.client.Stage.TheVariants as stages
 use Rattle.st_rules.specs.Keys.{server_node}
 use Rattle.st_laws_leases.proofs.Dates.Known.{has_right}
 use Rattle.st_laws_requests.proofs.Cuts.Keeping.{Answers, asked_of, has_middle, if_both, if_case, no_acquire, no_map, no_reassert}
-use Rattle.st_laws_names.proofs.Frames.{IsNack, Own, clash, grant_view, has_none, note_server, other, server_kept, view}
+use Rattle.st_laws_names.proofs.Frames.{Counts, IsKeptRefusal, Own, clash, grant_view, has_none, note_server, other, server_kept, view}
 
 module _ (S : ℕ → Type 0) (Key : ServerId → ℕ → ℕ → ℕ → ℕ → Type 0) (Ended : ℕ → AppAnswer → Type 0) (Refused : ℕ → Type 0)
     (open_ : (op n m : ℕ) → Ended op (answers.Uncertain n m)) (gone_ : (op : ℕ) (a : AppAnswer) → Refused op → Ended op a) where
@@ -337,7 +337,7 @@ module _ (S : ℕ → Type 0) (Key : ServerId → ℕ → ℕ → ℕ → ℕ �
     -- Replies.
     module _ (now : Stamp) (h : Header) (m : Body)
         (told : (sv : ServerId) (op : ℕ) (a : AppAnswer) → h.from ≡ server_node sv → Key sv h.life h.epoch h.number op → Answers m a → Ended op a)
-        (refuses : (sv : ServerId) (op : ℕ) → h.from ≡ server_node sv → Key sv h.life h.epoch h.number op → IsNack m → Refused op) where
+        (refuses : (sv : ServerId) (op : ℕ) → h.from ≡ server_node sv → Key sv h.life h.epoch h.number op → IsKeptRefusal m → Refused op) where
       -- the request has ended, and who waited for it is yet to be answered
       record Mid (sv : ServerId) (ops : List Operation) (out : List Output) : Type 0 where
         pub base : Base sv ops out
@@ -347,7 +347,7 @@ module _ (S : ℕ → Type 0) (Key : ServerId → ℕ → ℕ → ℕ → ℕ �
       MM t = Mid t.here.server t.operations t.out
 
       -- an operation of this server that asked was refused
-      refused_all : (t : Turn) → h.from ≡ server_node t.here.server → IsNack m → MM t → (o : Operation) → Has o t.operations → S o.op → cs.is_of t.here.server o ≡ true → Refused o.op
+      refused_all : (t : Turn) → h.from ≡ server_node t.here.server → IsKeptRefusal m → MM t → (o : Operation) → Has o t.operations → S o.op → cs.is_of t.here.server o ≡ true → Refused o.op
       refused_all t from n w o i z of = go o.stage refl ((w.base.fine o i).state z of)
         where
           go : (g : Stage) → o.stage ≡ g → AtStage g o.op → Refused o.op
@@ -367,7 +367,7 @@ module _ (S : ℕ → Type 0) (Key : ServerId → ℕ → ℕ → ℕ → ℕ �
       if_m : (b : Bool) (t u : Turn) → MM t → MM u → MM (if b then t else u)
       if_m b t u x y = if_both MM b t u x y
 
-      m_refused : (t : Turn) (y : Why) (a b : ℕ) (file : Option ℕ) (asked : Body) → h.from ≡ server_node t.here.server → IsNack m → MM t → MM (cr.refuse_as t y a b file asked)
+      m_refused : (t : Turn) (y : Why) (a b : ℕ) (file : Option ℕ) (asked : Body) → h.from ≡ server_node t.here.server → IsKeptRefusal m → MM t → MM (cr.refuse_as t y a b file asked)
       unfolding cr.refuse_as cr.refuse_holder cr.refuse_file cr.refuse_page
       m_refused t y a b file asked from n w = go y
         where
@@ -390,7 +390,7 @@ module _ (S : ℕ → Type 0) (Key : ServerId → ℕ → ℕ → ℕ → ℕ �
           go why.NotHolder = if_m (cs.asks_cut_or_remove asked) _ t (m_answers t _ answers.NotHolder (λ o i z q. ended o i z (asked_of t.here.server o q).0 answers.NotHolder) w) w
           go z = w
 
-      w_stuck : (t : Turn) → h.from ≡ server_node t.here.server → IsNack m → MM t → W (cr.leave_stuck t)
+      w_stuck : (t : Turn) → h.from ≡ server_node t.here.server → IsKeptRefusal m → MM t → W (cr.leave_stuck t)
       unfolding cr.leave_stuck
       w_stuck t from n w = record { base = record { server = w.base.server; fine = λ o i. fine o (has_map (cr.stuck t) t.operations o i); said = w.base.said }; asked = λ o i z e. absurd (free o (has_map (cr.stuck t) t.operations o i) e) }
         where
@@ -415,7 +415,7 @@ module _ (S : ℕ → Type 0) (Key : ServerId → ℕ → ℕ → ℕ → ℕ �
           free : (o : Operation) → From o → cs.is_asked t.here.server o ≡ true → ⊥
           free o (p, i, e) q = free_of p (cs.is_asked t.here.server p) refl (subst (λ r. cs.is_asked t.here.server r ≡ true) e q)
 
-      w_refused : (t : Turn) (y : Why) (a b : ℕ) (file : Option ℕ) (asked : Body) → h.from ≡ server_node t.here.server → IsNack m → MM t → W (cr.refused t y a b file asked)
+      w_refused : (t : Turn) (y : Why) (a b : ℕ) (file : Option ℕ) (asked : Body) → h.from ≡ server_node t.here.server → IsKeptRefusal m → MM t → W (cr.refused t y a b file asked)
       unfolding cr.refused
       w_refused t y a b file asked from n w = w_stuck (cr.refuse_as t y a b file asked) (subst (λ z. h.from ≡ server_node z) (sym (server_kept t y a b file asked)) from) n (m_refused t y a b file asked from n w)
 
@@ -430,9 +430,9 @@ module _ (S : ℕ → Type 0) (Key : ServerId → ℕ → ℕ → ℕ → ℕ �
           go (Some l) = free_all _ _ _ t.operations t.out f w.base
 
       -- what a reply does, besides ending the request
-      w_effect : (u : Turn) (y : ClientSession) (q : Request) (file : Option ℕ) (b : Body) → m ≡ b → h.from ≡ server_node u.here.server → MM u → ((cs.asks_cut_or_name q.body ≡ true → ⊥) → Free u.here.server u.operations) → cs.fits b q.body ≡ true → W (cr.effect u y now b file q.body)
+      w_effect : (u : Turn) (y : ClientSession) (q : Request) (file : Option ℕ) (b : Body) → m ≡ b → h.from ≡ server_node u.here.server → MM u → ((cs.asks_cut_or_name q.body ≡ true → ⊥) → Free u.here.server u.operations) → cs.fits b q.body ≡ true → Counts m → W (cr.effect u y now b file q.body)
       unfolding cr.effect cr.granted cr.queued cr.reasserted cr.acknowledged cr.named cr.named_as cr.extents cr.learn cs.answer_each
-      w_effect u y q file b e from w f fit = go b e fit
+      w_effect u y q file b e from w f fit kept = go b e fit
         where
           free : ((cs.asks_cut_or_name q.body ≡ true → ⊥)) → W u
           free n = free_all _ _ _ u.operations u.out (f n) w.base
@@ -461,7 +461,7 @@ module _ (S : ℕ → Type 0) (Key : ServerId → ℕ → ℕ → ℕ → ℕ �
           go bodies.Ack e k = w_told u answers.Cut from (subst (λ b. Answers b answers.Cut) (sym e) refl) w
           go (bodies.Named r) e k = named r e
           go bodies.Reasserted e k = free_all _ _ _ u.operations u.out (f (no_reassert q.body k)) w.base
-          go (bodies.Nack z a b) e k = w_refused u z a b file q.body from (subst IsNack (sym e) tt) w
+          go (bodies.Nack z a b) e k = w_refused u z a b file q.body from (subst IsKeptRefusal (sym e) (subst Counts e kept)) w
           go b e k = cc k
 
       note_keeps : (P : ServerId → List Operation → List Output → Type 0) → ((o : Output) → Okay o → (sv : ServerId) (ops : List Operation) (out : List Output) → P sv ops out → P sv ops (out ++ o ∷ [])) → (t : Turn) (x : ClientSession) (stamp : Stamp) → P t.here.server t.operations t.out →
@@ -473,11 +473,11 @@ module _ (S : ℕ → Type 0) (Key : ServerId → ℕ → ℕ → ℕ → ℕ �
           go true = k _ tt t.here.server t.operations t.out p
           go false = p
 
-      w_reply_to : (t : Turn) (x : ClientSession) (q : Request) (stamp : Stamp) → x.requests.asked ≡ Some q → h.from ≡ server_node t.here.server → WIn t x → cs.fits m q.body ≡ true → h.life ≡ t.here.life.0 → h.epoch ≡ x.epoch.0 → h.number ≡ q.number →
+      w_reply_to : (t : Turn) (x : ClientSession) (q : Request) (stamp : Stamp) → x.requests.asked ≡ Some q → h.from ≡ server_node t.here.server → WIn t x → cs.fits m q.body ≡ true → Counts m → h.life ≡ t.here.life.0 → h.epoch ≡ x.epoch.0 → h.number ≡ q.number →
           W (cr.reply_to t x now stamp m q.body)
       unfolding cr.reply_to cr.end_request
-      w_reply_to t x q stamp e from w fit lf ep nm =
-          w_effect (with_session (cr.ended_by stamp x) (cr.note_renewal t x stamp)) (cr.ended_by stamp x) q (cs.file_asked x.cutting q.body) m refl (subst (λ z. h.from ≡ server_node z) (sym (note_server t x stamp)) from) mid free fit
+      w_reply_to t x q stamp e from w fit kept lf ep nm =
+          w_effect (with_session (cr.ended_by stamp x) (cr.note_renewal t x stamp)) (cr.ended_by stamp x) q (cs.file_asked x.cutting q.body) m refl (subst (λ z. h.from ≡ server_node z) (sym (note_server t x stamp)) from) mid free fit kept
         where
           at : (o : Operation) → Has o t.operations → S o.op → cs.is_asked t.here.server o ≡ true → AtRequest t.here.server t.here.life.0 x.epoch.0 (Some q) o.op
           at o i z a = subst (λ r. AtRequest t.here.server t.here.life.0 x.epoch.0 r o.op) e (w.asked o i z a)
@@ -491,9 +491,9 @@ module _ (S : ℕ → Type 0) (Key : ServerId → ℕ → ℕ → ℕ → ℕ �
           free : (cs.asks_cut_or_name q.body ≡ true → ⊥) → Free (cr.note_renewal t x stamp).here.server (cr.note_renewal t x stamp).operations
           free n = note_keeps (λ sv ops out. Free sv ops) (λ o k sv ops out p. p) t x stamp (λ o i z a. n (at o i z a).0)
 
-      w_reply : (t : Turn) (x : ClientSession) → t.here.session ≡ Some x → h.from ≡ server_node t.here.server → W t → h.life ≡ t.here.life.0 → h.epoch ≡ x.epoch.0 → W (cr.reply_of t x now h m)
+      w_reply : (t : Turn) (x : ClientSession) → t.here.session ≡ Some x → h.from ≡ server_node t.here.server → W t → Counts m → h.life ≡ t.here.life.0 → h.epoch ≡ x.epoch.0 → W (cr.reply_of t x now h m)
       unfolding cr.reply_of cr.counted cr.by_request cr.count_reply
-      w_reply t x e from w lf ep = go x.requests.asked refl
+      w_reply t x e from w kept lf ep = go x.requests.asked refl
         where
           stamp : Stamp
           stamp = record { 0 = h.stamp }
@@ -506,7 +506,7 @@ module _ (S : ℕ → Type 0) (Key : ServerId → ℕ → ℕ → ℕ → ℕ �
               counts g =
                   let z = and_true (cs.is_request_of h.number q) (cs.fits m q.body) g in
                   if_w (cr.refuses_reassertion m q.body) (cr.condemn t x) (cr.reply_to t x now stamp m q.body) (w_condemn t x (into t x e w))
-                  (w_reply_to t x q stamp f from (into t x e w) z.1 lf ep (sym (eqb-true q.number h.number z.0)))
+                  (w_reply_to t x q stamp f from (into t x e w) z.1 kept lf ep (sym (eqb-true q.number h.number z.0)))
 
       w_nack : (t : Turn) (x : ClientSession) (y : Why) (a b : ℕ) → m ≡ bodies.Nack y a b → t.here.session ≡ Some x → h.from ≡ server_node t.here.server → W t → h.life ≡ t.here.life.0 → h.epoch ≡ x.epoch.0 → W (cr.nack t x now h y a b)
       w_nack t x why.Suspect a b f e from w lf ep = w_condemn t x (into t x e w)
@@ -515,7 +515,7 @@ module _ (S : ℕ → Type 0) (Key : ServerId → ℕ → ℕ → ℕ → ℕ �
       w_nack t x why.Grace a b f e from w lf ep = w
       w_nack t x why.GraceOver a b f e from w lf ep = w_condemn t x (into t x e w)
       w_nack t x why.Conflict a b f e from w lf ep = w_condemn t x (into t x e w)
-      w_nack t x y a b f e from w lf ep = subst (λ b. W (cr.reply_of t x now h b)) f (w_reply t x e from w lf ep)
+      w_nack t x y a b f e from w lf ep = subst (λ b. W (cr.reply_of t x now h b)) f (w_reply t x e from w (subst Counts (sym f) tt) lf ep)
 
       w_demand : (t : Turn) (x : ClientSession) (ino : ℕ) (g : GrantNo) (to : Mode) → t.here.session ≡ Some x → W t → W (cr.demand t x ino g to)
       unfolding cr.demand cr.demand_by cr.demand_as cr.see_demand cr.release_unheld cs.send
@@ -537,14 +537,14 @@ module _ (S : ℕ → Type 0) (Key : ServerId → ℕ → ℕ → ℕ → ℕ �
       unfolding cr.of_epoch cr.grant_or_reply
       w_of_epoch t x b f e from w lf ep = go b f
         where
-          replied : (b : Body) → m ≡ b → W (cr.reply_of t x now h b)
-          replied b f = subst (λ b. W (cr.reply_of t x now h b)) f (w_reply t x e from w lf ep)
+          replied : (b : Body) → m ≡ b → Counts b → W (cr.reply_of t x now h b)
+          replied b f k = subst (λ b. W (cr.reply_of t x now h b)) f (w_reply t x e from w (subst Counts (sym f) k) lf ep)
 
           go : (b : Body) → m ≡ b → W (cr.of_epoch t x now h b)
           go (bodies.Nack y a b) f = w_nack t x y a b f e from w lf ep
-          go (bodies.Granted ino g mode) f = if_w (h.number == 0) _ _ (w_granted t x ino g mode (into t x e w)) (replied (bodies.Granted ino g mode) f)
+          go (bodies.Granted ino g mode) f = if_w (h.number == 0) _ _ (w_granted t x ino g mode (into t x e w)) (replied (bodies.Granted ino g mode) f tt)
           go (bodies.Demand ino g to) f = w_demand t x ino g to e w
-          go b f = replied b f
+          go b f = replied b f tt
 
       pub w_hear : (t : Turn) → W t → W (cr.receive_at now h m t)
       unfolding cr.receive_at cr.by_session cr.with_a_session

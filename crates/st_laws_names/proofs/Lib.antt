@@ -5,6 +5,7 @@ pub mod World
 pub mod Serving
 pub mod Waiting
 pub mod Rows
+pub mod Behind
 pub mod Changes
 pub mod Keys
 pub mod Replies

@@ -61,7 +61,8 @@ use Rattle.st_laws_cuts.proofs.Naming.{step_names}
 use Rattle.st_laws_cuts.proofs.Law.{AllHold}
 use Rattle.st_laws_names.specs.Keys.{HasEvent, NamesDid, RepliesHaveEvents, ServedAt, ServedOnce, Serves, behind_thefts, is_final, now_at}
 use Rattle.st_laws_names.proofs.Keys.{KeysHold, sends_own}
-use Rattle.st_laws_names.proofs.Changes.{crashed_names, not_past, past_same, started_names}
+use Rattle.st_laws_names.proofs.Behind.{not_past}
+use Rattle.st_laws_names.proofs.Changes.{crashed_names, past_same, started_names}
 use Rattle.st_laws_names.proofs.Serving.{name_replies, step_serves}
 
 -- final replies are of a kind

@@ -4,6 +4,7 @@ use Rattle.std.specs.Prelude.{length, nat_le}
 use Rattle.std.specs.List.{list_any}
 use Rattle.std.proofs.lemmas.Bool.{eqb-true, leb-true}
 use Rattle.st_base.specs.declared.ids.ClientId.{ClientId}
+use Rattle.st_base.specs.declared.ids.GrantNo.{GrantNo}
 use Rattle.st_base.specs.declared.ids.ServerId.{ServerId}
 use Rattle.st_base.specs.declared.ids.Stamp.{Stamp}
 use Rattle.st_base.specs.declared.ids.NodeId.TheVariants as nodes
@@ -43,45 +44,48 @@ use Rattle.st_laws_requests.specs.Cuts.Cuts.{AsksFor, Between, asks_of}
 use Rattle.st_laws_requests.proofs.Cuts.Seen.{AnswerOf, AnswersOf, NoAnswers}
 use Rattle.st_laws_requests.proofs.Replies.EachEvent.{ClientTook, SiteAfter}
 use Rattle.st_laws_extents.specs.CutRequests.EndedLives.{Goes, IsPast, NodeGoes}
-use Rattle.st_laws_extents.proofs.CutRequests.Law.{owed}
+use Rattle.st_laws_extents.specs.CutRequests.Law.{gifts}
+use Rattle.st_laws_extents.specs.CutRequests.World.{Gifts}
+use Rattle.st_laws_extents.proofs.CutRequests.Law.{followed, gifts_stay, owed}
 use Rattle.st_laws_extents.proofs.CutRequests.ServersGoOn.{event_goes}
 use Rattle.st_promises.specs.CutAsks.{is_uncertain, settles_in}
 use Rattle.st_laws_cuts.proofs.Counts.{pending, pending_has, pending_none, told_has, told_none, told_once}
 use Rattle.st_laws_cuts.proofs.Events.{IsEmptied, NextAsk, OldOrServers, event_does}
-use Rattle.st_laws_cuts.proofs.Step.{At, Held, Losses, after_losses, onces, stepped, uncertain}
+use Rattle.st_laws_cuts.proofs.Step.{Held, Losses, after_losses, onces, stepped, uncertain}
 use Rattle.st_laws_leases.proofs.Dates.Known.{has_left}
-use Rattle.st_laws_cuts.specs.Over.{AllPast}
+use Rattle.st_laws_cuts.specs.Over.{AllPast, MeansTo}
 use Rattle.st_laws_cuts.specs.Owners.{Owned, view}
 use Rattle.st_laws_cuts.proofs.Law.{AllHold}
-use Rattle.st_laws_cuts.proofs.Words.{any_last, asked_more, clash, unsettled_in, unsettled_past}
+use Rattle.st_laws_cuts.proofs.Words.{any_last, asked_more, clash, means_more, unsettled_in, unsettled_past}
 use Rattle.st_lemmas.proofs.Tables.{has_append}
 use Rattle.st_laws_names.specs.Once.{WaitsUnder}
 use Rattle.st_laws_names.proofs.World.{Worlds}
 use Rattle.st_laws_names.proofs.Waiting.{Pending, Row, alive}
 
 -- the ask of a message is pending no more, and was not settled; it waited under the key of the message
-pub record Left (past : List Step) (w : World) (c : ClientId) (s : ServerId) (os : List Operation) (m : Message) : Type 0 where
+pub record Left (past : List Step) (G : ℕ → GrantNo → Type 0) (w : World) (c : ClientId) (s : ServerId) (os : List Operation) (m : Message) : Type 0 where
   pub op : ℕ
   pub ask : Ask
   pub asked : numbered (asks_of past c) op ≡ Some ask
   pub of : cs.server_of ask ≡ s
   pub means : AsksFor ask m.body
+  pub to : MeansTo G s ask m.body
   pub row : Row past w c s m op
   pub gone : (o : Operation) → Has o os → o.op ≡ op → ⊥
   pub unsettled : list_any (settles_in c op) past ≡ false
 
 -- either of the two
-abbrev pub Over : List Step → World → ClientId → ServerId → List Operation → Message → Type 0
-Over past w c s os m = AllPast w c s m ⊎ Left past w c s os m
+abbrev pub Over : List Step → (ℕ → GrantNo → Type 0) → World → ClientId → ServerId → List Operation → Message → Type 0
+Over past G w c s os m = AllPast w c s m ⊎ Left past G w c s os m
 
 -- a world behind one of these steps, or one in which no operation waits
 abbrev pub Known : List Step → World → Type 0
 Known past v = ((z : Step) × Has z past × (v ≡ z.after.world)) ⊎ ((c : ClientId) (s : ServerId) (life epoch number op : ℕ) → WaitsUnder v c s life epoch number op → ⊥)
 
 -- What stands behind every event.
-pub record RowsHold (past : List Step) (w : World) : Type 0 where
+pub record RowsHold (past : List Step) (G : Gifts) (w : World) : Type 0 where
   pub over : (c : ClientId) (site : ClientSite) → site_of w c ≡ Some site → (a : Association) → Has a site.node.state.associations → (m : Message) → Has m (messages w) → Between c a.server m → 1 ≤ m.header.number → asks_cut_or_name m.body ≡ true →
-      (m.header.life < a.life.0) ⊎ (site.node.running ≡ false) → Over past w c a.server site.node.state.operations m
+      (m.header.life < a.life.0) ⊎ (site.node.running ≡ false) → Over past (G c a.server) w c a.server site.node.state.operations m
   pub now : Known past w
   pub chain : (y : Step) → Has y past → Known past y.before.world
 
@@ -99,12 +103,15 @@ not_server : (m : Message) → is_client_node m.header.from ≡ true → (s : Se
 not_server m e s q = let z = leb-true m.header.from 16 (and_true (nat_le 1 m.header.from) (nat_le m.header.from 16) e).1 in omega (arith, z, q)
 
 module _ (k : Config) (count : ℕ) (past : List Step) (t : Traced) (e : Event) (sc : WorldTurn) (ranges : is_event count e ≡ true) (h : AllHold k count past t) (n : AllHold k count (past ++ step t e sc ∷ []) (traced_after e t sc)) (taken : world_step t.world e ≡ Ok sc)
-    (d : RowsHold past t.world) where
+    (d : RowsHold past (gifts k count t.world h.base.all) t.world) where
   abbrev x : Step
   x = step t e sc
 
   abbrev past2 : List Step
   past2 = past ++ step t e sc ∷ []
+
+  more : (c : ClientId) (s : ServerId) (i : ℕ) (g : GrantNo) → gifts k count t.world h.base.all c s i g → gifts k count sc.world (followed k count past t e sc ranges h.base taken).after c s i g
+  more c s i g = gifts_stay k count t.world sc.world h.base.all (followed k count past t e sc ranges h.base taken) c s i g
 
   goes : Goes t.world sc.world
   goes = event_goes past t h.base.replies e sc (owed k count past t e sc ranges h.base taken) taken
@@ -151,7 +158,7 @@ module _ (k : Config) (count : ℕ) (past : List Step) (t : Traced) (e : Event) 
   now_on = inl (step t e sc, Rattle.st_laws_leases.proofs.Dates.Known.has_right past (step t e sc ∷ []) (step t e sc) (inl refl), refl)
 
   left_on : (c : ClientId) (s : ServerId) (os qs : List Operation) (m : Message) → ((op : ℕ) (ask : Ask) → numbered (asks_of past c) op ≡ Some ask → ((o : Operation) → Has o os → o.op ≡ op → ⊥) → ((o : Operation) → Has o qs → o.op ≡ op → ⊥) × ((a : AppAnswer) → Has (seen.Answered c op a) sc.seen → ⊥)) →
-      Left past t.world c s os m → Left past2 sc.world c s qs m
+      Left past (gifts k count t.world h.base.all c s) t.world c s os m → Left past2 (gifts k count sc.world (followed k count past t e sc ranges h.base taken).after c s) sc.world c s qs m
   left_on c s os qs m k z =
       let y = k z.op z.ask z.asked z.gone in
       record {
@@ -160,15 +167,16 @@ module _ (k : Config) (count : ℕ) (past : List Step) (t : Traced) (e : Event) 
         asked = asked_more past x c z.op z.ask z.asked;
         of = z.of;
         means = z.means;
+        to = means_more _ _ (more c s) s z.ask m.body z.to;
         row = row_on c s m z.op z.row;
         gone = y.0;
         unsettled = any_last (settles_in c z.op) past x z.unsettled (unsettled_in c z.op sc.seen (λ a i. absurd (y.1 a i)));
       }
 
   -- an operation that was pending is left, where it is pending no more, and answered with `uncertain` alone
-  now_left : (c : ClientId) (site : ClientSite) → site_of t.world c ≡ Some site → (s : ServerId) (qs : List Operation) (m : Message) → (z : Pending past t.world c s site.node.state.operations m) →
+  now_left : (c : ClientId) (site : ClientSite) → site_of t.world c ≡ Some site → (s : ServerId) (qs : List Operation) (m : Message) → (z : Pending past (gifts k count t.world h.base.all c s) t.world c s site.node.state.operations m) →
       ((o : Operation) → Has o qs → o.op ≡ z.operation.op → ⊥) → ((a : AppAnswer) → Has (seen.Answered c z.operation.op a) sc.seen → is_uncertain a ≡ true) →
-      Left past2 sc.world c s qs m
+      Left past2 (gifts k count sc.world (followed k count past t e sc ranges h.base taken).after c s) sc.world c s qs m
   now_left c site at s qs m z gone open_ =
       record {
         op = z.operation.op;
@@ -176,6 +184,7 @@ module _ (k : Config) (count : ℕ) (past : List Step) (t : Traced) (e : Event) 
         asked = asked_more past x c z.operation.op z.operation.ask ((h.base.cuts.clients c site at).asked z.operation z.there);
         of = ap (λ n. record { 0 = n }) (eqb-true (cs.server_of z.operation.ask).0 s.0 (and_true (cs.is_of s z.operation) _ z.asked).0);
         means = z.means;
+        to = means_more _ _ (more c s) s z.operation.ask m.body z.to;
         row = row_on c s m z.operation.op z.row;
         gone = gone;
         unsettled = any_last (settles_in c z.operation.op) past x (unsettled_past c z.operation.op past (h.owners.unsaid c site at z.operation z.there)) (unsettled_in c z.operation.op sc.seen open_);
@@ -183,7 +192,7 @@ module _ (k : Config) (count : ℕ) (past : List Step) (t : Traced) (e : Event) 
 
   -- what stood of an old message
   abbrev Stood : ClientId → ClientSite → Association → Message → Type 0
-  Stood c site a m = Over past t.world c a.server site.node.state.operations m ⊎ ((site.node.running ≡ true) × (m.header.life ≡ a.life.0) × Pending past t.world c a.server site.node.state.operations m)
+  Stood c site a m = Over past (gifts k count t.world h.base.all c a.server) t.world c a.server site.node.state.operations m ⊎ ((site.node.running ≡ true) × (m.header.life ≡ a.life.0) × Pending past (gifts k count t.world h.base.all c a.server) t.world c a.server site.node.state.operations m)
 
   stood : (c : ClientId) (site : ClientSite) → site_of t.world c ≡ Some site → (a : Association) → Has a site.node.state.associations → (m : Message) → Has m (messages t.world) → Between c a.server m → 1 ≤ m.header.number → asks_cut_or_name m.body ≡ true → Stood c site a m
   stood c site at a i m among between pos own = go site.node.running refl (same_or_not m.header.life a.life.0)
@@ -191,7 +200,7 @@ module _ (k : Config) (count : ℕ) (past : List Step) (t : Traced) (e : Event) 
       up : m.header.life ≤ a.life.0
       up = (h.base.cuts.clients c site at).lives a i m among between
 
-      run_in : site.node.running ≡ true → m.header.life ≡ a.life.0 → AllPast t.world c a.server m ⊎ Pending past t.world c a.server site.node.state.operations m → Stood c site a m
+      run_in : site.node.running ≡ true → m.header.life ≡ a.life.0 → AllPast t.world c a.server m ⊎ Pending past (gifts k count t.world h.base.all c a.server) t.world c a.server site.node.state.operations m → Stood c site a m
       run_in r l (inl p) = inl (inl p)
       run_in r l (inr z) = inr (r, l, z)
 
@@ -202,14 +211,14 @@ module _ (k : Config) (count : ℕ) (past : List Step) (t : Traced) (e : Event) 
 
   abbrev AllOver : Type 0
   AllOver = (c : ClientId) (site : ClientSite) → site_of sc.world c ≡ Some site → (a : Association) → Has a site.node.state.associations → (m : Message) → Has m (messages sc.world) → Between c a.server m → 1 ≤ m.header.number → asks_cut_or_name m.body ≡ true →
-      (m.header.life < a.life.0) ⊎ (site.node.running ≡ false) → Over past2 sc.world c a.server site.node.state.operations m
+      (m.header.life < a.life.0) ⊎ (site.node.running ≡ false) → Over past2 (gifts k count sc.world (followed k count past t e sc ranges h.base taken).after c a.server) sc.world c a.server site.node.state.operations m
 
   -- Nothing is answered.
   module _ (silent : NoAnswers sc.seen) where
     none : (c : ClientId) (op : ℕ) (a : AppAnswer) → Has (seen.Answered c op a) sc.seen → ⊥
     none c op a i = silent (seen.Answered c op a) i
 
-    over_on : (c : ClientId) (s : ServerId) (os : List Operation) (m : Message) → Over past t.world c s os m → Over past2 sc.world c s os m
+    over_on : (c : ClientId) (s : ServerId) (os : List Operation) (m : Message) → Over past (gifts k count t.world h.base.all c s) t.world c s os m → Over past2 (gifts k count sc.world (followed k count past t e sc ranges h.base taken).after c s) sc.world c s os m
     over_on c s os m (inl p) = inl (past_on c s m p)
     over_on c s os m (inr z) = inr (left_on c s os os m (λ op ask q gone. (gone, λ a i. none c op a i)) z)
 
@@ -239,9 +248,9 @@ module _ (k : Config) (count : ℕ) (past : List Step) (t : Traced) (e : Event) 
       no_operation o (p ∷ os) q i = cc q
 
       over : (y : ClientId) (site : ClientSite) → Case y site → (a : Association) → Has a site.node.state.associations → (m : Message) → Has m (messages t.world) → Between y a.server m → 1 ≤ m.header.number → asks_cut_or_name m.body ≡ true →
-          (m.header.life < a.life.0) ⊎ (site.node.running ≡ false) → Over past2 sc.world y a.server site.node.state.operations m
+          (m.header.life < a.life.0) ⊎ (site.node.running ≡ false) → Over past2 (gifts k count sc.world (followed k count past t e sc ranges h.base taken).after y a.server) sc.world y a.server site.node.state.operations m
       over y site (inr q) a i m among between pos own life = over_on silent y a.server site.node.state.operations m (d.over y site q.1 a i m among between pos own life)
-      over y site (inl q) a i m among between pos own life = subst (λ (v : ServerId). Over past2 sc.world y v site.node.state.operations m) (sym b.2) (by (stood y old there b.0 b.1 m among (subst (λ (v : ServerId). Between y v m) b.2 between) pos own))
+      over y site (inl q) a i m among between pos own life = subst (λ (v : ServerId). Over past2 (gifts k count sc.world (followed k count past t e sc ranges h.base taken).after y v) sc.world y v site.node.state.operations m) (sym b.2) (by (stood y old there b.0 b.1 m among (subst (λ (v : ServerId). Between y v m) b.2 between) pos own))
         where
           there : site_of t.world y ≡ Some old
           there = ap (λ n. numbered t.world.clients n) q.0 ∙ at
@@ -252,7 +261,7 @@ module _ (k : Config) (count : ℕ) (past : List Step) (t : Traced) (e : Event) 
           none_here : (o : Operation) → Has o site.node.state.operations → {A : Type 0} → A
           none_here o j = no_operation o site.node.state.operations (ap (λ (u : ClientSite). u.node.state.operations) q.1 ∙ z.operations) j
 
-          by : Stood y old b.0 m → Over past2 sc.world y b.0.server site.node.state.operations m
+          by : Stood y old b.0 m → Over past2 (gifts k count sc.world (followed k count past t e sc ranges h.base taken).after y b.0.server) sc.world y b.0.server site.node.state.operations m
           by (inl (inl p)) = inl (past_on y b.0.server m p)
           by (inl (inr w)) = inr (left_on y b.0.server old.node.state.operations site.node.state.operations m (λ op ask u gone. (λ o j. none_here o j, λ a v. none silent y op a v)) w)
           by (inr w) = inr (now_left y old there b.0.server site.node.state.operations m w.2 (λ o j. none_here o j) (λ a v. absurd (none silent y w.2.operation.op a v)))
@@ -357,15 +366,15 @@ module _ (k : Config) (count : ℕ) (past : List Step) (t : Traced) (e : Event) 
     pair b j = pair_of (LifeNext now st) st.associations u.state.associations (step_lives c st now i node.fit).pairs b j
 
     over_own : (b : Association) → Has b u.state.associations → (m : Message) → Has m (messages t.world) ⊎ Has (outputs.Send m) u.out → Between c b.server m → 1 ≤ m.header.number → asks_cut_or_name m.body ≡ true → m.header.life < b.life.0 →
-        Over past2 sc.world c b.server u.state.operations m
+        Over past2 (gifts k count sc.world (followed k count past t e sc ranges h.base taken).after c b.server) sc.world c b.server u.state.operations m
     over_own b j m (inr p) between pos own life = let z = (ends.done b j).sent m p between in absurd (omega (arith, z, life))
-    over_own b j m (inl p) between pos own life = subst (λ (w : ServerId). Over past2 sc.world c w u.state.operations m) q.2.server (by (stood c old at q.0 (old_at q.0 q.1) m p (subst (λ (w : ServerId). Between c w m) (sym q.2.server) between) pos own))
+    over_own b j m (inl p) between pos own life = subst (λ (w : ServerId). Over past2 (gifts k count sc.world (followed k count past t e sc ranges h.base taken).after c w) sc.world c w u.state.operations m) q.2.server (by (stood c old at q.0 (old_at q.0 q.1) m p (subst (λ (w : ServerId). Between c w m) (sym q.2.server) between) pos own))
       where
         q : (a : Association) × Has a st.associations × LifeNext now st a b
         q = pair b j
 
         Wanted : Type 0
-        Wanted = Over past2 sc.world c q.0.server u.state.operations m
+        Wanted = Over past2 (gifts k count sc.world (followed k count past t e sc ranges h.base taken).after c q.0.server) sc.world c q.0.server u.state.operations m
 
         -- an ask that is left, and was not pending
         still : (op : ℕ) (ask : Ask) → numbered (asks_of past c) op ≡ Some ask → ((o : Operation) → Has o old.node.state.operations → o.op ≡ op → ⊥) → ((o : Operation) → Has o u.state.operations → o.op ≡ op → ⊥) × ((a : AppAnswer) → Has (seen.Answered c op a) sc.seen → ⊥)
@@ -376,7 +385,7 @@ module _ (k : Config) (count : ℕ) (past : List Step) (t : Traced) (e : Event) 
             no (inr w) = let z = (numbered_below (asks_of past c) op ask asked).1 in let y = asks_count in let r = w.0 in omega (arith, z, y, r)
 
         -- a lease that is over
-        ended : (s : Option ClientSession) → q.0.session ≡ s → is_ended st.config now s ≡ true → (z : Pending past t.world c q.0.server old.node.state.operations m) → Has (outputs.Answer z.operation.op (answers.Uncertain 0 0)) [] ⊎ ((n : ℕ) × Has (outputs.Answer z.operation.op (answers.Uncertain n 0)) u.out)
+        ended : (s : Option ClientSession) → q.0.session ≡ s → is_ended st.config now s ≡ true → (z : Pending past (gifts k count t.world h.base.all c q.0.server) t.world c q.0.server old.node.state.operations m) → Has (outputs.Answer z.operation.op (answers.Uncertain 0 0)) [] ⊎ ((n : ℕ) × Has (outputs.Answer z.operation.op (answers.Uncertain n 0)) u.out)
         ended None r f z = cc f
         ended (Some s) r f z =
             inr (
@@ -420,10 +429,10 @@ module _ (k : Config) (count : ℕ) (past : List Step) (t : Traced) (e : Event) 
             open_ a z = ap is_uncertain (told_once u.out w.2.operation.op a (answers.Uncertain said.0 0) (let g = ends.few w.2.operation.op in omega (arith, g)) (answered c w.2.operation.op a z).1 said.1)
 
     over_of : (y : ClientId) (s : ClientSite) → ((y.0 ≡ c.0) × (s ≡ SiteAfter v c i site)) ⊎ ((y.0 ≢ c.0) × (site_of t.world y ≡ Some s)) → (a : Association) → Has a s.node.state.associations → (m : Message) → Has m (messages sc.world) → Between y a.server m → 1 ≤ m.header.number →
-        asks_cut_or_name m.body ≡ true → (m.header.life < a.life.0) ⊎ (s.node.running ≡ false) → Over past2 sc.world y a.server s.node.state.operations m
+        asks_cut_or_name m.body ≡ true → (m.header.life < a.life.0) ⊎ (s.node.running ≡ false) → Over past2 (gifts k count sc.world (followed k count past t e sc ranges h.base taken).after y a.server) sc.world y a.server s.node.state.operations m
     over_of y s (inl q) a j m among between pos own life =
-        subst (λ n. Over past2 sc.world (record { 0 = n }) a.server s.node.state.operations m) (sym q.0)
-        (subst (λ (w : ClientSite). Over past2 sc.world c a.server w.node.state.operations m) (sym q.1)
+        subst (λ n. Over past2 (gifts k count sc.world (followed k count past t e sc ranges h.base taken).after (record { 0 = n }) a.server) sc.world (record { 0 = n }) a.server s.node.state.operations m) (sym q.0)
+        (subst (λ (w : ClientSite). Over past2 (gifts k count sc.world (followed k count past t e sc ranges h.base taken).after c a.server) sc.world c a.server w.node.state.operations m) (sym q.1)
         (over_own a (subst (λ (w : ClientSite). Has a w.node.state.associations) q.1 j) m (mine m among) (subst (λ n. Between (record { 0 = n }) a.server m) q.0 between) pos own (by life)))
       where
         by : (m.header.life < a.life.0) ⊎ (s.node.running ≡ false) → m.header.life < a.life.0
@@ -434,11 +443,11 @@ module _ (k : Config) (count : ℕ) (past : List Step) (t : Traced) (e : Event) 
         none : (op : ℕ) (a : AppAnswer) → Has (seen.Answered y op a) sc.seen → ⊥
         none op a w = not_others y q.0 op a w
 
-        by : Over past t.world y a.server s.node.state.operations m → Over past2 sc.world y a.server s.node.state.operations m
+        by : Over past (gifts k count t.world h.base.all y a.server) t.world y a.server s.node.state.operations m → Over past2 (gifts k count sc.world (followed k count past t e sc ranges h.base taken).after y a.server) sc.world y a.server s.node.state.operations m
         by (inl p) = inl (past_on y a.server m p)
         by (inr z) = inr (left_on y a.server s.node.state.operations s.node.state.operations m (λ op ask w gone. (gone, λ b r. none op b r)) z)
 
-        go : Has m (messages t.world) ⊎ Has (outputs.Send m) u.out → Over past2 sc.world y a.server s.node.state.operations m
+        go : Has m (messages t.world) ⊎ Has (outputs.Send m) u.out → Over past2 (gifts k count sc.world (followed k count past t e sc ranges h.base taken).after y a.server) sc.world y a.server s.node.state.operations m
         go (inl p) = by (d.over y s q.1 a j m p between pos own life)
         go (inr p) = absurd (q.0 (sym between.0 ∙ ends.from m p))
 
@@ -446,7 +455,7 @@ module _ (k : Config) (count : ℕ) (past : List Step) (t : Traced) (e : Event) 
     took y s r a j m among between pos own life = over_of y s (cases y s r) a j m among between pos own life
 
   -- Every event.
-  pub rows_on : RowsHold (past ++ step t e sc ∷ []) sc.world
+  pub rows_on : RowsHold (past ++ step t e sc ∷ []) (gifts k count sc.world (followed k count past t e sc ranges h.base taken).after) sc.world
   rows_on = record { over = over_all; now = now_on; chain = chain_on }
     where
       Result : WorldTurn → Type 0

@@ -1,6 +1,7 @@
 -- A whole step of a client keeps what stands of the operations that asked before, at all its servers.
 use Rattle.std.proofs.Common.{◌≡◌, ℕ, ◌⊎◌, Bool, true, false, ◌==◌, List, [], ◌∷◌, ◌++◌, refl, sym, ap, ◌∙◌, subst, inl, inr, if◌then◌else◌}
 use Rattle.std.proofs.lemmas.Bool.{eqb-true}
+use Rattle.st_base.specs.declared.ids.ClientId.{ClientId}
 use Rattle.st_base.specs.declared.ids.ServerId.{ServerId}
 use Rattle.st_base.specs.declared.ids.Stamp.{Stamp}
 use Rattle.st_messages.specs.declared.answer.AppAnswer.{AppAnswer}
@@ -20,7 +21,7 @@ use Rattle.st_lemmas.specs.Lists.{Has}
 use Rattle.st_lemmas.proofs.Tables.{has_append}
 use Rattle.st_laws_requests.proofs.Cuts.Keeping.{Answers, asked_of}
 use Rattle.st_laws_requests.proofs.Cuts.Step.{Onces}
-use Rattle.st_laws_names.proofs.Frames.{IsNack, Own, view}
+use Rattle.st_laws_names.proofs.Frames.{IsKeptRefusal, Own, view}
 use Rattle.st_laws_names.proofs.Keeping.{AtStage, Under, Whole, w_finish, w_hear, w_lose, w_passes, w_take}
 
 onces_last : (xs : List Association) (a : Association) → Onces xs → ((b : Association) → Has b xs → b.server.0 ≡ a.server.0 → ⊥) → Onces (xs ++ a ∷ [])
@@ -32,7 +33,7 @@ onces_last (x ∷ xs) a o f = record { first = λ b h e. first b (has_append xs 
     first b (inr (inl q)) e = f x (inl refl) (e ∙ ap (λ (z : Association). z.server.0) q)
     first b (inr (inr i)) e = i
 
-module _ (S : ℕ → Type 0) (Key : ServerId → ℕ → ℕ → ℕ → ℕ → Type 0) (Ended : ℕ → AppAnswer → Type 0) (Refused : ℕ → Type 0)
+module _ (c : ClientId) (S : ℕ → Type 0) (Key : ServerId → ℕ → ℕ → ℕ → ℕ → Type 0) (Ended : ℕ → AppAnswer → Type 0) (Refused : ℕ → Type 0)
     (open_ : (op n m : ℕ) → Ended op (answers.Uncertain n m)) (gone_ : (op : ℕ) (a : AppAnswer) → Refused op → Ended op a) where
   -- what stands at an association, within a step
   pub record At (ops : List Operation) (a : Association) : Type 0 where
@@ -41,6 +42,7 @@ module _ (S : ℕ → Type 0) (Key : ServerId → ℕ → ℕ → ℕ → ℕ �
 
   -- what stands of a step so far, with associations that are yet to come
   pub record Held (rest : List Association) (t : ClientTurn) : Type 0 where
+    pub id_ : t.state.id ≡ c
     pub kind : (o : Operation) → Has o t.state.operations → S o.op → Own o.ask
     pub said : (op : ℕ) (a : AppAnswer) → Has (outputs.Answer op a) t.out → S op → Ended op a
     pub done : (a : Association) → Has a t.state.associations → At t.state.operations a
@@ -104,6 +106,7 @@ module _ (S : ℕ → Type 0) (Key : ServerId → ℕ → ℕ → ℕ → ℕ �
       held : Held rest (leave t u)
       held =
           record {
+            id_ = k.id_;
             kind = λ o h. (w.base.fine o h).kind;
             said = w.base.said;
             done = λ b h. done b (has_append t.state.associations (u.here ∷ []) b h);
@@ -117,12 +120,13 @@ module _ (S : ℕ → Type 0) (Key : ServerId → ℕ → ℕ → ℕ → ℕ �
   unfolding at_each
   each rule ok t k =
       these rule ok t.state.associations (with_associations [] t)
-      (record { kind = k.kind; said = k.said; done = λ a h. absurd h; todo = k.done; once_done = tt; once_todo = k.once_done; apart = λ a b h i e. absurd h })
+      (record { id_ = k.id_; kind = k.kind; said = k.said; done = λ a h. absurd h; todo = k.done; once_done = tt; once_todo = k.once_done; apart = λ a b h i e. absurd h })
 
   -- an answer at once
   at_once : (t : ClientTurn) (op : ℕ) (a : AppAnswer) → (S op → ⊥) → Held [] t → Held [] (cl.answered_at_once t op a)
   at_once t op a n k =
       record {
+        id_ = k.id_;
         kind = k.kind;
         said = λ x b h. says x b (has_append t.out (outputs.Answer op a ∷ []) _ h);
         done = λ b h. record { state = (k.done b h).state; asked = (k.done b h).asked };
@@ -143,12 +147,12 @@ module _ (S : ℕ → Type 0) (Key : ServerId → ℕ → ℕ → ℕ → ℕ �
   -- what is owed of an input: an ask is new, and a reply tells what it says
   pub record Tells (m : Message) : Type 0 where
     pub told : (sv : ServerId) (op : ℕ) (a : AppAnswer) → m.header.from ≡ server_node sv → Key sv m.header.life m.header.epoch m.header.number op → Answers m.body a → Ended op a
-    pub refuses : (sv : ServerId) (op : ℕ) → m.header.from ≡ server_node sv → Key sv m.header.life m.header.epoch m.header.number op → IsNack m.body → Refused op
+    pub refuses : (sv : ServerId) (op : ℕ) → m.header.from ≡ server_node sv → Key sv m.header.life m.header.epoch m.header.number op → IsKeptRefusal m.body → Refused op
 
   abbrev pub InputOk : ClientInput → Type 0
   InputOk inputs.Tick = Unit {0}
   InputOk (inputs.App op ask) = S op → ⊥
-  InputOk (inputs.Control m) = Tells m
+  InputOk (inputs.Control m) = m.header.to ≡ c.0 → Tells m
   InputOk (inputs.Done number result) = Unit {0}
 
   if_held : (b : Bool) (t u : ClientTurn) → Held [] t → Held [] u → Held [] (if b then t else u)
@@ -161,8 +165,11 @@ module _ (S : ℕ → Type 0) (Key : ServerId → ℕ → ℕ → ℕ → ℕ �
   taken t now (inputs.App op ask) g k =
       if_held (cl.is_full t.state) _ _ (at_once t op answers.OpsFull g k)
       (if_held (cl.is_configured t.state (server_of ask)) _ _ (each (cs.only_at (server_of ask) (cl.take_ask op ask)) (λ s B u w. w_take S Key Ended Refused open_ gone_ s B op ask g u w) t k) (at_once t op answers.NoFile g k))
-  taken t now (inputs.Control m) g k =
-      if_held (m.header.to == t.state.id.0) _ _ (each (cr.receive_at now m.header m.body) (λ s B u w. w_hear S Key Ended Refused open_ gone_ s B now m.header m.body g.told g.refuses u w) t k) k
+  taken t now (inputs.Control m) g k = go (m.header.to == t.state.id.0) refl
+    where
+      go : (b : Bool) → (m.header.to == t.state.id.0) ≡ b → Held [] (if b then cr.receive_here t now m.header m.body else t)
+      go true e = let z = g (eqb-true m.header.to t.state.id.0 e ∙ ap (λ (x : ClientId). x.0) k.id_) in each (cr.receive_at now m.header m.body) (λ s B u w. w_hear S Key Ended Refused open_ gone_ s B now m.header m.body z.told z.refuses u w) t k
+      go false e = k
   taken t now (inputs.Done number result) g k = each (cl.finish number result) (λ s B u w. w_finish S Key Ended Refused open_ gone_ s B number result u w) t k
 
   -- the whole step

@@ -1,13 +1,15 @@
 -- A request to cut a file or for a name, of the present life of a client that runs: its server serves it no more, or an operation waits
 -- for its reply, under its own key.
 use Rattle.std.proofs.Common.{◌≡◌, ◌≢◌, ◌⊎◌, ℕ, ◌≤◌, ◌<◌, zero, suc, List, true, Option, Some, None, refl, sym, ap, ◌∙◌, subst, inl, inr, arith}
+use Rattle.std.proofs.lemmas.Bool.{eqb-true}
 use Rattle.st_base.specs.declared.ids.ClientId.{ClientId}
+use Rattle.st_base.specs.declared.ids.GrantNo.{GrantNo}
 use Rattle.st_messages.specs.declared.message.Message.{Message}
 use Rattle.st_rules.specs.declared.client.Request.{Request}
 use Rattle.st_rules.specs.declared.sessions.Session.{Session}
 use Rattle.st_rules.specs.declared.sessions.SessionState.{SessionState}
 use Rattle.st_rules.specs.declared.sessions.SessionState.TheVariants as states
-use Rattle.st_rules.specs.ClientState.{Association, ClientSession, asks_cut_or_name, is_asked}
+use Rattle.st_rules.specs.ClientState.{Association, ClientSession, asks_cut_or_name, is_asked, is_of, server_of}
 use Rattle.st_rules.specs.History.{Traced}
 use Rattle.st_rules.specs.Safety.{Step}
 use Rattle.st_rules.specs.Server.{ServerNode}
@@ -19,7 +21,7 @@ use Rattle.st_protocol.specs.Assoc.{Config}
 use Rattle.st_protocol.proofs.World.{invariant}
 use Rattle.st_protocol.specs.Assoc as net
 use Rattle.st_lemmas.specs.Lists.{Has}
-use Rattle.st_lemmas.proofs.Tables.{same_or_not}
+use Rattle.st_lemmas.proofs.Tables.{and_true, same_or_not}
 use Rattle.st_laws_refine.specs.Views.Halves.{epoch_in}
 use Rattle.st_laws_refine.specs.Server.Stands.{pairs}
 use Rattle.st_laws_leases.specs.Dates.Dates.{messages}
@@ -34,7 +36,8 @@ use Rattle.st_laws_extents.specs.CutRequests.World.{IsServed}
 use Rattle.st_laws_extents.proofs.CutRequests.Law.{Hold}
 use Rattle.st_laws_extents.proofs.CutRequests.Standing.{whole}
 use Rattle.st_laws_cuts.specs.Owners.{AllOwned, Owned, OwnedBy, Owner, view}
-use Rattle.st_laws_cuts.specs.Over.{AllPast}
+use Rattle.st_laws_cuts.specs.Over.{AllPast, MeansTo}
+use Rattle.st_laws_cuts.proofs.Alive.{means_to}
 use Rattle.st_laws_names.specs.Once.{SameKey}
 use Rattle.st_laws_names.proofs.World.{Asked, waits_at}
 
@@ -44,11 +47,12 @@ pub record Row (past : List Step) (w : World) (c : ClientId) (s : ServerId) (m :
   pub same : SameKey asked.server s asked.life_ asked.epoch_ asked.number_ m.header.life m.header.epoch m.header.number
 
 -- a pending operation waits for the reply to such a message
-pub record Pending (past : List Step) (w : World) (c : ClientId) (s : ServerId) (os : List Operation) (m : Message) : Type 0 where
+pub record Pending (past : List Step) (G : ℕ → GrantNo → Type 0) (w : World) (c : ClientId) (s : ServerId) (os : List Operation) (m : Message) : Type 0 where
   pub operation : Operation
   pub there : Has operation os
   pub asked : is_asked s operation ≡ true
   pub means : AsksFor operation.ask m.body
+  pub to : MeansTo G s operation.ask m.body
   pub row : Row past w c s m operation.op
 
 -- a session that reached a number reached those below it
@@ -74,7 +78,7 @@ module _ (k : Config) (count : ℕ) (past : List Step) (t : Traced) (h : Hold k 
     (c : ClientId) (site : ClientSite) (run : Running t.world c.0 site) (a : Association) (i : Has a site.node.state.associations)
     (m : Message) (among : Has m (messages t.world)) (between : Between c a.server m) (life : m.header.life ≡ a.life.0) (pos : 1 ≤ m.header.number) (own : asks_cut_or_name m.body ≡ true) where
   abbrev Result : Type 0
-  Result = AllPast t.world c a.server m ⊎ Pending past t.world c a.server site.node.state.operations m
+  Result = AllPast t.world c a.server m ⊎ Pending past (gifts k count t.world h.all c a.server) t.world c a.server site.node.state.operations m
 
   module _ (x : ClientSession) (sess : a.session ≡ Some x) (n : Numbered x.epoch.0 x.requests m) where
     stands : AsksStand (IsServed t.world c) (gifts k count t.world h.all c) a.server a.life.0 x.epoch.0 x.requests x.cutting x.due
@@ -121,13 +125,15 @@ module _ (k : Config) (count : ℕ) (past : List Step) (t : Traced) (h : Hold k 
         waits : (o : Operation) → Has o site.node.state.operations → is_asked a.server o ≡ true → WaitsAt (Early past c) a.server a.life.0 x.epoch.0 (Some q) o
         waits o j f = subst (λ r. WaitsAt (Early past c) a.server a.life.0 x.epoch.0 r o) asked (subst (λ r. Waits (Early past c) a.server a.life.0 (cuts.view r) o) sess (((h.cuts.clients c site run.there).all run.runs a i).waits o j f))
 
-        pending : Owner a.server x.cutting q.body site.node.state.operations → Pending past t.world c a.server site.node.state.operations m
+        pending : Owner a.server x.cutting q.body site.node.state.operations → Pending past (gifts k count t.world h.all c a.server) t.world c a.server site.node.state.operations m
         pending z =
             record {
               operation = z.operation;
               there = z.there;
               asked = z.asked;
               means = subst (AsksFor z.operation.ask) (sym same) (waits z.operation z.there z.asked).0;
+              to = subst (MeansTo (gifts k count t.world h.all c a.server) a.server z.operation.ask) (sym same)
+                  (means_to k count past t h owned c site run a i m among between life pos own x sess n z.operation.ask q.body (ap (λ n. record { 0 = n }) (eqb-true (server_of z.operation.ask).0 a.server.0 (and_true (is_of a.server z.operation) _ z.asked).0)) (stands.remove q asked) z.means);
               row = record {
                 asked = record { at = t.world; among = inr refl; server = a.server; life_ = a.life.0; epoch_ = x.epoch.0; number_ = q.number; waits = waits_at t.world c site run.there a i z.operation z.there z.asked x sess q asked };
                 same = record { server = refl; life_ = sym life; epoch_ = sym e; number_ = number };
@@ -145,7 +151,7 @@ module _ (k : Config) (count : ℕ) (past : List Step) (t : Traced) (h : Hold k 
         go (inl e) = by e (less m.header.number (first_open x.requests))
         go (inr ne) = inl (earlier ne)
 
-  pub alive : AllPast t.world c a.server m ⊎ Pending past t.world c a.server site.node.state.operations m
+  pub alive : AllPast t.world c a.server m ⊎ Pending past (gifts k count t.world h.all c a.server) t.world c a.server site.node.state.operations m
   alive = by a.session refl
     where
       numbers : Numbers (λ m. Has m (messages t.world)) c a.server a.life.0 (cuts.view a.session)

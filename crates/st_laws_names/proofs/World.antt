@@ -6,22 +6,26 @@ use Rattle.st_base.specs.declared.ids.ClientId.{ClientId}
 use Rattle.st_base.specs.declared.ids.ServerId.{ServerId}
 use Rattle.st_base.specs.declared.ids.NodeId.TheVariants as nodes
 use Rattle.st_messages.specs.declared.answer.AppAnswer.{AppAnswer}
+use Rattle.st_messages.specs.declared.answer.AppAnswer.TheVariants as answers
 use Rattle.st_messages.specs.declared.ask.Ask.{Ask}
 use Rattle.st_messages.specs.declared.ask.Ask.TheVariants as asks
 use Rattle.st_messages.specs.declared.event.Event.{Event}
 use Rattle.st_messages.specs.declared.message.Body.{Body}
 use Rattle.st_messages.specs.declared.message.Body.TheVariants as bodies
 use Rattle.st_messages.specs.declared.message.Message.{Message}
+use Rattle.st_messages.specs.declared.output.Output.TheVariants as outputs
 use Rattle.st_rules.specs.declared.client.ClientInput.{ClientInput}
 use Rattle.st_rules.specs.declared.client.ClientInput.TheVariants as inputs
 use Rattle.st_rules.specs.declared.client.Operation.{Operation}
 use Rattle.st_rules.specs.declared.client.Request.{Request}
 use Rattle.st_rules.specs.declared.client.Stage.{Stage}
 use Rattle.st_rules.specs.declared.client.Stage.TheVariants as stages
+use Rattle.st_rules.specs.declared.observation.Observation.TheVariants as seen
 use Rattle.st_rules.specs.Client as cl
 use Rattle.st_rules.specs.ClientState as cs
-use Rattle.st_rules.specs.ClientState.{Association, ClientSession, ClientState, ClientTurn, client_turn, server_of}
+use Rattle.st_rules.specs.ClientState.{Association, ClientSession, server_of}
 use Rattle.st_rules.specs.Events.{WorldTurn, world_step}
+use Rattle.st_rules.specs.Keys.{server_node}
 use Rattle.st_rules.specs.History.{Traced, traced, traced_after}
 use Rattle.st_base.specs.declared.config.Config as base
 use Rattle.st_rules.specs.Safety.{IsHead, Step, is_event, step}
@@ -36,22 +40,26 @@ use Rattle.st_laws_refine.specs.Server.Pair.{terms_of}
 use Rattle.st_laws_pages.proofs.Disks.Whole.{site_is}
 use Rattle.st_laws_leases.specs.Dates.Dates.{messages}
 use Rattle.st_laws_leases.specs.Sides.Law.{InEveryRun}
+use Rattle.st_laws_leases.proofs.Dates.Known.{has_right}
 use Rattle.st_laws_leases.proofs.Dates.Leaving.{set_cases}
 use Rattle.st_laws_leases.proofs.Sides.Runs.{throughout_events}
-use Rattle.st_laws_requests.specs.Cuts.Cuts.{AsksFor, AssociationOk, ClientOk, Waits, WaitsAt, asks_of}
+use Rattle.st_laws_requests.specs.Cuts.Cuts.{AsksFor, Waits, WaitsAt, asks_of}
 use Rattle.st_laws_requests.specs.Cuts.Cuts as cuts
-use Rattle.st_laws_requests.proofs.Cuts.Keeping.{asked_of, only_own}
+use Rattle.st_laws_requests.proofs.Cuts.Keeping.{Answers, asked_of, only_own}
+use Rattle.st_laws_requests.proofs.Cuts.Seen.{AnswerOf}
 use Rattle.st_laws_requests.proofs.Cuts.Step.{Onces, onces}
 use Rattle.st_laws_requests.proofs.Replies.EachEvent.{ClientTook, SiteAfter}
 use Rattle.st_laws_cuts.proofs.Counts.{one_if, pending, pending_has}
 use Rattle.st_laws_cuts.proofs.Events.{IsEmptied, NextAsk, event_does}
 use Rattle.st_laws_cuts.proofs.Law.{AllHold, begins}
 use Rattle.st_laws_cuts.proofs.Law as laws
+use Rattle.st_laws_extents.proofs.CutRequests.Law.{followed}
 use Rattle.st_laws_cuts.proofs.Words.{asks_longer}
 use Rattle.st_laws_names.specs.Once.{OperationsAskOnce, SameKey, WaitsUnder}
-use Rattle.st_laws_names.proofs.Frames.{Own, view}
+use Rattle.st_promises.specs.CutAsks.{is_uncertain}
+use Rattle.st_laws_names.proofs.Frames.{IsKeptRefusal, Own, clash, view}
 use Rattle.st_laws_names.proofs.Keeping.{AtRequest, AtStage, Under}
-use Rattle.st_laws_names.proofs.Step.{At, Held, Tells, stepped}
+use Rattle.st_laws_names.proofs.Step.{At, Held, stepped}
 use Rattle.st_laws_names.proofs.Step as steps
 
 -- a world behind one of these steps, or this one
@@ -81,11 +89,45 @@ abbrev pub KeyOf : List Step → World → ClientId → ServerId → ℕ → Opt
 KeyOf past w c s life None op = ⊥
 KeyOf past w c s life (Some v) op = KeyAt past w c s life v.0 v.1 op
 
+-- a message of a server to a client, under the key of what was asked
+pub record RepliesUnder (past : List Step) (w : World) (c : ClientId) (op : ℕ) (k : Asked past w c op) (m : Message) : Type 0 where
+  pub from : m.header.from ≡ server_node k.server
+  pub to : m.header.to ≡ c.0
+  pub of_life : m.header.life ≡ k.life_
+  pub of_epoch : m.header.epoch ≡ k.epoch_
+  pub under : m.header.number ≡ k.number_
+
+-- such a message was sent, with this body
+pub record Heard (P : Body → Type 0) (past : List Step) (w : World) (c : ClientId) (op : ℕ) (k : Asked past w c op) : Type 0 where
+  pub message : Message
+  pub among : Has message (messages w)
+  pub replies : RepliesUnder past w c op k message
+  pub says : P message.body
+
+-- a reply tells this answer, or refuses what was asked
+abbrev pub TellsOrRefuses : AppAnswer → Body → Type 0
+TellsOrRefuses a b = Answers b a ⊎ IsKeptRefusal b
+
+-- what asked may be answered so: it is uncertain, or a reply under its key tells the answer, or refuses
+abbrev pub Ended : List Step → World → ClientId → ℕ → AppAnswer → Type 0
+Ended past w c op a = (k : Asked past w c op) → (is_uncertain a ≡ true) ⊎ Heard (TellsOrRefuses a) past w c op k
+
+-- what asked was refused under its key
+abbrev pub Refused : List Step → World → ClientId → ℕ → Type 0
+Refused past w c op = (k : Asked past w c op) → Heard IsKeptRefusal past w c op k
+
+open_ended : (past : List Step) (w : World) (c : ClientId) (op n m : ℕ) → Ended past w c op (answers.Uncertain n m)
+open_ended past w c op n m k = inl refl
+
+refused_ended : (past : List Step) (w : World) (c : ClientId) (op : ℕ) (a : AppAnswer) → Refused past w c op → Ended past w c op a
+refused_ended past w c op a r k = let z = r k in inr (record { message = z.message; among = z.among; replies = z.replies; says = inr z.says })
+
 -- What stands of a client.
 pub record SiteOnce (past : List Step) (w : World) (c : ClientId) (site : ClientSite) : Type 0 where
   pub kind : (o : Operation) → Has o site.node.state.operations → Asked past w c o.op → Own o.ask
   pub sent : (a : Association) → Has a site.node.state.associations → (o : Operation) → Has o site.node.state.operations → Asked past w c o.op → cs.is_of a.server o ≡ true → cs.is_sent o ≡ true
   pub asked : (a : Association) → Has a site.node.state.associations → (o : Operation) → Has o site.node.state.operations → Asked past w c o.op → cs.is_asked a.server o ≡ true → KeyOf past w c a.server a.life.0 (view a.session) o.op
+  pub stuck : (a : Association) → Has a site.node.state.associations → (o : Operation) → Has o site.node.state.operations → cs.is_of a.server o ≡ true → o.stage ≡ stages.Stuck → Refused past w c o.op
 
 -- What stands behind every event.
 pub record OnceHold (past : List Step) (w : World) : Type 0 where
@@ -196,6 +238,10 @@ module _ (k : Config) (count : ℕ) (past : List Step) (t : Traced) (e : Event) 
   waits_below : (c : ClientId) (op : ℕ) (s : ServerId) (life epoch number : ℕ) → WaitsUnder sc.world c s life epoch number op → op ≤ length (asks_of past2 c)
   waits_below c op s life epoch number w = subst (λ m. m ≤ length (asks_of past2 c)) w.is (numbered_below (asks_of past2 c) w.operation.op w.operation.ask ((n.base.cuts.clients c w.site w.at).asked w.operation w.there)).1
 
+  -- what was sent stays sent
+  grown : (m : Message) → Has m (messages t.world) → Has m (messages sc.world)
+  grown m i = n.base.cuts.grown (step t e sc) (has_right past (step t e sc ∷ []) (step t e sc) (inl refl)) m i
+
   known_on : (c : ClientId) (op : ℕ) → Asked past2 sc.world c op → op ≤ length (asks_of past2 c)
   known_on c op a = go (which a.at a.among)
     where
@@ -236,6 +282,10 @@ module _ (k : Config) (count : ℕ) (past : List Step) (t : Traced) (e : Event) 
     earlier : (op : ℕ) → Asked past2 sc.world c op → Asked past t.world c op
     earlier op a = asked_with past2 past sc.world t.world c op a (back op a)
 
+    refused_on : (op : ℕ) → Refused past t.world c op → Refused past2 sc.world c op
+    unfolding earlier asked_with
+    refused_on op r k = let z = r (earlier op k) in record { message = z.message; among = grown z.message z.among; replies = record { from = z.replies.from; to = z.replies.to; of_life = z.replies.of_life; of_epoch = z.replies.of_epoch; under = z.replies.under }; says = z.says }
+
     key_on : (s : ServerId) (life epoch number op : ℕ) → Key past t.world c s life epoch number op → Key past2 sc.world c s life epoch number op
     unfolding earlier asked_with
     key_on s life epoch number op f a = f (earlier op a)
@@ -255,11 +305,12 @@ module _ (k : Config) (count : ℕ) (past : List Step) (t : Traced) (e : Event) 
           kind = λ o i a. z.kind o i (earlier o.op a);
           sent = λ b j o i a. z.sent b j o i (earlier o.op a);
           asked = λ b j o i a q. key_of b.server b.life.0 o.op (view b.session) (z.asked b j o i (earlier o.op a) q);
+          stuck = λ b j o i q g. refused_on o.op (z.stuck b j o i q g);
         }
 
   -- A client without operations.
   none_on : (c : ClientId) (site : ClientSite) → site.node.state.operations ≡ [] → SiteOnce past2 sc.world c site
-  none_on c site e = record { kind = λ o i a. no o i; sent = λ b j o i a q. no o i; asked = λ b j o i a q. no o i }
+  none_on c site e = record { kind = λ o i a. no o i; sent = λ b j o i a q. no o i; asked = λ b j o i a q. no o i; stuck = λ b j o i q g. no o i }
     where
       empty : {A : Type 0} (os : List Operation) → os ≡ [] → (o : Operation) → Has o os → A
       empty [] q o i = absurd i
@@ -274,14 +325,8 @@ module _ (k : Config) (count : ℕ) (past : List Step) (t : Traced) (e : Event) 
     abbrev S : ℕ → Type 0
     S op = Asked past t.world c op
 
-    abbrev EndedAny : ℕ → AppAnswer → Type 0
-    EndedAny op a = Unit {0}
-
-    abbrev RefusedAny : ℕ → Type 0
-    RefusedAny op = Unit {0}
-
     abbrev Ops : Type 0
-    Ops = Held S (Key past t.world c) EndedAny RefusedAny (λ op x y. tt) (λ op a x. tt) [] (ClientTook v c i site)
+    Ops = Held c S (Key past t.world c) (Ended past t.world c) (Refused past t.world c) (open_ended past t.world c) (refused_ended past t.world c) [] (ClientTook v c i site)
 
     site_ok : SiteOnce past t.world c old
     site_ok = d.sites c old was
@@ -295,37 +340,42 @@ module _ (k : Config) (count : ℕ) (past : List Step) (t : Traced) (e : Event) 
     node : NodeHolds t.world.config t.world.clocks t.world.ended c site.node
     node = subst (NodeHolds t.world.config t.world.clocks t.world.ended c) (sym same) (h.base.cuts.fates.lives.lives.sites c old was)
 
-    stage : (g : Stage) (op : ℕ) → cs.is_sent_at g ≡ true → AtStage S (Key past t.world c) EndedAny RefusedAny (λ op x y. tt) (λ op a x. tt) g op
-    stage stages.Unsent op q = cc q
-    stage stages.Sent op q = tt
-    stage stages.Stuck op q = tt
+    stage : (g : Stage) (op : ℕ) → cs.is_sent_at g ≡ true → (g ≡ stages.Stuck → Refused past t.world c op) → AtStage S (Key past t.world c) (Ended past t.world c) (Refused past t.world c) (open_ended past t.world c) (refused_ended past t.world c) g op
+    stage stages.Unsent op q f = cc q
+    stage stages.Sent op q f = tt
+    stage stages.Stuck op q f = f refl
 
-    own_request : (a : Association) → Has a old.node.state.associations → (o : Operation) → Has o old.node.state.operations → cs.is_asked a.server o ≡ true → S o.op → Under S (Key past t.world c) EndedAny RefusedAny (λ op x y. tt) (λ op a x. tt) a.server a.life.0 (view a.session) o.op
+    own_request : (a : Association) → Has a old.node.state.associations → (o : Operation) → Has o old.node.state.operations → cs.is_asked a.server o ≡ true → S o.op → Under S (Key past t.world c) (Ended past t.world c) (Refused past t.world c) (open_ended past t.world c) (refused_ended past t.world c) a.server a.life.0 (view a.session) o.op
     own_request a j o l q z = go a.session (((h.base.cuts.clients c old was).all (ap (λ (m : cl.ClientNode). m.running) (sym same) ∙ run) a j).waits o l q) (site_ok.asked a j o l z q)
       where
-        by : (epoch : ℕ) (r : Option Request) → WaitsAt (cuts.Early past c) a.server a.life.0 epoch r o → KeyAt past t.world c a.server a.life.0 epoch r o.op → AtRequest S (Key past t.world c) EndedAny RefusedAny (λ op x y. tt) (λ op a x. tt) a.server a.life.0 epoch r o.op
+        by : (epoch : ℕ) (r : Option Request) → WaitsAt (cuts.Early past c) a.server a.life.0 epoch r o → KeyAt past t.world c a.server a.life.0 epoch r o.op → AtRequest S (Key past t.world c) (Ended past t.world c) (Refused past t.world c) (open_ended past t.world c) (refused_ended past t.world c) a.server a.life.0 epoch r o.op
         by epoch None w f = absurd w
         by epoch (Some r) w f = (only_own o.ask r.body w.0, f)
 
-        go : (x : Option ClientSession) → Waits (cuts.Early past c) a.server a.life.0 (cuts.view x) o → KeyOf past t.world c a.server a.life.0 (view x) o.op → Under S (Key past t.world c) EndedAny RefusedAny (λ op x y. tt) (λ op a x. tt) a.server a.life.0 (view x) o.op
+        go : (x : Option ClientSession) → Waits (cuts.Early past c) a.server a.life.0 (cuts.view x) o → KeyOf past t.world c a.server a.life.0 (view x) o.op → Under S (Key past t.world c) (Ended past t.world c) (Refused past t.world c) (open_ended past t.world c) (refused_ended past t.world c) a.server a.life.0 (view x) o.op
         go None w f = absurd w
         go (Some x) w f = by x.epoch.0 x.requests.asked w f
 
-    held : Held S (Key past t.world c) EndedAny RefusedAny (λ op x y. tt) (λ op a x. tt) [] (ClientTook v c i site)
-    held = stepped S (Key past t.world c) EndedAny RefusedAny (λ op x y. tt) (λ op a x. tt) site.node.state (clock_of v (nodes.Client c)) i (input i asks_next)
+    held : Held c S (Key past t.world c) (Ended past t.world c) (Refused past t.world c) (open_ended past t.world c) (refused_ended past t.world c) [] (ClientTook v c i site)
+    held = stepped c S (Key past t.world c) (Ended past t.world c) (Refused past t.world c) (open_ended past t.world c) (refused_ended past t.world c) site.node.state (clock_of v (nodes.Client c)) i (input i asks_next)
         (record {
+          id_ = node.id;
           kind = λ o j z. site_ok.kind o (old_op o j) z;
           said = λ op a j. absurd j;
-          done = λ a j. record { state = λ o l z q. stage o.stage o.op (site_ok.sent a (old_at a j) o (old_op o l) z q); asked = λ o l z q. own_request a (old_at a j) o (old_op o l) q z };
+          done = λ a j. record { state = λ o l z q. stage o.stage o.op (site_ok.sent a (old_at a j) o (old_op o l) z q) (λ g. site_ok.stuck a (old_at a j) o (old_op o l) q g); asked = λ o l z q. own_request a (old_at a j) o (old_op o l) q z };
           todo = λ a j. absurd j;
           once_done = onces site.node.state.associations node.once;
           once_todo = tt;
           apart = λ a b j l. absurd l;
         })
       where
-        input : (j : ClientInput) → NextAsk t.world j old site → steps.InputOk S (Key past t.world c) EndedAny RefusedAny (λ op x y. tt) (λ op a x. tt) j
+        heard : {P : Body → Type 0} (m : Message) → Has m (messages t.world) → (sv : ServerId) (op : ℕ) (k : Asked past t.world c op) → m.header.to ≡ c.0 → m.header.from ≡ server_node sv → SameKey k.server sv k.life_ k.epoch_ k.number_ m.header.life m.header.epoch m.header.number → P m.body → Heard P past t.world c op k
+        heard m i sv op k to f key p =
+            record { message = m; among = i; replies = record { from = f ∙ ap server_node (sym key.server); to = to; of_life = sym key.life_; of_epoch = sym key.epoch_; under = sym key.number_ }; says = p }
+
+        input : (j : ClientInput) → NextAsk t.world j old site → steps.InputOk c S (Key past t.world c) (Ended past t.world c) (Refused past t.world c) (open_ended past t.world c) (refused_ended past t.world c) j
         input inputs.Tick g = tt
-        input (inputs.Control m) g = record { told = λ sv op a f key its. tt; refuses = λ sv op f key its. tt }
+        input (inputs.Control m) g = λ to. record { told = λ sv op a f key its k. inr (heard m g sv op k to f (key k) (inl its)); refuses = λ sv op f key its k. heard m g sv op k to f (key k) its }
         input (inputs.Done number result) g = tt
         input (inputs.App op ask) g = λ z. let y = d.known c op z in let q = (h.base.cuts.clients c old was).count in let r = g.0 in omega (arith, y, q, r)
 
@@ -358,7 +408,7 @@ module _ (k : Config) (count : ℕ) (past : List Step) (t : Traced) (e : Event) 
     asked_sent stages.Sent q = refl
     asked_sent stages.Stuck q = refl
 
-    stage_sent : (g : Stage) (op : ℕ) → AtStage S (Key past t.world c) EndedAny RefusedAny (λ op x y. tt) (λ op a x. tt) g op → cs.is_sent_at g ≡ true
+    stage_sent : (g : Stage) (op : ℕ) → AtStage S (Key past t.world c) (Ended past t.world c) (Refused past t.world c) (open_ended past t.world c) (refused_ended past t.world c) g op → cs.is_sent_at g ≡ true
     stage_sent stages.Unsent op q = absurd q
     stage_sent stages.Sent op q = refl
     stage_sent stages.Stuck op q = refl
@@ -384,7 +434,7 @@ module _ (k : Config) (count : ℕ) (past : List Step) (t : Traced) (e : Event) 
     unfolding before asked_with
     asked_on b j o l a q = go b.session refl (waits_of b j o l q) (λ z. (held.done b j).asked o l z q)
       where
-        at_request : (x : ClientSession) → b.session ≡ Some x → (r : Option Request) → x.requests.asked ≡ r → WaitsAt (cuts.Early past2 c) b.server b.life.0 x.epoch.0 r o → (S o.op → AtRequest S (Key past t.world c) EndedAny RefusedAny (λ op x y. tt) (λ op a x. tt) b.server b.life.0 x.epoch.0 r o.op) →
+        at_request : (x : ClientSession) → b.session ≡ Some x → (r : Option Request) → x.requests.asked ≡ r → WaitsAt (cuts.Early past2 c) b.server b.life.0 x.epoch.0 r o → (S o.op → AtRequest S (Key past t.world c) (Ended past t.world c) (Refused past t.world c) (open_ended past t.world c) (refused_ended past t.world c) b.server b.life.0 x.epoch.0 r o.op) →
             KeyAt past2 sc.world c b.server b.life.0 x.epoch.0 r o.op
         at_request x e None f w g = w
         at_request x e (Some r) f w g = λ k. by k (split o.op k)
@@ -393,12 +443,33 @@ module _ (k : Config) (count : ℕ) (past : List Step) (t : Traced) (e : Event) 
             by k (inl y) = (g (before o.op k y)).1 (before o.op k y)
             by k (inr y) = one_key sc.world moment c k.server b.server k.life_ k.epoch_ k.number_ b.life.0 x.epoch.0 r.number o.op y (waits_at sc.world c (SiteAfter v c i site) at b j o l q x e r f)
 
-        go : (x : Option ClientSession) → b.session ≡ x → Waits (cuts.Early past2 c) b.server b.life.0 (cuts.view x) o → (S o.op → Under S (Key past t.world c) EndedAny RefusedAny (λ op x y. tt) (λ op a x. tt) b.server b.life.0 (view x) o.op) → KeyOf past2 sc.world c b.server b.life.0 (view x) o.op
+        go : (x : Option ClientSession) → b.session ≡ x → Waits (cuts.Early past2 c) b.server b.life.0 (cuts.view x) o → (S o.op → Under S (Key past t.world c) (Ended past t.world c) (Refused past t.world c) (open_ended past t.world c) (refused_ended past t.world c) b.server b.life.0 (view x) o.op) → KeyOf past2 sc.world c b.server b.life.0 (view x) o.op
         go None e w g = w
         go (Some x) e w g = at_request x e x.requests.asked refl w g
 
+    stuck_on : (b : Association) → Has b (SiteAfter v c i site).node.state.associations → (o : Operation) → Has o (SiteAfter v c i site).node.state.operations → cs.is_of b.server o ≡ true → o.stage ≡ stages.Stuck → Refused past2 sc.world c o.op
+    unfolding before asked_with
+    stuck_on b j o l of g k = go (split o.op k)
+      where
+        was_refused : (g : Stage) (op : ℕ) → g ≡ stages.Stuck → AtStage S (Key past t.world c) (Ended past t.world c) (Refused past t.world c) (open_ended past t.world c) (refused_ended past t.world c) g op → Refused past t.world c op
+        was_refused stages.Unsent op q r = cc q
+        was_refused stages.Sent op q r = cc q
+        was_refused stages.Stuck op q r = r
+
+        go : (Worlds past t.world k.at) ⊎ WaitsUnder sc.world c k.server k.life_ k.epoch_ k.number_ o.op → Heard IsKeptRefusal past2 sc.world c o.op k
+        go (inl q) =
+            let z = was_refused o.stage o.op g ((held.done b j).state o l (before o.op k q) of) (before o.op k q) in
+            record { message = z.message; among = grown z.message z.among; replies = record { from = z.replies.from; to = z.replies.to; of_life = z.replies.of_life; of_epoch = z.replies.of_epoch; under = z.replies.under }; says = z.says }
+        go (inr w) =
+            let z = this_one o l k.server k.life_ k.epoch_ k.number_ w in
+            clash (asked_of k.server o (subst (λ r. cs.is_asked k.server r ≡ true) z.0 w.asked)).1 (ap cs.is_asked_at g)
+
     takes : SiteOnce past2 sc.world c (SiteAfter v c i site)
-    takes = record { kind = kind_on; sent = sent_on; asked = asked_on }
+    takes = record { kind = kind_on; sent = sent_on; asked = asked_on; stuck = stuck_on }
+
+    -- what it answers
+    said : (op : ℕ) (a : AppAnswer) → Has (outputs.Answer op a) (ClientTook v c i site).out → Ended past t.world c op a
+    said op a j k = held.said op a j k k
 
   -- Every event.
   pub once_on : OnceHold past2 sc.world
@@ -430,6 +501,22 @@ module _ (k : Config) (count : ℕ) (past : List Step) (t : Traced) (e : Event) 
               go : ((y.0 ≡ c.0) × (r ≡ new)) ⊎ ((y.0 ≢ c.0) × (site_of t.world y ≡ Some r)) → SiteOnce past2 sc.world y r
               go (inl q) = none_on y r (ap (λ (u : ClientSite). u.node.state.operations) q.1 ∙ z.operations)
               go (inr q) = stays y r q.1 at
+
+  -- Each answer to what asked before the event is uncertain, or of a reply under its key.
+  pub answered : (c : ClientId) (op : ℕ) (a : AppAnswer) → Has (seen.Answered c op a) sc.seen → Ended past t.world c op a
+  answered = event_does t.world (λ s m at. (h.base.cuts.servers s m at).id) Result
+      (λ u cs ms silent q c op a j. absurd (silent (seen.Answered c op a) (subst (λ (w : WorldTurn). Has (seen.Answered c op a) w.seen) (sym q) j)))
+      (λ v cs c i site old same asks_next run was u l ans q d op a j. took v cs c i site old same asks_next run was (sym (ap (λ (w : WorldTurn). w.world.clients) q) ∙ l.clients ∙ ap (λ w. with_numbered c.0 (SiteAfter v c i site) w) cs) d op a (ans d op a (subst (λ (w : WorldTurn). Has (seen.Answered d op a) w.seen) (sym q) j)))
+      (λ c old new was z u cs ms silent q d op a j. absurd (silent (seen.Answered d op a) (subst (λ (w : WorldTurn). Has (seen.Answered d op a) w.seen) (sym q) j))) e sc taken refl
+    where
+      Result : WorldTurn → Type 0
+      Result u = u ≡ sc → (c : ClientId) (op : ℕ) (a : AppAnswer) → Has (seen.Answered c op a) sc.seen → Ended past t.world c op a
+
+      took : (v : World) → v.clients ≡ t.world.clients → (c : ClientId) (i : ClientInput) (site old : ClientSite) → site.node ≡ old.node → NextAsk t.world i old site → site.node.running ≡ true → site_of t.world c ≡ Some old → sc.world.clients ≡ with_numbered c.0 (SiteAfter v c i site) t.world.clients →
+          (d : ClientId) (op : ℕ) (a : AppAnswer) → Has (seen.Answered d op a) [] ⊎ AnswerOf c d op a (ClientTook v c i site).out → Ended past t.world d op a
+      took v cs c i site old same asks_next run was clients d op a (inl j) = absurd j
+      took v cs c i site old same asks_next run was clients d op a (inr z) =
+          subst (λ y. Ended past t.world y op a) (sym z.client) (said v cs c i site old same asks_next run was (ap (λ w. numbered w c.0) clients ∙ numbered_own t.world.clients c.0 (SiteAfter v c i site) old was) op a z.answer)
 
 -- The law.
 
@@ -464,13 +551,19 @@ pub record NamesHold (k : Config) (count : ℕ) (past : List Step) (t : Traced) 
   pub once : OnceHold past t.world
 
 pub one : (k : Config) (count : ℕ) (past : List Step) (t : Traced) (e : Event) (sc : WorldTurn) → is_event count e ≡ true → NamesHold k count past t → world_step t.world e ≡ Ok sc → OperationsAskOnce past (step t e sc) × NamesHold k count (past ++ step t e sc ∷ []) (traced_after e t sc)
-one k count past t e sc r h taken = (ask_once past (step t e sc) next, record { all = n; once = next })
+one k count past t e sc r h taken = (ask_once past (step t e sc) next, record { all = (laws.holds_on k count past t e sc r h.all taken).0; once = next })
   where
     n : AllHold k count (past ++ step t e sc ∷ []) (traced_after e t sc)
-    n = (laws.one k count past t e sc r h.all taken).1
+    n = (laws.holds_on k count past t e sc r h.all taken).0
 
     next : OnceHold (past ++ step t e sc ∷ []) sc.world
     next = once_on k count past t e sc h.all n taken h.once
+
+-- what is known of messages behind an event is what followed from before it
+pub same_ghosts : (k : Config) (count : ℕ) (past : List Step) (t : Traced) (e : Event) (sc : WorldTurn) (r : is_event count e ≡ true) (h : NamesHold k count past t) (taken : world_step t.world e ≡ Ok sc) →
+    (one k count past t e sc r h taken).1.all.base.all ≡ (followed k count past t e sc r h.all.base taken).after
+unfolding one
+same_ghosts k count past t e sc r h taken = (laws.holds_on k count past t e sc r h.all taken).1
 
 -- The start: nobody waits, and nothing was sent.
 pub none_waits : (k : base.Config) (clients servers disks blocks form : ℕ) (c : ClientId) (op : ℕ) (s : ServerId) (life epoch number : ℕ) → WaitsUnder (fresh_world k clients servers disks blocks form) c s life epoch number op → ⊥
@@ -500,7 +593,7 @@ names_begin k clients servers disks blocks form head = record { all = begins k c
     no_operation c site e o i = empty site.node.state.operations (ap (λ (y : ClientSite). y.node.state.operations) (site_is k clients servers c.0 site e).0) o i
 
     sites : (c : ClientId) (site : ClientSite) → site_of w c ≡ Some site → SiteOnce [] w c site
-    sites c site e = record { kind = λ o i a. absurd (no_operation c site e o i); sent = λ b j o i a q. absurd (no_operation c site e o i); asked = λ b j o i a q. absurd (no_operation c site e o i) }
+    sites c site e = record { kind = λ o i a. absurd (no_operation c site e o i); sent = λ b j o i a q. absurd (no_operation c site e o i); asked = λ b j o i a q. absurd (no_operation c site e o i); stuck = λ b j o i q g. absurd (no_operation c site e o i) }
 
     waits_none : (c : ClientId) (op : ℕ) (s : ServerId) (life epoch number : ℕ) → WaitsUnder w c s life epoch number op → ⊥
     waits_none c op s life epoch number z = no_operation c z.site z.at z.operation z.there
