@@ -10,3 +10,7 @@ pub mod Changes
 pub mod Keys
 pub mod Replies
 pub mod Facts
+pub mod CutReplies
+pub mod Giving
+pub mod OwnCuts
+pub mod Refusals

@@ -1,3 +1,5 @@
 pub mod Once
 pub mod Changes
 pub mod Keys
+pub mod Given
+pub mod Refusals

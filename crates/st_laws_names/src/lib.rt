@@ -5,6 +5,7 @@ ghost use Rattle.st_laws_leases.specs.Sides.Law.{InEveryRun};
 ghost use Rattle.st_laws_names.specs.Changes.{AsksChangeOnce};
 ghost use Rattle.st_laws_names.specs.Keys.{RepliesAreOfTheirEvents};
 ghost use Rattle.st_laws_names.specs.Once.{KeysHaveOneOperation, OperationsAskOnce};
+ghost use Rattle.st_laws_names.specs.Refusals.{RefusalsChangeNothing};
 
 /// In every run operations ask once: where a client waits for the reply to the request of an operation, that request never had another key, which is
 /// a server, a life, an epoch and a number.
@@ -27,4 +28,10 @@ pub fn keys_have_one_operation()
 /// its key was delivered and served, unless that request is a reassertion.
 pub fn replies_are_of_their_events()
     ensures { InEveryRun RepliesAreOfTheirEvents }
+{}
+
+/// In every run refusals change nothing: to each event that cut a file an ask can be given that asked for it, each ask to one event at most, and no
+/// refusal answers it.
+pub fn refusals_change_nothing()
+    ensures { InEveryRun RefusalsChangeNothing }
 {}
