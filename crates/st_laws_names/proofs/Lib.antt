@@ -14,3 +14,7 @@ pub mod CutReplies
 pub mod Giving
 pub mod OwnCuts
 pub mod Refusals
+pub mod NamedInodes
+pub mod OwnersGiven
+pub mod Owners
+pub mod OwnersLaw

@@ -3,3 +3,4 @@ pub mod Changes
 pub mod Keys
 pub mod Given
 pub mod Refusals
+pub mod Owners

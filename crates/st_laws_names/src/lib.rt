@@ -6,6 +6,7 @@ ghost use Rattle.st_laws_names.specs.Changes.{AsksChangeOnce};
 ghost use Rattle.st_laws_names.specs.Keys.{RepliesAreOfTheirEvents};
 ghost use Rattle.st_laws_names.specs.Once.{KeysHaveOneOperation, OperationsAskOnce};
 ghost use Rattle.st_laws_names.specs.Refusals.{RefusalsChangeNothing};
+ghost use Rattle.st_promises.specs.NamesOnce.{NamesChangeOnce};
 
 /// In every run operations ask once: where a client waits for the reply to the request of an operation, that request never had another key, which is
 /// a server, a life, an epoch and a number.
@@ -28,6 +29,13 @@ pub fn keys_have_one_operation()
 /// its key was delivered and served, unless that request is a reassertion.
 pub fn replies_are_of_their_events()
     ensures { InEveryRun RepliesAreOfTheirEvents }
+{}
+
+/// In every run names change once: to each event that changed the names of a server one ask can be given that did it, each ask to one event at most,
+/// and where this ask was answered, it was with what names said then, or with `uncertain`. Each create, mkdir, remove or rename that was answered with
+/// an inode is given its event.
+pub fn names_change_once()
+    ensures { InEveryRun NamesChangeOnce }
 {}
 
 /// In every run refusals change nothing: to each event that cut a file an ask can be given that asked for it, each ask to one event at most, and no
