@@ -16,7 +16,7 @@ use Rattle.st_rules.specs.Safety.{Promise, Step, is_after_ask}
 use Rattle.st_promises.specs.CutAsks.{is_uncertain, numbered_asks, settles_in}
 use Rattle.st_promises.specs.NameAnswers.{becomes_at, changes_in, says_in}
 
--- To each event that changed the names of a server an ask can be given, each ask once. It is looked at in random runs; no law shows it.
+-- To each event that changed the names of a server an ask can be given, each ask once.
 
 -- an ask was given before
 abbrev pub is_given : ClientId → ℕ → ClientId × ℕ → Bool

@@ -39,6 +39,7 @@ use Rattle.st_promises.specs.Held.{DisksHoldWhatIsHard, held_open}
 use Rattle.st_promises.specs.Losses.{LossesAreTold, losses_open}
 use Rattle.st_promises.specs.NameAnswers.{NamesAnswerTruly, name_answers_open}
 use Rattle.st_promises.specs.NameChanges.{NamesChangeAsAsked}
+use Rattle.st_promises.specs.NamesOnce.{NamesChangeOnce, names_once_open}
 
 -- Safe: every promise is kept at every step of the run.
 pub record IsSafe (xs : List Step) : Type 0 where
@@ -68,6 +69,7 @@ pub record IsSafe (xs : List Step) : Type 0 where
   pub acknowledged : Throughout CutsAreAcknowledged [] xs
   pub named : Throughout NamesAnswerTruly [] xs
   pub renamed : Throughout NamesChangeAsAsked [] xs
+  pub changed : Throughout NamesChangeOnce [] xs
 
 -- a run from the world of a head
 abbrev pub IsSafeRun : World → List Event → Type 0
@@ -89,5 +91,5 @@ pub record IsAllPromised : Type 0 where
 
 -- opens all that the promises of this crate are made of
 unfoldable pub promises_open : ⊤
-unfolding counts_open held_open losses_open name_answers_open
+unfolding counts_open held_open losses_open name_answers_open names_once_open
 promises_open = tt
