@@ -4,3 +4,4 @@ pub mod InMemory
 pub mod Prefixes
 pub mod Refusals
 pub mod Names
+pub mod OverStream
