@@ -8,3 +8,4 @@ pub mod Room
 pub mod Streams
 pub mod Turns
 pub mod Whole
+pub mod Stops

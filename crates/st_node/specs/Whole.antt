@@ -1,5 +1,5 @@
 -- A node over messages, one after another, as a stream of their frames gives them.
-use Rattle.std.specs.Prelude.{◌≡◌, ◌≤◌, List, [], ◌∷◌, ◌++◌, length, Ok}
+use Rattle.std.specs.Prelude.{◌≡◌, ◌≤◌, ℕ, List, [], ◌∷◌, ◌++◌, length, Ok}
 use Rattle.std.specs.List.{flat_map, AllByRecursion}
 use Rattle.st_base.specs.declared.ids.Stamp.{Stamp}
 use Rattle.st_clock.specs.Readings.{after}
@@ -21,3 +21,7 @@ handle_all (m ∷ ms) n readings = then_others (handle n (reading readings) m) (
 abbrev pub RunsThrough : Node → List Stamp → List Message → Type 0
 RunsThrough n readings ms = AllByRecursion IsFramed ms → length ms ≤ MOST →
     node_run n readings (flat_map message_frame ms) ≡ record { node = (handle_all ms n readings).node; out = (handle_all ms n readings).out; stop = Ok tt }
+
+-- Over these bytes the runs of all nodes, at all readings of a clock, stop for the same reason at the same offset.
+abbrev pub StopsByBytes : List ℕ → Type 0
+StopsByBytes bytes = (n m : Node) (readings others : List Stamp) → (node_run n readings bytes).stop ≡ (node_run m others bytes).stop
