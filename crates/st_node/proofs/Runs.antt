@@ -10,7 +10,7 @@ use Rattle.st_node.specs.declared.node.Node.{Node}
 use Rattle.st_node.specs.declared.fault.NodeFault.{NodeFault}
 use Rattle.st_node.specs.declared.fault.NodeFault.TheVariants as faults
 use Rattle.st_node.specs.Runs.{Run, handle, run, go_on, then_rest, behind, ended, end_at, full_at, reading}
-use Rattle.st_node.specs.Serving.{AreReadings, Carries, GoesOn, IsIdle, OfReadings, StopsAt}
+use Rattle.st_node.specs.Service.{AreReadings, Carries, GoesOn, IsIdle, OfReadings, StopsAt}
 use Rattle.st_node.proofs.Reading.{next_more}
 
 -- ---- pieces

@@ -11,7 +11,7 @@ use Rattle.st_node.specs.declared.node.Node.{Node}
 use Rattle.st_node.specs.declared.fault.NodeFault.{NodeFault}
 use Rattle.st_node.specs.declared.fault.NodeFault.TheVariants as faults
 use Rattle.st_node.specs.Runs.{Run, MOST, behind, end_at, node_run, run}
-use Rattle.st_node.specs.Serving.{Breaks, Carries, GoesOn, IsCutOff, IsCutShort, IsFront, IsHalted, IsHandled, IsIdle, IsTorn, OfReadings, Pieces, Serves, StopsAt, room_for}
+use Rattle.st_node.specs.Service.{Breaks, Carries, GoesOn, IsCutOff, IsCutShort, IsFront, IsHalted, IsHandled, IsIdle, IsTorn, OfReadings, Pieces, Serves, StopsAt, room_for}
 use Rattle.st_node.proofs.Reading.{part_few}
 use Rattle.st_node.proofs.Runs.{behind_both, fed_nothing, fed_twice, from_both, from_first, idle_ends, some_readings}
 

@@ -9,7 +9,7 @@ use Rattle.st_node.specs.declared.node.Node.{Node}
 use Rattle.st_node.specs.declared.fault.NodeFault.{NodeFault}
 use Rattle.st_node.specs.declared.fault.NodeFault.TheVariants as faults
 use Rattle.st_node.specs.Runs.{behind, ended, run}
-use Rattle.st_node.specs.Serving.{Carries, GoesOn, HasCauses, IsIdle, IsTorn, OfReadings, OnStop, Pieces, StopsAt, room_for}
+use Rattle.st_node.specs.Service.{Carries, GoesOn, HasCauses, IsIdle, IsTorn, OfReadings, OnStop, Pieces, StopsAt, room_for}
 use Rattle.st_link.specs.Prefixes.{AppendsPrefix}
 use Rattle.std.specs.Io.KnownBytes.{Appends}
 use Rattle.st_node.proofs.Reading.{next_few, none_stays}

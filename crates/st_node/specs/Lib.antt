@@ -1,4 +1,4 @@
 pub mod Runs
 pub mod Whole
-pub mod Serving
+pub mod Service
 pub mod Room

@@ -7,11 +7,11 @@ mod frames;
 mod law;
 mod node;
 mod server;
-mod serving;
+mod service;
 
 pub use client::{input_of as client_input_of, put_outputs as put_client_outputs};
 pub use fault::NodeFault;
 pub use law::{bytes_tell_why_a_run_stops, whole_frames_run_through};
 pub use node::Node;
 pub use server::{input_of as server_input_of, put_outputs as put_server_outputs};
-pub use serving::serve;
+pub use service::serve;

@@ -68,6 +68,7 @@ fn step(
     ensures node { OnOk result (nodes.Server server.new ≡ (runs.server_stepped server.old (machine.node_step server.old now input)).node) }
     ensures out { OnOk result (out.new.items ≡ out.old.items ++ (runs.server_stepped server.old (machine.node_step server.old now input)).out) }
 {
+    // For its clause `sound`: that a step grows the counters little holds of a server whose parts are sound.
     let _running = server.running();
     match server.step(now, input) {
         Ok(outputs) => put_outputs(out, outputs.as_slice()),

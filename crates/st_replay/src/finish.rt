@@ -5,8 +5,8 @@ ghost use Rattle.st_replay.specs.Ends.{HasCauses, Reports};
 ghost use Rattle.st_replay.specs.Playing.{IsHere, from_here};
 ghost use Rattle.st_replay.specs.Streaming.{one};
 
-use crate::ending::conclude;
 use crate::fault::ReplayFault;
+use crate::last_lines::conclude;
 use crate::player::Player;
 use crate::sinks::{flush, refuse};
 use st_link::Sink;

@@ -4,10 +4,10 @@
 
 ghost use Rattle.st_runs.specs.Safe.{EveryScheduleRunsSafely};
 
-mod ending;
 mod fault;
 mod feed;
 mod finish;
+mod last_lines;
 mod lines;
 mod play;
 mod player;

@@ -4,8 +4,8 @@ ghost use Rattle.st_link.specs.Causes.{HasCause};
 ghost use Rattle.st_link.specs.Prefixes.{AppendsPrefix};
 ghost use Rattle.st_replay.specs.Streaming.{Refuses, RefusalCauses, RefusesLine};
 
-use crate::ending::put_stopped;
 use crate::fault::{ReplayFault, Stop};
+use crate::last_lines::put_stopped;
 use st_link::{Failed, Sink, put_all};
 use st_runs::LineRefusal;
 

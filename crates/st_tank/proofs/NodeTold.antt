@@ -16,7 +16,7 @@ use Rattle.st_node.specs.declared.node.Node.{Node}
 use Rattle.st_node.specs.declared.fault.NodeFault.{NodeFault}
 use Rattle.st_node.specs.declared.fault.NodeFault.TheVariants as faults
 use Rattle.st_node.specs.Runs.{Run, node_run}
-use Rattle.st_node.specs.Serving.{HasCauses, OfReadings, Serves}
+use Rattle.st_node.specs.Service.{HasCauses, OfReadings, Serves}
 use Rattle.st_node.specs.Whole.{RunsThrough, handle_all}
 use Rattle.st_node.proofs.Runs.{each_reading, map_readings}
 use Rattle.st_tank.specs.NodeEnds.{AttachesBy, Completes, IsAttached, IsTold, MayTell, Writes, end_status, end_text}

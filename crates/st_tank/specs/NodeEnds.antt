@@ -15,7 +15,7 @@ use Rattle.st_rules.specs.Report.{field}
 use Rattle.st_node.specs.declared.fault.NodeFault.{NodeFault}
 use Rattle.st_node.specs.declared.fault.NodeFault.TheVariants as faults
 use Rattle.st_node.specs.Runs.{MOST, Run}
-use Rattle.st_node.specs.Serving.{HasCauses, OfReadings}
+use Rattle.st_node.specs.Service.{HasCauses, OfReadings}
 use Rattle.st_node.specs.Whole.{handle_all}
 use Rattle.st_tank.specs.NodeWords.{started, started_run}
 

@@ -3,7 +3,7 @@ ghost use Rattle.std.specs.Prelude.{◌≡◌, ◌≤◌, ◌⊎◌, IfSome, IfO
 ghost use Rattle.st_link.specs.Causes.{Rose};
 ghost use Rattle.st_node.specs.Room.{HasRoomFor};
 ghost use Rattle.st_node.specs.Runs.{MOST};
-ghost use Rattle.st_node.specs.Serving.{HasCauses, OfReadings};
+ghost use Rattle.st_node.specs.Service.{HasCauses, OfReadings};
 ghost use Rattle.st_tank.specs.NodeEnds.{AttachesBy, Completes, IsAttached, IsServed, Writes};
 ghost use Rattle.st_tank.specs.NodeKnown.{IsKnown};
 ghost use Rattle.st_tank.specs.NodeWords as words_of;

@@ -4,13 +4,13 @@
 #[cfg(test)]
 mod drip;
 #[cfg(test)]
-mod failing;
+mod failed_calls;
 #[cfg(test)]
 mod frames;
 #[cfg(test)]
 mod link;
 #[cfg(test)]
-mod running;
+mod runs;
 #[cfg(test)]
 mod takes;
 #[cfg(test)]

@@ -1,5 +1,5 @@
 use Rattle.std.proofs.Common.{subst}
-use Rattle.st_node.specs.Serving.{HasCauses}
+use Rattle.st_node.specs.Service.{HasCauses}
 use Rattle.st_tank.specs.NodeWords.{started_run}
 use Rattle.st_tank.proofs.NodeTold.{attached_at, attached_writes, unattached_writes}
 use Rattle.st_tank.proofs.node_service.attach_and_serve.Goals as goal

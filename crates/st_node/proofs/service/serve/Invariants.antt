@@ -1,9 +1,9 @@
 -- What was taken was handled, and what came of it was written.
 use Rattle.std.proofs.Common.{◌≡◌, ◌-◌, length}
 use Rattle.st_node.specs.Room.{HasRoomFor}
-use Rattle.st_node.specs.Serving.{room_for}
+use Rattle.st_node.specs.Service.{room_for}
 use Rattle.st_node.proofs.Streams.{Streams}
-use Rattle.st_node.proofs.serving.serve.Given as goal
+use Rattle.st_node.proofs.service.serve.Given as goal
 
 abbrev pub invariant-pieces : goal.invariant-pieces
 invariant-pieces g l = record {

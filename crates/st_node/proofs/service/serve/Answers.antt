@@ -1,9 +1,9 @@
 use Rattle.std.proofs.Common.{rules, ◌≡◌, ◌<◌, ◌≤◌, ◌+◌, ◌∙◌, ap, sym, subst, refl, take, length, arith}
 use Rattle.std.specs.Io.KnownBytes.{Consumes}
 use Rattle.st_node.specs.Runs.{MOST}
-use Rattle.st_node.specs.Serving.{room_for}
+use Rattle.st_node.specs.Service.{room_for}
 use Rattle.st_node.proofs.Streams.{Streams, at_end, begun, cut_off, end_breaks, piece_breaks, piece_more, piece_serves, room_falls, so_far, written_as}
-use Rattle.st_node.proofs.serving.serve.Goals as goal
+use Rattle.st_node.proofs.service.serve.Goals as goal
 
 pub pieces-init : goal.pieces-init
 unfolding MOST

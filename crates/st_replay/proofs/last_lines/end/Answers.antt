@@ -1,5 +1,5 @@
 use Rattle.st_replay.proofs.LastLines.{here_ends, ended_whole}
-use Rattle.st_replay.proofs.ending.end.Goals as goal
+use Rattle.st_replay.proofs.last_lines.end.Goals as goal
 
 pub returns-in-Err-clause-stops : goal.returns-in-Err-clause-stops
 returns-in-Err-clause-stops c =

@@ -3,7 +3,7 @@ use Rattle.st_codec.specs.Frames.{next}
 use Rattle.st_node.specs.Room.{HasRoomFor}
 use Rattle.st_node.proofs.Runs.{handled_goes}
 use Rattle.st_node.proofs.Turns.{frame_few, given_err, given_none, given_ok, nothing_few, nothing_goes, nothing_idle, stop_frame, stop_full}
-use Rattle.st_node.proofs.serving.handle_next.Goals as goal
+use Rattle.st_node.proofs.service.handle_next.Goals as goal
 
 pub returns-then-held-gt0-clause-stops : goal.returns-then-held-gt0-clause-stops
 returns-then-held-gt0-clause-stops g c =

@@ -2,7 +2,7 @@ use Rattle.std.proofs.Common.{subst}
 use Rattle.st_link.specs.Prefixes.{AppendsPrefix}
 use Rattle.st_codec.specs.Frames.{fed}
 use Rattle.st_node.proofs.Turns.{piece_torn}
-use Rattle.st_node.proofs.serving.serve_piece.Goals as goal
+use Rattle.st_node.proofs.service.serve_piece.Goals as goal
 
 pub returns-clause-piece : goal.returns-clause-piece
 returns-clause-piece g c =

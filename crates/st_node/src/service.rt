@@ -5,7 +5,7 @@ ghost use Rattle.st_codec.specs.Frames.{fed};
 ghost use Rattle.st_node.specs.declared.fault.NodeFault.TheVariants.{Memory};
 ghost use Rattle.st_node.specs.Room.{HasRoomFor};
 ghost use Rattle.st_node.specs.Runs.{MOST, end_at, node_run};
-ghost use Rattle.st_node.specs.Serving.{Breaks, Carries, GoesOn, HasCauses, IsIdle, OfReadings, OnStop, Pieces, Serves, StopsAt, room_for};
+ghost use Rattle.st_node.specs.Service.{Breaks, Carries, GoesOn, HasCauses, IsIdle, OfReadings, OnStop, Pieces, Serves, StopsAt, room_for};
 
 use crate::fault::NodeFault;
 use crate::node::Node;

@@ -1,8 +1,8 @@
 -- The frames so far were handled.
 use Rattle.std.proofs.Common.{◌≤◌, ◌+◌, length}
 use Rattle.st_node.specs.Room.{HasRoomFor}
-use Rattle.st_node.specs.Serving.{Carries, GoesOn, room_for}
-use Rattle.st_node.proofs.serving.handle_frames.Given as goal
+use Rattle.st_node.specs.Service.{Carries, GoesOn, room_for}
+use Rattle.st_node.proofs.service.handle_frames.Given as goal
 
 abbrev pub invariant-frames : goal.invariant-frames
 invariant-frames g l = record {

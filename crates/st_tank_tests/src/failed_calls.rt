@@ -1,6 +1,6 @@
 // The program over memory, where calls of the source, the sink, the link and the error sink fail.
 use crate::frames::{GREETING, WELCOME};
-use crate::running::{joined, still, words_of};
+use crate::runs::{joined, still, words_of};
 use crate::texts::{HEAD, ONE_SIDED_CUT, ONE_SIDED_CUT_REPORT, USAGE, WRITTEN, WRITTEN_REPORT};
 use st_link::{MemoryLink, MemorySink, MemorySource};
 use st_tank::run;

@@ -1,5 +1,5 @@
 use Rattle.st_replay.proofs.LastLines.{concluded}
-use Rattle.st_replay.proofs.ending.conclude.Goals as goal
+use Rattle.st_replay.proofs.last_lines.conclude.Goals as goal
 
 pub returns-in-Ok-clause-whole : goal.returns-in-Ok-clause-whole
 returns-in-Ok-clause-whole c =
