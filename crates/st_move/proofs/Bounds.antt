@@ -11,15 +11,15 @@ use Rattle.st_lemmas.proofs.Tables.{and_both, has_append, has_map}
 use Rattle.st_move.specs.declared.record.ContainerRecord.{ContainerRecord}
 use Rattle.st_move.specs.declared.record.MoveMessage.{MoveMessage}
 use Rattle.st_move.specs.declared.record.MoveMessage.TheVariants.{Image, Taken}
-use Rattle.st_move.specs.declared.record.Standing.{Standing}
-use Rattle.st_move.specs.declared.record.Standing.TheVariants.{Holding, Leaving, Sent, Gone}
+use Rattle.st_move.specs.declared.record.ContainerState.{ContainerState}
+use Rattle.st_move.specs.declared.record.ContainerState.TheVariants.{Holding, Leaving, Sent, Gone}
 use Rattle.st_move.specs.declared.refusal.MoveRefusal.{MoveRefusal}
 use Rattle.st_move.specs.declared.world.MoveEvent.{MoveEvent}
 use Rattle.st_move.specs.declared.world.MoveEvent.TheVariants as events
 use Rattle.st_move.specs.declared.world.SentMove.{SentMove}
 use Rattle.st_move.specs.declared.site.MoveSite.{MoveSite}
 use Rattle.st_move.specs.declared.world.MoveAnswer.TheVariants.{Done, LostMessage, NoLock}
-use Rattle.st_move.specs.Containers.{after_order, after_put, after_take, after_tick, answer_to, answered, beginning, beginnings, begins_at, container_of, gone_by, has_next, held, images, is_below, leaves, listed, recorded, sent_from, sent_if, sent_on, taken_at, taken_in, with_image, with_records, with_standing, with_updates}
+use Rattle.st_move.specs.Containers.{after_order, after_put, after_take, after_tick, answer_to, answered, beginning, beginnings, begins_at, container_of, gone_by, has_next, held, images, is_below, leaves, listed, recorded, sent_from, sent_if, sent_on, taken_at, taken_in, with_image, with_records, with_state, with_updates}
 use Rattle.st_move.specs.Conditions.{CanGoOn, MovesGoOn}
 use Rattle.st_move.specs.Law.{MoveHistory, fresh_history, known, noted, record_at, record_in, run_moves}
 use Rattle.st_move.specs.World.{MoveWorld, answer_sent, deliver_at, fresh_world, happens, has_lock, list_at, list_told, lock_at, lock_told, locked, lose_at, lost_move, order_at, order_for, order_told, put_at, put_told, sent_move, server, sites_behind, taken_by, tick_at, ticked, told, unlock_at, unlocked, with_locks, with_lost}
@@ -34,7 +34,7 @@ record IsThere (servers : ℕ) (s : ServerId) : Type 0 where
   within : s.0 ≤ servers
 
 -- a record that leaves or was sent goes to a server that is there
-abbrev GoesThere : ℕ → Standing → Type 0
+abbrev GoesThere : ℕ → ContainerState → Type 0
 GoesThere servers Holding = Unit {0}
 GoesThere servers (Leaving to) = IsThere servers to
 GoesThere servers (Sent to) = IsThere servers to
@@ -43,7 +43,7 @@ GoesThere servers (Gone to) = Unit {0}
 -- its version is one more than the number of events, or less
 abbrev IsFine : ℕ → ℕ → Option ContainerRecord → Type 0
 IsFine servers n None = Unit {0}
-IsFine servers n (Some r) = (r.version ≤ n + 1) × GoesThere servers r.standing
+IsFine servers n (Some r) = (r.version ≤ n + 1) × GoesThere servers r.state
 
 abbrev AreFine : ℕ → ℕ → List (Option ContainerRecord) → Type 0
 AreFine servers n rs = (o : Option ContainerRecord) → Has o rs → IsFine servers n o
@@ -87,9 +87,9 @@ sent_one : (servers n : ℕ) (b : Bool) (o : Option ContainerRecord) → IsFine 
 unfolding sent_if sent_on
 sent_one servers n b None f = f
 sent_one servers n false (Some r) f = record_later servers n (Some r) f
-sent_one servers n true (Some r) f = go r.standing f.1
+sent_one servers n true (Some r) f = go r.state f.1
   where
-    go : (st : Standing) → GoesThere servers st → IsFine servers (n + 1) (Some (sent_on r st))
+    go : (st : ContainerState) → GoesThere servers st → IsFine servers (n + 1) (Some (sent_on r st))
     go Holding g = record_later servers n (Some r) f
     go (Leaving to) g = let a : r.version ≤ n + 1 = f.0 in let b : r.version + 1 ≤ n + 1 + 1 = omega arith in (b, g)
     go (Sent to) g = record_later servers n (Some r) f
@@ -130,9 +130,9 @@ image_fine servers containers n c v us g o h = go (is_below v o)
 answered_fine : (servers n v : ℕ) (o : Option ContainerRecord) → IsFine servers n o → IsFine servers (n + 1) (answered v o)
 unfolding answered gone_by
 answered_fine servers n v None h = h
-answered_fine servers n v (Some r) h = go (r.version == v) r.standing
+answered_fine servers n v (Some r) h = go (r.version == v) r.state
   where
-    go : (b : Bool) (st : Standing) → IsFine servers (n + 1) (Some (if b then gone_by r st else r))
+    go : (b : Bool) (st : ContainerState) → IsFine servers (n + 1) (Some (if b then gone_by r st else r))
     go false st = record_later servers n (Some r) h
     go true Holding = record_later servers n (Some r) h
     go true (Leaving to) = record_later servers n (Some r) h
@@ -207,7 +207,7 @@ module _ (servers containers n : ℕ) (w : MoveWorld) (f : Fine servers containe
   order_event s c to x e None k = later
   order_event s c to x e (Some y) k = go (order_says x.containers c to)
     where
-      go : ((r : ContainerRecord) × IsHeldAt x.containers.records c r × (to.0 ≢ x.containers.server.0) × (after_order x.containers c to ≡ Ok (with_changed x.containers c (with_standing r (Leaving to))))) ⊎ ((g : MoveRefusal) × (after_order x.containers c to ≡ Err g))
+      go : ((r : ContainerRecord) × IsHeldAt x.containers.records c r × (to.0 ≢ x.containers.server.0) × (after_order x.containers c to ≡ Ok (with_changed x.containers c (with_state r (Leaving to))))) ⊎ ((g : MoveRefusal) × (after_order x.containers c to ≡ Err g))
           → Fine servers containers (n + 1) (order_told w s x (after_order x.containers c to)).world
       go (inr g) = subst (λ z. Fine servers containers (n + 1) (order_told w s x z).world) (sym g.1) later
       go (inl g) =
@@ -215,8 +215,8 @@ module _ (servers containers n : ℕ) (w : MoveWorld) (f : Fine servers containe
           let a : g.0.version ≤ n + 1 = r.0 in
           let b : g.0.version ≤ n + 1 + 1 = omega arith in
           subst (λ z. Fine servers containers (n + 1) (order_told w s x z).world) (sym g.3)
-          (changed_fine s.0 (site_with x (with_changed x.containers c (with_standing g.0 (Leaving to)))) w.sent
-          (replaced_fine x (found_fine s.0 x e) c (Some (with_standing g.0 (Leaving to))) (b, found_there to y k)) sent_still)
+          (changed_fine s.0 (site_with x (with_changed x.containers c (with_state g.0 (Leaving to)))) w.sent
+          (replaced_fine x (found_fine s.0 x e) c (Some (with_state g.0 (Leaving to))) (b, found_there to y k)) sent_still)
 
   list_event : (s : ServerId) (c : ℕ) (o : Option MoveSite) → Fine servers containers (n + 1) (list_at w s c o).world
   unfolding list_at list_told

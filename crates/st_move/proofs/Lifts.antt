@@ -9,8 +9,8 @@ use Rattle.st_move.specs.declared.record.ContainerRecord.{ContainerRecord}
 use Rattle.st_move.specs.declared.record.MoveMessage.{MoveMessage}
 use Rattle.st_move.specs.declared.refusal.MoveRefusal.{MoveRefusal}
 use Rattle.st_move.specs.declared.refusal.MoveRefusal.TheVariants as refusals
-use Rattle.st_move.specs.declared.record.Standing.{Standing}
-use Rattle.st_move.specs.declared.record.Standing.TheVariants.{Holding, Leaving, Sent, Gone}
+use Rattle.st_move.specs.declared.record.ContainerState.{ContainerState}
+use Rattle.st_move.specs.declared.record.ContainerState.TheVariants.{Holding, Leaving, Sent, Gone}
 use Rattle.st_move.specs.Calls.{Answers, Counts, allowed, count_at, count_found, count_of, there}
 use Rattle.st_move.specs.Containers.{Containers, after_order, after_put, after_take, changeable, changed, container_of, found, found_at, is_holding, ordered, serves_by, taken_at, taken_in, unless_leaving, unless_sent, updated, with_records}
 
@@ -91,12 +91,12 @@ take_at m message p old new e f h = ap (with_records m)
     (sym (ap (λ o. taken_at message o m.records) (at_place m.records (container_of message) p old e f) ∙ set_place m.records (container_of message) p (taken_in message old) e ∙ ap (set m.records p) (sym h)))
 
 -- where a put or an order may come, the container is served
-pub may_serve : (rs : List (Option ContainerRecord)) (c : ℕ) (r : ContainerRecord) (result : Result Unit MoveRefusal) → found rs c ≡ Ok r → allowed r result ≡ unless_leaving r r.standing → OnOk result (serves_by (found rs c) ≡ true)
+pub may_serve : (rs : List (Option ContainerRecord)) (c : ℕ) (r : ContainerRecord) (result : Result Unit MoveRefusal) → found rs c ≡ Ok r → allowed r result ≡ unless_leaving r r.state → OnOk result (serves_by (found rs c) ≡ true)
 unfolding unless_leaving unless_sent
 may_serve rs c r (Err e) f h = tt
-may_serve rs c r (Ok u) f h = ap serves_by f ∙ go r.standing h
+may_serve rs c r (Ok u) f h = ap serves_by f ∙ go r.state h
   where
-    go : (st : Standing) → Ok r ≡ unless_leaving r st → is_holding st ≡ true
+    go : (st : ContainerState) → Ok r ≡ unless_leaving r st → is_holding st ≡ true
     go Holding h = refl
     go (Leaving to) h = cc
     go (Sent to) h = cc

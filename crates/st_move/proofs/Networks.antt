@@ -17,8 +17,8 @@ use Rattle.st_lemmas.proofs.Lookups.{if_true, if_false, some_is}
 use Rattle.st_lemmas.proofs.Tables.{and_both}
 use Rattle.st_move.specs.declared.record.ContainerRecord.{ContainerRecord}
 use Rattle.st_move.specs.declared.record.MoveMessage.{MoveMessage}
-use Rattle.st_move.specs.declared.record.Standing.{Standing}
-use Rattle.st_move.specs.declared.record.Standing.TheVariants.{Holding, Leaving, Sent, Gone}
+use Rattle.st_move.specs.declared.record.ContainerState.{ContainerState}
+use Rattle.st_move.specs.declared.record.ContainerState.TheVariants.{Holding, Leaving, Sent, Gone}
 use Rattle.st_move.specs.declared.refusal.MoveRefusal.{MoveRefusal}
 use Rattle.st_move.specs.declared.refusal.MoveRefusal.TheVariants as refusals
 use Rattle.st_move.specs.declared.site.MoveSite.{MoveSite}
@@ -98,14 +98,14 @@ serves_held : (m : Containers) (c : ℕ) → serves m c ≡ true → (r : Contai
 unfolding changeable unless_leaving unless_sent
 serves_held m c h = go (found m.records c) h
   where
-    by : (r : ContainerRecord) (st : Standing) → is_holding st ≡ true → unless_leaving r st ≡ Ok r
+    by : (r : ContainerRecord) (st : ContainerState) → is_holding st ≡ true → unless_leaving r st ≡ Ok r
     by r Holding e = refl
     by r (Leaving to) e = cc
     by r (Sent to) e = cc
     by r (Gone to) e = cc
 
     go : (f : Result ContainerRecord MoveRefusal) → serves_by f ≡ true → (r : ContainerRecord) × (changeable f ≡ Ok r)
-    go (Ok r) e = (r, by r r.standing e)
+    go (Ok r) e = (r, by r r.state e)
     go (Err g) e = cc
 
 pub lock_ok : (old : MoveSite) (new : Locks) (c : ℕ) → serves old.containers c ≡ true → new ≡ locked old.locks c

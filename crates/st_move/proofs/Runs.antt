@@ -9,8 +9,8 @@ use Rattle.st_lemmas.proofs.Lookups.{some_is}
 use Rattle.st_lemmas.proofs.Numbers.{get_below, numbered_below, numbered_has}
 use Rattle.st_lemmas.proofs.Tables.{cond_true, cond_false, same_or_not}
 use Rattle.st_move.specs.declared.record.ContainerRecord.{ContainerRecord}
-use Rattle.st_move.specs.declared.record.Standing.{Standing}
-use Rattle.st_move.specs.declared.record.Standing.TheVariants.{Holding, Leaving, Sent, Gone}
+use Rattle.st_move.specs.declared.record.ContainerState.{ContainerState}
+use Rattle.st_move.specs.declared.record.ContainerState.TheVariants.{Holding, Leaving, Sent, Gone}
 use Rattle.st_move.specs.declared.refusal.MoveRefusal.{MoveRefusal}
 use Rattle.st_move.specs.declared.world.MoveEvent.{MoveEvent}
 use Rattle.st_move.specs.declared.world.MoveEvent.TheVariants as events
@@ -18,7 +18,7 @@ use Rattle.st_move.specs.declared.world.SentMove.{SentMove}
 use Rattle.st_move.specs.declared.site.MoveSite.{MoveSite}
 use Rattle.st_move.specs.declared.world.MoveAnswer.{MoveAnswer}
 use Rattle.st_move.specs.declared.world.MoveAnswer.TheVariants.{Done, Listed, LostMessage, NoLock}
-use Rattle.st_move.specs.Containers.{after_order, after_put, beginning, beginnings, begins_at, held, listed, recorded, with_standing, with_updates}
+use Rattle.st_move.specs.Containers.{after_order, after_put, beginning, beginnings, begins_at, held, listed, recorded, with_state, with_updates}
 use Rattle.st_move.specs.Law.{IsKeptBy, MoveHistory, NoUpdateIsLost, OneHolder, accepts, fresh_history, has_row, holds, holds_by, is_held, known, locked_in, noted, record_at, record_in, run_moves}
 use Rattle.st_move.specs.World.{MoveWorld, deliver_at, fresh_site, fresh_world, happens, has_lock, list_at, list_told, lock_at, lock_told, lose_at, lost_move, order_at, order_for, order_told, put_at, put_told, server, sites_behind, taken_by, tick_at, ticked, told, unlock_at, unlocked, with_locks, with_lost}
 use Rattle.st_move.proofs.Says.{IsHeldAt, held_says, listed_says, numbered_set_has, order_says, put_says, with_changed}
@@ -43,11 +43,11 @@ module _ (containers : ℕ) (h : MoveHistory) (st : Stands containers h) where
   order_event s c to x e None = st
   order_event s c to x e (Some y) = go (order_says x.containers c to)
     where
-      go : ((r : ContainerRecord) × IsHeldAt x.containers.records c r × (to.0 ≢ x.containers.server.0) × (after_order x.containers c to ≡ Ok (with_changed x.containers c (with_standing r (Leaving to))))) ⊎ ((f : MoveRefusal) × (after_order x.containers c to ≡ Err f))
+      go : ((r : ContainerRecord) × IsHeldAt x.containers.records c r × (to.0 ≢ x.containers.server.0) × (after_order x.containers c to ≡ Ok (with_changed x.containers c (with_state r (Leaving to))))) ⊎ ((f : MoveRefusal) × (after_order x.containers c to ≡ Err f))
           → Stands containers (noted h (events.Order s c to) (order_told h.world s x (after_order x.containers c to)))
       go (inr f) = subst (λ z. Stands containers (noted h (events.Order s c to) (order_told h.world s x z))) (sym f.1) st
       go (inl f) = subst (λ z. Stands containers (noted h (events.Order s c to) (order_told h.world s x z))) (sym f.3)
-          (replaced containers h st s.0 x e h.accepted c f.0 (with_standing f.0 (Leaving to)) f.1 refl (λ i. f.2 (i ∙ sym (st.sites s.0 x e).own)) (λ z. z) (λ d n. refl))
+          (replaced containers h st s.0 x e h.accepted c f.0 (with_state f.0 (Leaving to)) f.1 refl (λ i. f.2 (i ∙ sym (st.sites s.0 x e).own)) (λ z. z) (λ d n. refl))
 
   list_event : (s : ServerId) (c : ℕ) (o : Option MoveSite) → Stands containers (noted h (events.List s c) (list_at h.world s c o))
   unfolding list_at list_told
@@ -217,7 +217,7 @@ module _ (servers containers : ℕ) (some : 1 ≤ servers) where
       heard = λ m j. absurd j;
     }
       where
-        older : (s : ℕ) (r : ContainerRecord) → s ≢ first → record_at start (suc i) s ≡ Some r → IsOlder (record_at start (suc i)) 1 r r.standing
+        older : (s : ℕ) (r : ContainerRecord) → s ≢ first → record_at start (suc i) s ≡ Some r → IsOlder (record_at start (suc i)) 1 r r.state
         older s r n e = absurd (go (numbered start.sites s) refl e)
           where
             go : (o : Option MoveSite) → numbered start.sites s ≡ o → record_in o (suc i) ≡ Some r → ⊥
@@ -274,7 +274,7 @@ module _ (containers : ℕ) (h : MoveHistory) (st : Stands containers h) where
       first_is a b rest f = cc
 
       by : (x : MoveSite) → numbered h.world.sites s.0 ≡ Some x
-          → ((r : ContainerRecord) × (numbered x.containers.records c ≡ Some (Some r)) × (is_held r.standing ≡ true) × (listed x.containers c ≡ Ok r.updates)) ⊎ ((f : MoveRefusal) × (listed x.containers c ≡ Err f))
+          → ((r : ContainerRecord) × (numbered x.containers.records c ≡ Some (Some r)) × (is_held r.state ≡ true) × (listed x.containers c ≡ Ok r.updates)) ⊎ ((f : MoveRefusal) × (listed x.containers c ≡ Err f))
           → (list_told h.world (listed x.containers c)).answers ≡ Listed us ∷ [] → us ≡ h.accepted c
       by x a (inr f) g = let k : (list_told h.world (Err f.0)).answers ≡ Listed us ∷ [] = subst (λ z. (list_told h.world z).answers ≡ Listed us ∷ []) f.1 g in cc
       by x a (inl f) g =
@@ -294,7 +294,7 @@ module _ (containers : ℕ) (h : MoveHistory) (st : Stands containers h) where
       i : IsContainer containers c
       i = st.rows c s e
 
-      by : (k : IsContainer containers c) (q : Standing) → (st.tokens c k).kept.standing ≡ q → IsNewest (st.tokens c k).holder (st.tokens c k).top (has_row h.world c) (st.tokens c k).kept q → s ≡ (st.tokens c k).holder → is_held q ≡ true
+      by : (k : IsContainer containers c) (q : ContainerState) → (st.tokens c k).kept.state ≡ q → IsNewest (st.tokens c k).holder (st.tokens c k).top (has_row h.world c) (st.tokens c k).kept q → s ≡ (st.tokens c k).holder → is_held q ≡ true
       by k Holding f n j = refl
       by k (Leaving to) f n j = refl
       by k (Sent to) f n j = absurd (true≢false (sym e ∙ ap (has_row h.world c) j ∙ n.2))
@@ -302,7 +302,7 @@ module _ (containers : ℕ) (h : MoveHistory) (st : Stands containers h) where
 
       go : (s ≡ (st.tokens c i).holder) ⊎ (s ≢ (st.tokens c i).holder) → holds h.world c s ≡ true
       go (inr n) = absurd (true≢false (sym e ∙ (st.tokens c i).rows s n))
-      go (inl j) = ap holds_by (ap (record_at h.world c) j ∙ (st.tokens c i).here) ∙ by i (st.tokens c i).kept.standing refl (st.tokens c i).newest j
+      go (inl j) = ap holds_by (ap (record_at h.world c) j ∙ (st.tokens c i).here) ∙ by i (st.tokens c i).kept.state refl (st.tokens c i).newest j
 
   pub law : OneHolder containers h
   law = record {

@@ -15,11 +15,11 @@ use Rattle.st_lemmas.proofs.Tables.{cond_true, cond_false, has_append}
 use Rattle.st_move.specs.declared.record.ContainerRecord.{ContainerRecord}
 use Rattle.st_move.specs.declared.record.MoveMessage.{MoveMessage}
 use Rattle.st_move.specs.declared.record.MoveMessage.TheVariants.{Image, Taken}
-use Rattle.st_move.specs.declared.record.Standing.{Standing}
-use Rattle.st_move.specs.declared.record.Standing.TheVariants.{Holding, Leaving, Sent, Gone}
+use Rattle.st_move.specs.declared.record.ContainerState.{ContainerState}
+use Rattle.st_move.specs.declared.record.ContainerState.TheVariants.{Holding, Leaving, Sent, Gone}
 use Rattle.st_move.specs.declared.refusal.MoveRefusal.{MoveRefusal}
 use Rattle.st_move.specs.declared.refusal.MoveRefusal.TheVariants as refusals
-use Rattle.st_move.specs.Containers.{Containers, after_order, after_put, changeable, changed, found, found_at, held, image_by, image_of, images_from, is_locked, leaves, listed, ordered, readable, sent_from, sent_if, unless_leaving, unless_sent, updated, updated_with, updates_of, with_record, with_records, with_standing, with_updates}
+use Rattle.st_move.specs.Containers.{Containers, after_order, after_put, changeable, changed, found, found_at, held, image_by, image_of, images_from, is_locked, leaves, listed, ordered, readable, sent_from, sent_if, unless_leaving, unless_sent, updated, updated_with, updates_of, with_record, with_records, with_state, with_updates}
 use Rattle.st_move.specs.Updates.{added, bytes_of, most_bytes}
 use Rattle.st_move.specs.Law.{is_held, known}
 use Rattle.st_move.specs.World.{has_lock, locked, one, unlocked}
@@ -27,7 +27,7 @@ use Rattle.st_move.proofs.Moved.{leaves_if}
 
 -- a container that may be changed is held
 abbrev pub IsHeldAt : List (Option ContainerRecord) → ℕ → ContainerRecord → Type 0
-IsHeldAt rs c r = (numbered rs c ≡ Some (Some r)) × (r.standing ≡ Holding)
+IsHeldAt rs c r = (numbered rs c ≡ Some (Some r)) × (r.state ≡ Holding)
 
 pub held_says : (m : Containers) (c : ℕ) → ((r : ContainerRecord) × IsHeldAt m.records c r × (held m c ≡ Ok r)) ⊎ ((e : MoveRefusal) × (held m c ≡ Err e))
 unfolding found found_at changeable unless_leaving unless_sent
@@ -36,24 +36,24 @@ held_says m c = go (numbered m.records c) refl
     go : (o : Option (Option ContainerRecord)) → numbered m.records c ≡ o → ((r : ContainerRecord) × IsHeldAt m.records c r × (held m c ≡ Ok r)) ⊎ ((e : MoveRefusal) × (held m c ≡ Err e))
     go None e = inr (refusals.NoContainer c, ap (λ o. changeable (found_at c o)) e)
     go (Some None) e = inr (refusals.Absent, ap (λ o. changeable (found_at c o)) e)
-    go (Some (Some r)) e = by r.standing refl
+    go (Some (Some r)) e = by r.state refl
       where
-        by : (st : Standing) → r.standing ≡ st → ((r : ContainerRecord) × IsHeldAt m.records c r × (held m c ≡ Ok r)) ⊎ ((e : MoveRefusal) × (held m c ≡ Err e))
+        by : (st : ContainerState) → r.state ≡ st → ((r : ContainerRecord) × IsHeldAt m.records c r × (held m c ≡ Ok r)) ⊎ ((e : MoveRefusal) × (held m c ≡ Err e))
         by Holding h = inl (r, (e, h), ap (λ o. changeable (found_at c o)) e ∙ ap (unless_leaving r) h)
         by (Leaving to) h = inr (refusals.Leaving to, ap (λ o. changeable (found_at c o)) e ∙ ap (unless_leaving r) h)
         by (Sent to) h = inr (refusals.Redirect to r.version, ap (λ o. changeable (found_at c o)) e ∙ ap (unless_leaving r) h)
         by (Gone to) h = inr (refusals.Redirect to r.version, ap (λ o. changeable (found_at c o)) e ∙ ap (unless_leaving r) h)
 
-pub listed_says : (m : Containers) (c : ℕ) → ((r : ContainerRecord) × (numbered m.records c ≡ Some (Some r)) × (is_held r.standing ≡ true) × (listed m c ≡ Ok r.updates)) ⊎ ((e : MoveRefusal) × (listed m c ≡ Err e))
+pub listed_says : (m : Containers) (c : ℕ) → ((r : ContainerRecord) × (numbered m.records c ≡ Some (Some r)) × (is_held r.state ≡ true) × (listed m c ≡ Ok r.updates)) ⊎ ((e : MoveRefusal) × (listed m c ≡ Err e))
 unfolding found found_at readable unless_sent updates_of
 listed_says m c = go (numbered m.records c) refl
   where
-    go : (o : Option (Option ContainerRecord)) → numbered m.records c ≡ o → ((r : ContainerRecord) × (numbered m.records c ≡ Some (Some r)) × (is_held r.standing ≡ true) × (listed m c ≡ Ok r.updates)) ⊎ ((e : MoveRefusal) × (listed m c ≡ Err e))
+    go : (o : Option (Option ContainerRecord)) → numbered m.records c ≡ o → ((r : ContainerRecord) × (numbered m.records c ≡ Some (Some r)) × (is_held r.state ≡ true) × (listed m c ≡ Ok r.updates)) ⊎ ((e : MoveRefusal) × (listed m c ≡ Err e))
     go None e = inr (refusals.NoContainer c, ap (λ o. updates_of (readable (found_at c o))) e)
     go (Some None) e = inr (refusals.Absent, ap (λ o. updates_of (readable (found_at c o))) e)
-    go (Some (Some r)) e = by r.standing refl
+    go (Some (Some r)) e = by r.state refl
       where
-        by : (st : Standing) → r.standing ≡ st → ((r : ContainerRecord) × (numbered m.records c ≡ Some (Some r)) × (is_held r.standing ≡ true) × (listed m c ≡ Ok r.updates)) ⊎ ((e : MoveRefusal) × (listed m c ≡ Err e))
+        by : (st : ContainerState) → r.state ≡ st → ((r : ContainerRecord) × (numbered m.records c ≡ Some (Some r)) × (is_held r.state ≡ true) × (listed m c ≡ Ok r.updates)) ⊎ ((e : MoveRefusal) × (listed m c ≡ Err e))
         by Holding h = inl (r, e, ap is_held h, ap (λ o. updates_of (readable (found_at c o))) e ∙ ap (λ st. updates_of (unless_sent r st)) h)
         by (Leaving to) h = inl (r, e, ap is_held h, ap (λ o. updates_of (readable (found_at c o))) e ∙ ap (λ st. updates_of (unless_sent r st)) h)
         by (Sent to) h = inr (refusals.Redirect to r.version, ap (λ o. updates_of (readable (found_at c o))) e ∙ ap (λ st. updates_of (unless_sent r st)) h)
@@ -77,17 +77,17 @@ put_says m c u = go (held_says m c)
         by true e = inl (h.0, h.1, ap (λ o. changed m c (updated u o)) h.2 ∙ ap (λ o. changed m c (updated_with h.0 o)) (cond_true _ _ _ e))
         by false e = inr (refusals.Full (bytes_of h.0.updates + length u), ap (λ o. changed m c (updated u o)) h.2 ∙ ap (λ o. changed m c (updated_with h.0 o)) (cond_false _ _ _ e))
 
-pub order_says : (m : Containers) (c : ℕ) (to : ServerId) → ((r : ContainerRecord) × IsHeldAt m.records c r × (to.0 ≢ m.server.0) × (after_order m c to ≡ Ok (with_changed m c (with_standing r (Leaving to))))) ⊎ ((e : MoveRefusal) × (after_order m c to ≡ Err e))
+pub order_says : (m : Containers) (c : ℕ) (to : ServerId) → ((r : ContainerRecord) × IsHeldAt m.records c r × (to.0 ≢ m.server.0) × (after_order m c to ≡ Ok (with_changed m c (with_state r (Leaving to))))) ⊎ ((e : MoveRefusal) × (after_order m c to ≡ Err e))
 unfolding changed ordered
 order_says m c to = go (held_says m c)
   where
     go : ((r : ContainerRecord) × IsHeldAt m.records c r × (held m c ≡ Ok r)) ⊎ ((e : MoveRefusal) × (held m c ≡ Err e))
-        → ((r : ContainerRecord) × IsHeldAt m.records c r × (to.0 ≢ m.server.0) × (after_order m c to ≡ Ok (with_changed m c (with_standing r (Leaving to))))) ⊎ ((e : MoveRefusal) × (after_order m c to ≡ Err e))
+        → ((r : ContainerRecord) × IsHeldAt m.records c r × (to.0 ≢ m.server.0) × (after_order m c to ≡ Ok (with_changed m c (with_state r (Leaving to))))) ⊎ ((e : MoveRefusal) × (after_order m c to ≡ Err e))
     go (inr h) = inr (h.0, ap (λ o. changed m c (ordered m.server to o)) h.1)
     go (inl h) = by (eqb_tells to.0 m.server.0)
       where
         by : ((eqb to.0 m.server.0 ≡ true) × (to.0 ≡ m.server.0)) ⊎ ((eqb to.0 m.server.0 ≡ false) × (to.0 ≢ m.server.0))
-            → ((r : ContainerRecord) × IsHeldAt m.records c r × (to.0 ≢ m.server.0) × (after_order m c to ≡ Ok (with_changed m c (with_standing r (Leaving to))))) ⊎ ((e : MoveRefusal) × (after_order m c to ≡ Err e))
+            → ((r : ContainerRecord) × IsHeldAt m.records c r × (to.0 ≢ m.server.0) × (after_order m c to ≡ Ok (with_changed m c (with_state r (Leaving to))))) ⊎ ((e : MoveRefusal) × (after_order m c to ≡ Err e))
         by (inl e) = inr (refusals.Same, ap (λ o. changed m c (ordered m.server to o)) h.2 ∙ ap (changed m c) (cond_true (same_server to m.server) _ _ e.0))
         by (inr e) = inl (h.0, h.1, e.1, ap (λ o. changed m c (ordered m.server to o)) h.2 ∙ ap (changed m c) (cond_false (same_server to m.server) _ _ e.0))
 
@@ -122,14 +122,14 @@ sent_length l place (r ∷ rs) = ap suc (sent_length l (place + 1) rs)
 -- Images are those of records.
 abbrev pub IsImageAt : ℕ → List (Option ContainerRecord) → ServerId → MoveMessage → Type 0
 IsImageAt place rs to (Taken d v) = ⊥
-IsImageAt place rs to (Image d v us) = (n : ℕ) × (d ≡ place + suc n) × (r : ContainerRecord) × (slice_get rs n ≡ Some (Some r)) × (r.standing ≡ Sent to) × (v ≡ r.version) × (us ≡ r.updates)
+IsImageAt place rs to (Image d v us) = (n : ℕ) × (d ≡ place + suc n) × (r : ContainerRecord) × (slice_get rs n ≡ Some (Some r)) × (r.state ≡ Sent to) × (v ≡ r.version) × (us ≡ r.updates)
 
 image_on : (place : ℕ) (o : Option ContainerRecord) (rs : List (Option ContainerRecord)) (y : ServerId × MoveMessage) → Has y (image_of (place + 1) o) → IsImageAt place (o ∷ rs) y.0 y.1
 unfolding image_of image_by
 image_on place None rs y h = absurd h
-image_on place (Some r) rs y h = go r.standing refl h
+image_on place (Some r) rs y h = go r.state refl h
   where
-    go : (st : Standing) → r.standing ≡ st → Has y (image_by (place + 1) r st) → IsImageAt place (Some r ∷ rs) y.0 y.1
+    go : (st : ContainerState) → r.state ≡ st → Has y (image_by (place + 1) r st) → IsImageAt place (Some r ∷ rs) y.0 y.1
     go Holding e i = absurd i
     go (Leaving to) e i = absurd i
     go (Gone to) e i = absurd i

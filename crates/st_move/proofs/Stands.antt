@@ -119,7 +119,7 @@ accepts_other accepted c d u n = go (eqb_tells d c)
 
 -- a held record is replaced
 module _ (containers : ℕ) (h : MoveHistory) (st : Stands containers h) (s : ℕ) (x : MoveSite) (e : numbered h.world.sites s ≡ Some x) (after : ℕ → List (List ℕ)) (c : ℕ) (r q : ContainerRecord)
-    (at : IsHeldAt x.containers.records c r) (v : q.version ≡ r.version) (going : IsGoing s q.standing) (ups : r.updates ≡ h.accepted c → q.updates ≡ after c) (others : (d : ℕ) → d ≢ c → after d ≡ h.accepted d) where
+    (at : IsHeldAt x.containers.records c r) (v : q.version ≡ r.version) (going : IsGoing s q.state) (ups : r.updates ≡ h.accepted c → q.updates ≡ after c) (others : (d : ℕ) → d ≢ c → after d ≡ h.accepted d) where
   abbrev site_replaced : MoveSite
   site_replaced = site_with x (with_changed x.containers c q)
 
@@ -165,14 +165,14 @@ heard_more containers h st sent from = record { sites = st.sites; tokens = token
     tokens : (c : ℕ) → IsContainer containers c → Token c (record_at h.world c) (has_row h.world c) (h.accepted c) sent
     tokens c i = same (st.tokens c i) (record_at h.world c) (has_row h.world c) sent (λ z. refl) (λ z f. f) heard
       where
-        heard : (m : SentMove) → Has m sent → Has m h.world.sent ⊎ IsHeard c (record_at h.world c) (st.tokens c i).top (h.accepted c) (st.tokens c i).kept.standing m.to m.message
+        heard : (m : SentMove) → Has m sent → Has m h.world.sent ⊎ IsHeard c (record_at h.world c) (st.tokens c i).top (h.accepted c) (st.tokens c i).kept.state m.to m.message
         heard m j = go (from m j)
           where
             go : Has m h.world.sent ⊎ ((k : SentMove) × Has k h.world.sent × (m.to ≡ k.to) × (m.message ≡ k.message))
-                → Has m h.world.sent ⊎ IsHeard c (record_at h.world c) (st.tokens c i).top (h.accepted c) (st.tokens c i).kept.standing m.to m.message
+                → Has m h.world.sent ⊎ IsHeard c (record_at h.world c) (st.tokens c i).top (h.accepted c) (st.tokens c i).kept.state m.to m.message
             go (inl o) = inl o
-            go (inr o) = inr (subst (λ a. IsHeard c (record_at h.world c) (st.tokens c i).top (h.accepted c) (st.tokens c i).kept.standing a m.message) (sym o.2)
-                (subst (IsHeard c (record_at h.world c) (st.tokens c i).top (h.accepted c) (st.tokens c i).kept.standing o.0.to) (sym o.3) ((st.tokens c i).heard o.0 o.1)))
+            go (inr o) = inr (subst (λ a. IsHeard c (record_at h.world c) (st.tokens c i).top (h.accepted c) (st.tokens c i).kept.state a m.message) (sym o.2)
+                (subst (IsHeard c (record_at h.world c) (st.tokens c i).top (h.accepted c) (st.tokens c i).kept.state o.0.to) (sym o.3) ((st.tokens c i).heard o.0 o.1)))
 
 -- the lock table of a server changes
 pub relocked : (containers : ℕ) (h : MoveHistory) → Stands containers h → (s : ℕ) (x : MoveSite) (e : numbered h.world.sites s ≡ Some x) (l : Locks)
@@ -335,15 +335,15 @@ module _ (containers : ℕ) (h : MoveHistory) (st : Stands containers h) (k : Se
       (record_still h.world k.to.0 x (site_with x taken_containers) all_sent e c (ap known (take_other k.message (numbered x.containers.records (container_of k.message)) x.containers.records c refl n)))
       (row_still h.world k.to.0 x (site_with x taken_containers) all_sent e c (λ f. f)) heard
     where
-      heard : (q : SentMove) → Has q all_sent → Has q h.world.sent ⊎ IsHeard c (record_at h.world c) (st.tokens c j).top (h.accepted c) (st.tokens c j).kept.standing q.to q.message
+      heard : (q : SentMove) → Has q all_sent → Has q h.world.sent ⊎ IsHeard c (record_at h.world c) (st.tokens c j).top (h.accepted c) (st.tokens c j).kept.state q.to q.message
       heard q g = go (has_append h.world.sent sent_more q g)
         where
-          go : Has q h.world.sent ⊎ Has q sent_more → Has q h.world.sent ⊎ IsHeard c (record_at h.world c) (st.tokens c j).top (h.accepted c) (st.tokens c j).kept.standing q.to q.message
+          go : Has q h.world.sent ⊎ Has q sent_more → Has q h.world.sent ⊎ IsHeard c (record_at h.world c) (st.tokens c j).top (h.accepted c) (st.tokens c j).kept.state q.to q.message
           go (inl o) = inl o
           go (inr o) =
               let a : (v : ℕ) × (us : List (List ℕ)) × (k.message ≡ Image (container_of k.message) v us) × (q.message ≡ Taken (container_of k.message) v) = answer_is k.message q o in
-              let b : IsHeard c (record_at h.world c) (st.tokens c j).top (h.accepted c) (st.tokens c j).kept.standing q.to (Taken (container_of k.message) a.0) = λ z. absurd (n (sym z)) in
-              inr (subst (IsHeard c (record_at h.world c) (st.tokens c j).top (h.accepted c) (st.tokens c j).kept.standing q.to) (sym a.3) b)
+              let b : IsHeard c (record_at h.world c) (st.tokens c j).top (h.accepted c) (st.tokens c j).kept.state q.to (Taken (container_of k.message) a.0) = λ z. absurd (n (sym z)) in
+              inr (subst (IsHeard c (record_at h.world c) (st.tokens c j).top (h.accepted c) (st.tokens c j).kept.state q.to) (sym a.3) b)
 
   own_token : (message : MoveMessage) → k.message ≡ message → (c : ℕ) → IsContainer containers c → c ≡ container_of message → TokenOf after_world c (h.accepted c)
   own_token message f c j g = go (there_is x.containers.records c j.some (subst (λ n. c ≤ n) (sym (st.sites k.to.0 x e).whole) j.known))
@@ -360,15 +360,15 @@ module _ (containers : ℕ) (h : MoveHistory) (st : Stands containers h) (k : Se
       row_after : (z : ℕ) → has_row h.world c z ≡ false → has_row after_world c z ≡ false
       row_after = row_still h.world k.to.0 x (site_with x taken_containers) all_sent e c (λ f. f)
 
-      heard_k : (b : MoveMessage) → k.message ≡ b → IsHeard c (record_at h.world c) (st.tokens c j).top (h.accepted c) (st.tokens c j).kept.standing k.to b
-      heard_k b p = subst (IsHeard c (record_at h.world c) (st.tokens c j).top (h.accepted c) (st.tokens c j).kept.standing k.to) p ((st.tokens c j).heard k i)
+      heard_k : (b : MoveMessage) → k.message ≡ b → IsHeard c (record_at h.world c) (st.tokens c j).top (h.accepted c) (st.tokens c j).kept.state k.to b
+      heard_k b p = subst (IsHeard c (record_at h.world c) (st.tokens c j).top (h.accepted c) (st.tokens c j).kept.state k.to) p ((st.tokens c j).heard k i)
 
       go : (r : Option ContainerRecord) × (numbered x.containers.records c ≡ Some r) → TokenOf after_world c (h.accepted c)
       go a = by message f g
         where
           by : (b : MoveMessage) → k.message ≡ b → c ≡ container_of b → TokenOf after_world c (h.accepted c)
           by (Image d v us) p q = same
-              (images_come (st.tokens c j) (record_at after_world c) all_sent k.to v us (subst (λ n. IsHeard c (record_at h.world c) (st.tokens c j).top (h.accepted c) (st.tokens c j).kept.standing k.to (Image n v us)) (sym q) (heard_k (Image d v us) p))
+              (images_come (st.tokens c j) (record_at after_world c) all_sent k.to v us (subst (λ n. IsHeard c (record_at h.world c) (st.tokens c j).top (h.accepted c) (st.tokens c j).kept.state k.to (Image n v us)) (sym q) (heard_k (Image d v us) p))
               (record_after a.0 a.1 (Image d v us) p q) (record_other h.world k.to.0 x (site_with x taken_containers) all_sent e c) sends)
               (record_at after_world c) (has_row after_world c) all_sent (λ z. refl) row_after (λ z o. inl o)
             where

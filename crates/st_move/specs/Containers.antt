@@ -5,8 +5,8 @@ use Rattle.st_base.specs.declared.ids.ServerId.{ServerId}
 use Rattle.st_rules.specs.Keys.{same_server}
 use Rattle.st_rules.specs.Locks.{Locks, is_row_on}
 use Rattle.st_rules.specs.World.{numbered, with_numbered}
-use Rattle.st_move.specs.declared.record.Standing.{Standing}
-use Rattle.st_move.specs.declared.record.Standing.TheVariants.{Holding, Leaving, Sent, Gone}
+use Rattle.st_move.specs.declared.record.ContainerState.{ContainerState}
+use Rattle.st_move.specs.declared.record.ContainerState.TheVariants.{Holding, Leaving, Sent, Gone}
 use Rattle.st_move.specs.declared.record.ContainerRecord.{ContainerRecord}
 use Rattle.st_move.specs.declared.record.MoveMessage.{MoveMessage}
 use Rattle.st_move.specs.declared.record.MoveMessage.TheVariants.{Image, Taken}
@@ -23,9 +23,9 @@ pub record Containers : Type 0 where
 abbrev pub with_records : Containers → List (Option ContainerRecord) → Containers
 with_records m rs = record { server = m.server; records = rs }
 
--- a record with this version, standing and updates
-abbrev pub recorded : ℕ → Standing → List (List ℕ) → ContainerRecord
-recorded version standing updates = record { version = version; standing = standing; updates = updates }
+-- a record with this version, state and updates
+abbrev pub recorded : ℕ → ContainerState → List (List ℕ) → ContainerRecord
+recorded version state updates = record { version = version; state = state; updates = updates }
 
 -- The beginning: container c is held in version 1 by server 1 + (c - 1) mod servers, and has no updates.
 abbrev pub begins_at : ServerId → ℕ → ℕ → Bool
@@ -56,24 +56,24 @@ unfoldable pub found : List (Option ContainerRecord) → ℕ → Result Containe
 found rs c = found_at c (numbered rs c)
 
 -- a record, unless the container was sent
-unfoldable pub unless_sent : ContainerRecord → Standing → Result ContainerRecord MoveRefusal
+unfoldable pub unless_sent : ContainerRecord → ContainerState → Result ContainerRecord MoveRefusal
 unless_sent r (Sent to) = Err (refusals.Redirect to r.version)
 unless_sent r (Gone to) = Err (refusals.Redirect to r.version)
 unless_sent r s = Ok r
 
 -- a record, unless the container leaves or was sent
-unfoldable pub unless_leaving : ContainerRecord → Standing → Result ContainerRecord MoveRefusal
+unfoldable pub unless_leaving : ContainerRecord → ContainerState → Result ContainerRecord MoveRefusal
 unless_leaving r (Leaving to) = Err (refusals.Leaving to)
 unless_leaving r s = unless_sent r s
 
 -- the record of a container whose updates may be listed
 unfoldable pub readable : Result ContainerRecord MoveRefusal → Result ContainerRecord MoveRefusal
-readable (Ok r) = unless_sent r r.standing
+readable (Ok r) = unless_sent r r.state
 readable (Err e) = Err e
 
 -- the record of a container that may be changed
 unfoldable pub changeable : Result ContainerRecord MoveRefusal → Result ContainerRecord MoveRefusal
-changeable (Ok r) = unless_leaving r r.standing
+changeable (Ok r) = unless_leaving r r.state
 changeable (Err e) = Err e
 
 -- the record of a held container, or why a put or an order on it is refused
@@ -81,13 +81,13 @@ abbrev pub held : Containers → ℕ → Result ContainerRecord MoveRefusal
 held m c = changeable (found m.records c)
 
 -- Whether the server serves a container: exactly where it holds it and is not about to send it.
-abbrev pub is_holding : Standing → Bool
+abbrev pub is_holding : ContainerState → Bool
 is_holding Holding = true
 is_holding s = false
 
 -- the record of a container that is served
 abbrev pub serves_by : Result ContainerRecord MoveRefusal → Bool
-serves_by (Ok r) = is_holding r.standing
+serves_by (Ok r) = is_holding r.state
 serves_by (Err e) = false
 
 -- the server serves the container
@@ -109,7 +109,7 @@ with_record c r rs = with_numbered c (Some r) rs
 
 -- a record with these updates
 abbrev pub with_updates : ContainerRecord → List (List ℕ) → ContainerRecord
-with_updates r us = record { version = r.version; standing = r.standing; updates = us }
+with_updates r us = record { version = r.version; state = r.state; updates = us }
 
 -- the record with one more update
 unfoldable pub updated_with : ContainerRecord → Result (List (List ℕ)) MoveRefusal → Result ContainerRecord MoveRefusal
@@ -131,12 +131,12 @@ abbrev pub after_put : Containers → ℕ → List ℕ → Result Containers Mov
 after_put m c u = changed m c (updated u (held m c))
 
 -- Order: a held container is to leave for another server.
-abbrev pub with_standing : ContainerRecord → Standing → ContainerRecord
-with_standing r s = record { version = r.version; standing = s; updates = r.updates }
+abbrev pub with_state : ContainerRecord → ContainerState → ContainerRecord
+with_state r s = record { version = r.version; state = s; updates = r.updates }
 
 -- the record that leaves, unless it is to stay where it is
 unfoldable pub ordered : ServerId → ServerId → Result ContainerRecord MoveRefusal → Result ContainerRecord MoveRefusal
-ordered server to (Ok r) = if same_server to server then Err refusals.Same else Ok (with_standing r (Leaving to))
+ordered server to (Ok r) = if same_server to server then Err refusals.Same else Ok (with_state r (Leaving to))
 ordered server to (Err e) = Err e
 
 -- the containers after an order
@@ -149,24 +149,24 @@ abbrev pub is_locked : Locks → ℕ → Bool
 is_locked l c = list_any (is_row_on c) l.rows
 
 -- it is about to move
-abbrev pub is_leaving : Standing → Bool
+abbrev pub is_leaving : ContainerState → Bool
 is_leaving (Leaving to) = true
 is_leaving s = false
 
 -- a record that leaves now: of a container that is not locked
 abbrev pub leaves : Locks → ℕ → Option ContainerRecord → Bool
 leaves l c None = false
-leaves l c (Some r) = is_leaving r.standing && not (is_locked l c)
+leaves l c (Some r) = is_leaving r.state && not (is_locked l c)
 
 -- the record of a container that was sent, in the next version
-unfoldable pub sent_on : ContainerRecord → Standing → ContainerRecord
+unfoldable pub sent_on : ContainerRecord → ContainerState → ContainerRecord
 sent_on r (Leaving to) = recorded (r.version + 1) (Sent to) r.updates
 sent_on r s = r
 
 -- a record that is sent on, or stays as it is
 unfoldable pub sent_if : Bool → Option ContainerRecord → Option ContainerRecord
 sent_if goes None = None
-sent_if goes (Some r) = Some (if goes then sent_on r r.standing else r)
+sent_if goes (Some r) = Some (if goes then sent_on r r.state else r)
 
 -- the records from this place on, after a tick
 unfoldable pub sent_from : Locks → ℕ → List (Option ContainerRecord) → List (Option ContainerRecord)
@@ -174,14 +174,14 @@ sent_from l place [] = []
 sent_from l place (r ∷ rs) = sent_if (leaves l (place + 1) r) r ∷ sent_from l (place + 1) rs
 
 -- the image of a container that was sent
-unfoldable pub image_by : ℕ → ContainerRecord → Standing → List (ServerId × MoveMessage)
+unfoldable pub image_by : ℕ → ContainerRecord → ContainerState → List (ServerId × MoveMessage)
 image_by c r (Sent to) = (to, Image c r.version r.updates) ∷ []
 image_by c r s = []
 
 -- the image that a record sends, if it sends one
 unfoldable pub image_of : ℕ → Option ContainerRecord → List (ServerId × MoveMessage)
 image_of c None = []
-image_of c (Some r) = image_by c r r.standing
+image_of c (Some r) = image_by c r r.state
 
 -- the images from this place on
 unfoldable pub images_from : ℕ → List (Option ContainerRecord) → List (ServerId × MoveMessage)
@@ -207,14 +207,14 @@ unfoldable pub with_image : ℕ → List (List ℕ) → Option ContainerRecord �
 with_image version updates r = if is_below version r then Some (recorded version Holding updates) else r
 
 -- the record after the answer to what it sent
-unfoldable pub gone_by : ContainerRecord → Standing → ContainerRecord
+unfoldable pub gone_by : ContainerRecord → ContainerState → ContainerRecord
 gone_by r (Sent to) = recorded r.version (Gone to) []
 gone_by r s = r
 
 -- the record after an answer of this version
 unfoldable pub answered : ℕ → Option ContainerRecord → Option ContainerRecord
 answered version None = None
-answered version (Some r) = Some (if r.version == version then gone_by r r.standing else r)
+answered version (Some r) = Some (if r.version == version then gone_by r r.state else r)
 
 -- the container of a message
 abbrev pub container_of : MoveMessage → ℕ

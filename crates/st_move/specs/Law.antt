@@ -3,8 +3,8 @@ use Rattle.std.specs.Prelude.{◌≡◌, ◌≤◌, ℕ, Bool, true, false, ◌=
 use Rattle.st_base.specs.declared.ids.ServerId.{ServerId}
 use Rattle.st_rules.specs.World.{numbered}
 use Rattle.st_move.specs.declared.record.ContainerRecord.{ContainerRecord}
-use Rattle.st_move.specs.declared.record.Standing.{Standing}
-use Rattle.st_move.specs.declared.record.Standing.TheVariants.{Holding, Leaving}
+use Rattle.st_move.specs.declared.record.ContainerState.{ContainerState}
+use Rattle.st_move.specs.declared.record.ContainerState.TheVariants.{Holding, Leaving}
 use Rattle.st_move.specs.declared.world.MoveEvent.{MoveEvent}
 use Rattle.st_move.specs.declared.world.MoveEvent.TheVariants as events
 use Rattle.st_move.specs.declared.site.MoveSite.{MoveSite}
@@ -55,7 +55,7 @@ abbrev pub record_at : MoveWorld → ℕ → ℕ → Option ContainerRecord
 record_at w c s = record_in (numbered w.sites s) c
 
 -- a server holds a container while it serves it and while it is about to send it
-abbrev pub is_held : Standing → Bool
+abbrev pub is_held : ContainerState → Bool
 is_held Holding = true
 is_held (Leaving to) = true
 is_held s = false
@@ -63,7 +63,7 @@ is_held s = false
 -- the record is of a container that is held
 abbrev pub holds_by : Option ContainerRecord → Bool
 holds_by None = false
-holds_by (Some r) = is_held r.standing
+holds_by (Some r) = is_held r.state
 
 -- the server holds the container
 abbrev pub holds : MoveWorld → ℕ → ℕ → Bool

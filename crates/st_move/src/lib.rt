@@ -19,7 +19,7 @@ ghost use Rattle.st_move.specs.Law.{NoUpdateIsLost};
 
 pub use mover::Mover;
 pub use network::MoveNetwork;
-pub use record::{ContainerRecord, MoveMessage, Standing};
+pub use record::{ContainerRecord, ContainerState, MoveMessage};
 pub use refusal::MoveRefusal;
 pub use site::MoveSite;
 pub use update::Update;

@@ -6,7 +6,7 @@ ghost use Rattle.st_move.specs.Containers as containers;
 ghost use Rattle.st_move.specs.Updates.{is_update};
 
 use crate::record::{
-    ContainerRecord, MoveMessage, Standing, order_in, put_in, take_answer, take_image,
+    ContainerRecord, ContainerState, MoveMessage, order_in, put_in, take_answer, take_image,
 };
 use crate::refusal::MoveRefusal;
 use crate::ticks::{images, leaving, send};
@@ -44,7 +44,7 @@ fn beginning(alloc: Global, server: ServerId, servers: u16, place: u32) -> Optio
     if place % servers as u32 + 1 == server.0 as u32 {
         Some(ContainerRecord {
             version: 1,
-            standing: Standing::Holding,
+            state: ContainerState::Holding,
             updates: Updates::new(alloc),
         })
     } else {

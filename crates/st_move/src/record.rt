@@ -11,7 +11,7 @@ use std::alloc::{AllocError, Global};
 
 /// How a container stands at a server that has a record of it.
 #[derive(Clone, Copy, Debug, PartialEq, Eq)]
-pub enum Standing {
+pub enum ContainerState {
     /// The server holds it.
     Holding,
     /// The server holds it until its lock rows are gone, and then sends it to this server.
@@ -27,7 +27,7 @@ pub enum Standing {
 #[derive(Drop)]
 pub struct ContainerRecord {
     pub version: u64,
-    pub standing: Standing,
+    pub state: ContainerState,
     pub updates: Updates,
 }
 
@@ -54,66 +54,66 @@ impl MoveMessage {
     }
 }
 
-fn is_holding(standing: Standing) -> bool
-    ensures { result ≡ containers.is_holding standing }
+fn is_holding(state: ContainerState) -> bool
+    ensures { result ≡ containers.is_holding state }
 {
-    match standing {
-        Standing::Holding => true,
-        Standing::Leaving(_) => false,
-        Standing::Sent(_) => false,
-        Standing::Gone(_) => false,
+    match state {
+        ContainerState::Holding => true,
+        ContainerState::Leaving(_) => false,
+        ContainerState::Sent(_) => false,
+        ContainerState::Gone(_) => false,
     }
 }
 
-fn is_leaving(standing: Standing) -> bool
-    ensures { result ≡ containers.is_leaving standing }
+fn is_leaving(state: ContainerState) -> bool
+    ensures { result ≡ containers.is_leaving state }
 {
-    match standing {
-        Standing::Holding => false,
-        Standing::Leaving(_) => true,
-        Standing::Sent(_) => false,
-        Standing::Gone(_) => false,
+    match state {
+        ContainerState::Holding => false,
+        ContainerState::Leaving(_) => true,
+        ContainerState::Sent(_) => false,
+        ContainerState::Gone(_) => false,
     }
 }
 
 impl ContainerRecord {
     /// Whether the container is served.
     pub(crate) fn is_holding(&self) -> bool
-        ensures { result ≡ containers.is_holding self.now.standing }
+        ensures { result ≡ containers.is_holding self.now.state }
     {
-        is_holding(self.standing)
+        is_holding(self.state)
     }
 
     /// Whether the container is about to move.
     pub(crate) fn is_leaving(&self) -> bool
-        ensures { result ≡ containers.is_leaving self.now.standing }
+        ensures { result ≡ containers.is_leaving self.now.state }
     {
-        is_leaving(self.standing)
+        is_leaving(self.state)
     }
 
     /// Whether the updates may be listed.
     #[tactic(auto, unfolding(crate::specs::Containers::unless_sent))]
     pub(crate) fn may_list(&self) -> Result<(), MoveRefusal>
-        ensures { calls.allowed self.now result ≡ containers.unless_sent self.now self.now.standing }
+        ensures { calls.allowed self.now result ≡ containers.unless_sent self.now self.now.state }
     {
-        match self.standing {
-            Standing::Holding => Ok(()),
-            Standing::Leaving(_) => Ok(()),
-            Standing::Sent(to) => Err(MoveRefusal::Redirect(to, self.version)),
-            Standing::Gone(to) => Err(MoveRefusal::Redirect(to, self.version)),
+        match self.state {
+            ContainerState::Holding => Ok(()),
+            ContainerState::Leaving(_) => Ok(()),
+            ContainerState::Sent(to) => Err(MoveRefusal::Redirect(to, self.version)),
+            ContainerState::Gone(to) => Err(MoveRefusal::Redirect(to, self.version)),
         }
     }
 
     /// Whether a put or an order may come.
     #[tactic(auto, unfolding(crate::specs::Containers::unless_leaving, crate::specs::Containers::unless_sent))]
     pub(crate) fn may_change(&self) -> Result<(), MoveRefusal>
-        ensures { calls.allowed self.now result ≡ containers.unless_leaving self.now self.now.standing }
+        ensures { calls.allowed self.now result ≡ containers.unless_leaving self.now self.now.state }
     {
-        match self.standing {
-            Standing::Holding => Ok(()),
-            Standing::Leaving(to) => Err(MoveRefusal::Leaving(to)),
-            Standing::Sent(to) => Err(MoveRefusal::Redirect(to, self.version)),
-            Standing::Gone(to) => Err(MoveRefusal::Redirect(to, self.version)),
+        match self.state {
+            ContainerState::Holding => Ok(()),
+            ContainerState::Leaving(to) => Err(MoveRefusal::Leaving(to)),
+            ContainerState::Sent(to) => Err(MoveRefusal::Redirect(to, self.version)),
+            ContainerState::Gone(to) => Err(MoveRefusal::Redirect(to, self.version)),
         }
     }
 
@@ -145,7 +145,7 @@ impl ContainerRecord {
         if to.0 == server.0 {
             return Err(MoveRefusal::Same);
         }
-        self.standing = Standing::Leaving(to);
+        self.state = ContainerState::Leaving(to);
         Ok(())
     }
 
@@ -153,21 +153,21 @@ impl ContainerRecord {
     #[tactic(auto, unfolding(crate::specs::Containers::sent_on))]
     fn send_on(&mut self)
         requires { self.old.version + 1 < 2 ^ 64 }
-        ensures { self.new ≡ containers.sent_on self.old self.old.standing }
+        ensures { self.new ≡ containers.sent_on self.old self.old.state }
     {
-        if let Standing::Leaving(to) = self.standing {
+        if let ContainerState::Leaving(to) = self.state {
             self.version += 1;
-            self.standing = Standing::Sent(to);
+            self.state = ContainerState::Sent(to);
         }
     }
 
     /// The answer to what was sent came.
     #[tactic(auto, unfolding(crate::specs::Containers::gone_by))]
     fn end(&mut self, alloc: Global)
-        ensures { self.new ≡ containers.gone_by self.old self.old.standing }
+        ensures { self.new ≡ containers.gone_by self.old self.old.state }
     {
-        if let Standing::Sent(to) = self.standing {
-            self.standing = Standing::Gone(to);
+        if let ContainerState::Sent(to) = self.state {
+            self.state = ContainerState::Gone(to);
             self.updates = Updates::new(alloc);
         }
     }
@@ -224,7 +224,7 @@ pub(crate) fn take_image(
         let updates = updates.copy()?;
         *entry = Some(ContainerRecord {
             version,
-            standing: Standing::Holding,
+            state: ContainerState::Holding,
             updates,
         });
     }

@@ -4,7 +4,7 @@ ghost use Rattle.std.specs.List.{list_all};
 ghost use Rattle.st_move.specs.Calls as calls;
 ghost use Rattle.st_move.specs.Containers as containers;
 
-use crate::record::{ContainerRecord, MoveMessage, Standing, send_if};
+use crate::record::{ContainerRecord, ContainerState, MoveMessage, send_if};
 use st_base::ServerId;
 use st_locks::LockTable;
 use std::alloc::{AllocError, Global};
@@ -72,15 +72,15 @@ fn push_image(
     let Some(record) = entry else {
         return Ok(());
     };
-    match record.standing {
-        Standing::Holding => Ok(()),
-        Standing::Gone(_) => Ok(()),
-        Standing::Sent(to) => {
+    match record.state {
+        ContainerState::Holding => Ok(()),
+        ContainerState::Gone(_) => Ok(()),
+        ContainerState::Sent(to) => {
             let image = MoveMessage::Image(c, record.version, record.updates.copy()?);
             images.push((to, image))?;
             Ok(())
         }
-        Standing::Leaving(to) => {
+        ContainerState::Leaving(to) => {
             if !yes {
                 return Ok(());
             }
