@@ -6,7 +6,7 @@ use Rattle.st_base.specs.declared.ids.ServerId.{ServerId}
 use Rattle.st_base.specs.declared.ids.Stamp.{Stamp}
 use Rattle.st_durable.specs.Durable.{IsMade, Tells}
 use Rattle.st_journal.specs.Journal.{IsJournal, all_opened, framed, opened}
-use Rattle.st_journal.specs.Laws.{length-written}
+use Rattle.st_store.specs.Laws.{length-written}
 use Rattle.st_journal.specs.Opened.{room_for}
 use Rattle.st_journal.specs.Stable as journal
 use Rattle.st_journal.specs.Stable.{after_changes, apply}

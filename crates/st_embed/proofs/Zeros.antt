@@ -1,7 +1,7 @@
 -- Bytes that are written over as many zeros.
 use Rattle.std.proofs.Common.{◌≡◌, ℕ, List, [], ◌∷◌, length, refl, ap}
-use Rattle.st_journal.specs.InMemory.{zeros}
-use Rattle.st_journal.specs.Store.{written}
+use Rattle.st_store.specs.InMemory.{zeros}
+use Rattle.st_store.specs.Store.{written}
 
 pub all_written : (bytes : List ℕ) → written (zeros (length bytes)) 0 bytes ≡ bytes
 unfolding zeros

@@ -3,7 +3,7 @@ ghost use Rattle.std.specs.Prelude.{◌≡◌, ◌≤◌, ◌<◌, IfOk, IfErr, 
 ghost use Rattle.st_extents.specs.Layout.{IsWithinLimits};
 ghost use Rattle.st_embed.specs.Journals.{NotRead, Reads};
 ghost use Rattle.st_journal.specs.Opened.{fresh_of};
-ghost use Rattle.st_journal.specs.InMemory as memory;
+ghost use Rattle.st_store.specs.InMemory as memory;
 
 use st_base::ServerId;
 use st_journal::{Journal, JournalFault, MemoryStore, Stable, Store};

@@ -7,11 +7,11 @@ use Rattle.std.proofs.lemmas.List.{length-take, get_or-take, get_or-drop, take_a
 use Rattle.std.proofs.lemmas.List.Folds.{list_all-append}
 use Rattle.st_journal.specs.Changes.{fits}
 use Rattle.st_journal.specs.Journal.{framed, opened, all_opened, IsJournal}
-use Rattle.st_journal.specs.Laws.{length-written}
-use Rattle.st_journal.specs.Store.{is_within, Torn}
+use Rattle.st_store.specs.Laws.{length-written}
+use Rattle.st_store.specs.Store.{is_within, Torn}
 use Rattle.st_journal.specs.Writing.{with_record, with_open_gate, IsTornAppend}
 use Rattle.st_journal.specs.declared.change.Change.{Change}
-use Rattle.st_journal.proofs.Parts.{written_parts}
+use Rattle.st_store.proofs.Parts.{written_parts}
 
 -- indexes outside a range
 pub before_range : (at count i : ℕ) → i < at → is_within at count i ≡ false

@@ -1,6 +1,3 @@
-pub mod Kept
-pub mod Quiet
-pub mod Parts
 pub mod Moments
 pub mod Torn
 pub mod Appending

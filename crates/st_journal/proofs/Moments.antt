@@ -1,6 +1,6 @@
 -- How a run of calls of a store goes on.
 use Rattle.std.proofs.Common.{inl, inr, ⊎_elim, ℕ, List, arith}
-use Rattle.st_journal.specs.Store.{Elapses, IsWithin, LeavesOnly, Rests}
+use Rattle.st_store.specs.Store.{Elapses, IsWithin, LeavesOnly, Rests}
 
 module _ {D : Type 0} (moment : D → ℕ) (left_since : D → ℕ → List ℕ → Type 0) where
   -- before the first call

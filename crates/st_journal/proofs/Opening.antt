@@ -7,7 +7,7 @@ use Rattle.st_journal.specs.Journal.{all_opened, IsJournal}
 use Rattle.st_journal.specs.Opened.{Opened, HasPrefix, Records, all_of, IsAtRest, Opens}
 use Rattle.st_journal.specs.Scan.{ReadsAll, NotAllRead, AreLow}
 use Rattle.st_journal.specs.Stable.{after_changes, fresh}
-use Rattle.st_journal.specs.Store.{Only}
+use Rattle.st_store.specs.Store.{Only}
 use Rattle.st_journal.specs.declared.change.Change.{Change}
 use Rattle.st_journal.specs.declared.fault.JournalFault.{JournalFault}
 use Rattle.st_journal.specs.declared.fault.JournalFault.TheVariants.{Damaged, Full, Store, Broken, Memory}

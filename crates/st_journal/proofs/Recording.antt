@@ -4,9 +4,9 @@ use Rattle.std.specs.Prelude.{is_some}
 use Rattle.std.proofs.lemmas.List.{append-nil}
 use Rattle.st_journal.specs.Changes.{bytes_of, fits}
 use Rattle.st_journal.specs.Journal.{framed, opened, all_opened, IsJournal}
-use Rattle.st_journal.specs.Laws.{length-written}
+use Rattle.st_store.specs.Laws.{length-written}
 use Rattle.st_journal.specs.Opened.{Opened, HasPrefix, Records, IsAtRest, Appends, NotPut, PutsAt, room_behind, room_for, under_way_in}
-use Rattle.st_journal.specs.Store.{LeavesOnly, Only, Torn}
+use Rattle.st_store.specs.Store.{LeavesOnly, Only, Torn}
 use Rattle.st_journal.specs.Writing.{IsTornAppend, with_open_gate, with_record}
 use Rattle.st_journal.specs.declared.change.Change.{Change}
 use Rattle.st_journal.specs.declared.fault.JournalFault.{JournalFault}

@@ -4,27 +4,27 @@ use Rattle.std.specs.Prelude.{eqb, ◌==◌, if◌then◌else◌}
 use Rattle.std.proofs.lemmas.Bool.{cases_Bool, cases_lt, cond-false, eqb-true, eqb-false, ne_eqb}
 use Rattle.st_link.specs.InMemory.{raised}
 use Rattle.st_link.specs.declared.link.Failed.{Failed}
-use Rattle.st_journal.specs.InMemory.{Held, Contents, InMemory, MayLeave, zeros, fresh_held, after_fill, after, filled, is_loose, recorded, held, with_write, with_sync, with_fill, changed, counted, stopped, stopped_unrecorded, Writes, Syncs, WriteBy, SyncBy}
+use Rattle.st_store.specs.InMemory.{Held, Contents, InMemory, MayLeave, zeros, fresh_held, after_fill, after, filled, is_loose, recorded, held, with_write, with_sync, with_fill, changed, counted, stopped, stopped_unrecorded, Writes, Syncs, WriteBy, SyncBy}
 use Rattle.st_journal.specs.Journal.{framed, opened, all_opened, IsJournal}
-use Rattle.st_journal.specs.Laws.{stands, stays, fill_stays, length-written, IsOutside}
+use Rattle.st_store.specs.Laws.{stands, stays, fill_stays, length-written, IsOutside}
 use Rattle.st_journal.specs.Opened.{Opened, HasPrefix, Records, Calls, acked_after, under_way_after}
-use Rattle.st_journal.specs.Plans as plans
-use Rattle.st_journal.specs.Plans.{by_stop, planned}
+use Rattle.st_store.specs.Plans as plans
+use Rattle.st_store.specs.Plans.{by_stop, planned}
 use Rattle.st_journal.specs.Stops.{IsArmed, EndsAtStop, after_stop}
-use Rattle.st_journal.specs.Store.{written}
+use Rattle.st_store.specs.Store.{written}
 use Rattle.st_journal.specs.Writing.{Puts}
 use Rattle.st_journal.specs.declared.change.Change.{Change}
 use Rattle.st_journal.specs.declared.fault.JournalFault.{JournalFault}
 use Rattle.st_journal.specs.declared.fault.JournalFault.TheVariants.{Damaged, Full, Store, Broken, Memory}
-use Rattle.st_journal.specs.declared.history.Span.{Span}
-use Rattle.st_journal.specs.declared.history.StoreCall.{StoreCall}
-use Rattle.st_journal.specs.declared.history.StoreCall.TheVariants.{Write, Sync}
-use Rattle.st_journal.specs.declared.plan.Plan.{Plan}
-use Rattle.st_journal.specs.declared.plan.Stop.{Stop}
-use Rattle.st_journal.specs.declared.plan.Outcome.{Outcome}
-use Rattle.st_journal.specs.declared.plan.Outcome.TheVariants.{Works, Stops}
+use Rattle.st_store.specs.declared.history.Span.{Span}
+use Rattle.st_store.specs.declared.history.StoreCall.{StoreCall}
+use Rattle.st_store.specs.declared.history.StoreCall.TheVariants.{Write, Sync}
+use Rattle.st_store.specs.declared.plan.Plan.{Plan}
+use Rattle.st_store.specs.declared.plan.Stop.{Stop}
+use Rattle.st_store.specs.declared.plan.Outcome.{Outcome}
+use Rattle.st_store.specs.declared.plan.Outcome.TheVariants.{Works, Stops}
 use Rattle.st_journal.proofs.Appending.{opened_push, before_range}
-use Rattle.st_journal.proofs.Kept.{after_push, length-held, length-seen, loose_from, takes}
+use Rattle.st_store.proofs.Kept.{after_push, length-held, length-seen, loose_from, takes}
 use Rattle.st_journal.proofs.Recording.{gate_within}
 
 abbrev Answered : Type 0

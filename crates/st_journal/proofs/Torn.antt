@@ -1,6 +1,6 @@
 -- A range that is written and then synced, over a store's words.
 use Rattle.std.proofs.Common.{ℕ, List, refl, sym, subst}
-use Rattle.st_journal.specs.Store.{Torn, Follows, IsWithin, Only, Elapses, LeavesOnly}
+use Rattle.st_store.specs.Store.{Torn, Follows, IsWithin, Only, Elapses, LeavesOnly}
 use Rattle.st_journal.proofs.Moments.{started, goes_on}
 
 pub not_torn : (at count : ℕ) (bytes : List ℕ) → Torn at count bytes bytes

@@ -1,9 +1,4 @@
-pub mod Store
-pub mod Plans
-pub mod InMemory
-pub mod Kept
 pub mod Stops
-pub mod Laws
 pub mod Writing
 pub mod Changes
 pub mod Reading

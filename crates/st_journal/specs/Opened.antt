@@ -6,7 +6,7 @@ use Rattle.st_rules.specs.Server as server
 use Rattle.st_journal.specs.Journal.{framed, all_opened, IsJournal, StandsFor, IsDamaged}
 use Rattle.st_journal.specs.Parts.{stable_of}
 use Rattle.st_journal.specs.Stable.{after_changes, fresh}
-use Rattle.st_journal.specs.Store.{Only, Step}
+use Rattle.st_store.specs.Store.{Only, Step}
 use Rattle.st_journal.specs.Writing.{Puts, with_open_gate}
 use Rattle.st_link.specs.declared.link.Failed.{Failed}
 use Rattle.st_journal.specs.declared.change.Change.{Change}

@@ -1,11 +1,11 @@
 -- What becomes of an append in which a store in memory stops.
 use Rattle.std.specs.Prelude.{◌≡◌, ◌⊎◌, ℕ, Bool, true, false, ◌&&◌, ◌==◌, if◌then◌else◌, nat_le, List, [], ◌∷◌, ◌++◌, Some, Result, Ok, Err}
-use Rattle.st_journal.specs.InMemory.{InMemory, held}
+use Rattle.st_store.specs.InMemory.{InMemory, held}
 use Rattle.st_journal.specs.Journal.{IsJournal}
 use Rattle.st_journal.specs.declared.change.Change.{Change}
 use Rattle.st_journal.specs.declared.fault.JournalFault.{JournalFault}
 use Rattle.st_journal.specs.declared.fault.JournalFault.TheVariants.{Store}
-use Rattle.st_journal.specs.declared.plan.Plan.{Plan}
+use Rattle.st_store.specs.declared.plan.Plan.{Plan}
 
 -- no call fails but that of a stop, which comes in this call, counting the next one as 1, and leaves this byte
 pub record IsArmed (p : Plan) (call byte : ℕ) : Type 0 where

@@ -1,7 +1,7 @@
 -- What a crash leaves while a change is appended, over plain byte lists, and which calls of a store append it.
 use Rattle.std.specs.Prelude.{◌⊎◌, ℕ, ◌+◌, List, [], ◌∷◌, length, Result}
 use Rattle.st_link.specs.declared.link.Failed.{Failed}
-use Rattle.st_journal.specs.Store.{Step, Then, Torn, written}
+use Rattle.st_store.specs.Store.{Step, Then, Torn, written}
 
 -- the bytes with a record behind the gate at this place, and with the gate open
 abbrev pub with_record : List ℕ → ℕ → List ℕ → List ℕ

@@ -7,10 +7,10 @@ ghost use Rattle.st_journal.specs.Journal.{Applies, IsJournal, framed};
 ghost use Rattle.st_journal.specs.Opened as opened;
 ghost use Rattle.st_journal.specs.Opened.{Appends, HasPrefix, NotAppended, NotOpened, Opens, ReadsPrefix, Records};
 ghost use Rattle.st_journal.specs.Parts as parts;
-ghost use Rattle.st_journal.specs.Plans as plans;
+ghost use Rattle.st_store.specs.Plans as plans;
 ghost use Rattle.st_journal.specs.Scan as scan;
 ghost use Rattle.st_journal.specs.Stable as stable;
-ghost use Rattle.st_journal.specs.Store.{LeavesOnly, Only, Rests};
+ghost use Rattle.st_store.specs.Store.{LeavesOnly, Only, Rests};
 ghost use Rattle.st_journal.specs.Writing.{IsTornAppend};
 ghost use Rattle.st_link.specs.Causes.{HasCause};
 ghost use Rattle.st_journal.specs.declared.change.Change.{Change};
@@ -18,13 +18,12 @@ ghost use Rattle.st_journal.specs.declared.fault.JournalFault.TheVariants.{Full}
 
 use crate::change::Change;
 use crate::fault::JournalFault;
-use crate::memory::MemoryStore;
 use crate::scan::{Scanned, read_all};
 use crate::stable::Stable;
-use crate::store::Store;
 use crate::writing::{put_record, record_of};
 use st_base::ServerId;
 use st_link::Failed;
+use st_store::{MemoryStore, Store};
 use std::alloc::Global;
 use std::marker::Model;
 

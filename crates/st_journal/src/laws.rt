@@ -2,7 +2,7 @@
 ghost use Rattle.std.specs.Prelude.{◌≡◌, ◌⊎◌, ◌≤◌, ◌+◌, ◌++◌, ◌∷◌, [], ℕ, List, None, Result, true, length};
 ghost use Rattle.st_rules.specs.Server.{Stable};
 ghost use Rattle.st_journal.specs.Changes.{fits};
-ghost use Rattle.st_journal.specs.InMemory.{InMemory, MayLeave, Syncs, Writes, held, recorded, zeros};
+ghost use Rattle.st_store.specs.InMemory.{InMemory, MayLeave, Syncs, Writes, held, recorded, zeros};
 ghost use Rattle.st_journal.specs.Journal.{IsDamaged, IsJournal, StandsFor, all_opened, framed};
 ghost use Rattle.st_journal.specs.Opened.{Calls, Opened, Records, acked_after, under_way_after};
 ghost use Rattle.st_journal.specs.Stops.{EndsAtStop, IsArmed};

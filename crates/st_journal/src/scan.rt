@@ -7,14 +7,14 @@ ghost use Rattle.st_journal.specs.Journal.{framed};
 ghost use Rattle.st_journal.specs.Parts as parts;
 ghost use Rattle.st_journal.specs.Scan as scan;
 ghost use Rattle.st_journal.specs.Stable as stables;
-ghost use Rattle.st_journal.specs.Store.{Rests};
+ghost use Rattle.st_store.specs.Store.{Rests};
 
 use crate::change::Change;
 use crate::fault::JournalFault;
 use crate::reading::decode;
 use crate::stable::{ChangeRefusal, Stable};
-use crate::store::Store;
 use st_link::Failed;
+use st_store::Store;
 use std::alloc::Global;
 
 /// Where reading stands: the place of the next gate, and how many changes were read.

@@ -3,12 +3,12 @@ ghost use Rattle.std.specs.Prelude.{◌≡◌, ◌≤◌, ◌<◌, ◌+◌, ◌+
 ghost use Rattle.st_link.specs.Causes.{HasCause};
 ghost use Rattle.st_journal.specs.Changes.{fits};
 ghost use Rattle.st_journal.specs.Journal.{framed};
-ghost use Rattle.st_journal.specs.Store.{LeavesOnly, Only, Torn, written};
+ghost use Rattle.st_store.specs.Store.{LeavesOnly, Only, Torn, written};
 ghost use Rattle.st_journal.specs.Writing.{IsTornAppend, Puts, WritesSynced, with_open_gate};
 
 use crate::change::{Change, put_byte, put_word32};
-use crate::store::Store;
 use st_link::Failed;
+use st_store::Store;
 use std::alloc::{AllocError, Global};
 
 /// The bytes that are written behind a gate: the number of the change's bytes, those bytes, and a gate that is not open.

@@ -1,5 +1,5 @@
 ghost use Rattle.std.specs.Prelude.{◌≡◌, ◌≤◌, ◌<◌, IfOk, OnOk, length};
-ghost use Rattle.st_journal.specs.InMemory.{held};
+ghost use Rattle.st_store.specs.InMemory.{held};
 ghost use Rattle.st_journal_tests.specs.States.{HasState};
 
 use st_base::{Epoch, ServerId};

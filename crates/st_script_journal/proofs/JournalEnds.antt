@@ -1,7 +1,7 @@
 -- How a script of a journal ended, with its store.
 use Rattle.std.proofs.Common.{◌≡◌, ℕ, List, refl, sym, subst, arith}
 use Rattle.std.specs.Prelude.{Option, Some, None, Result, Ok, Err, IsOk, IfErr, IfOk, OnOk, IfSome}
-use Rattle.st_journal.specs.InMemory.{InMemory}
+use Rattle.st_store.specs.InMemory.{InMemory}
 use Rattle.st_script.specs.declared.fault.ScriptFault.{ScriptFault}
 use Rattle.st_script.specs.declared.fault.ScriptFault.TheVariants as faults
 use Rattle.st_script.specs.Ends.{HasCauses, IsWhole, Reports}

@@ -6,10 +6,10 @@ use Rattle.std.specs.List.{list_all}
 use Rattle.std.proofs.lemmas.Bool.{and_parts}
 use Rattle.st_rules.specs.Server.{Stable}
 use Rattle.st_journal.specs.Changes.{fits}
-use Rattle.st_journal.specs.InMemory.{Contents, InMemory, Keeps, held}
+use Rattle.st_store.specs.InMemory.{Contents, InMemory, Keeps, held}
 use Rattle.st_journal.specs.Journal.{IsJournal}
 use Rattle.st_journal.specs.Opened.{Calls, NotAppended, Opened, Records, acked_after, room_behind, room_for, under_way_after}
-use Rattle.st_journal.specs.Plans as plans
+use Rattle.st_store.specs.Plans as plans
 use Rattle.st_journal.specs.Scan.{AreLow}
 use Rattle.st_journal.specs.Stable.{HasRoom, after_changes, apply, kept}
 use Rattle.st_journal.specs.Stops.{EndsAtStop, IsArmed, after_stop}
@@ -19,7 +19,7 @@ use Rattle.st_journal.specs.declared.fault.JournalFault.TheVariants.{Damaged, Fu
 use Rattle.st_journal.specs.declared.stable.ChangeRefusal.{ChangeRefusal}
 use Rattle.st_journal.proofs.Counters.{applied_low, low_room}
 use Rattle.st_journal.proofs.Exact.{some_is}
-use Rattle.st_journal.proofs.Kept.{length-seen}
+use Rattle.st_store.proofs.Kept.{length-seen}
 use Rattle.st_journal.proofs.Opening.{fresh_low}
 use Rattle.st_journal.proofs.Recording.{changes_few, gate_within}
 use Rattle.st_journal.proofs.Scanning.{length-framed}

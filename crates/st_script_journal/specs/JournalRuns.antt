@@ -1,14 +1,14 @@
 -- A journal's script on its way: the opened journal, and the stable part that it stands for.
 use Rattle.std.specs.Prelude.{◌≡◌, ℕ, true, List, [], Option, Some, None, Result, Ok, Err, if◌then◌else◌, codes}
-use Rattle.st_journal.specs.InMemory.{InMemory, MayLeave, fresh_contents, held, recorded}
+use Rattle.st_store.specs.InMemory.{InMemory, MayLeave, fresh_contents, held, recorded}
 use Rattle.st_journal.specs.Journal.{IsJournal}
 use Rattle.st_journal.specs.Opened.{Opened, Records}
-use Rattle.st_journal.specs.Plans.{IsQuiet}
+use Rattle.st_store.specs.Plans.{IsQuiet}
 use Rattle.st_journal.specs.Stable.{after_changes}
 use Rattle.st_journal.specs.declared.change.Change.{Change}
 use Rattle.st_journal.specs.declared.fault.JournalFault.{JournalFault}
 use Rattle.st_journal.specs.declared.fault.JournalFault.TheVariants.{Store, Memory}
-use Rattle.st_journal.specs.declared.plan.Plan.{Plan}
+use Rattle.st_store.specs.declared.plan.Plan.{Plan}
 use Rattle.st_rules.specs.Server as server
 use Rattle.st_script.specs.declared.fault.ScriptFault.{ScriptFault}
 use Rattle.st_script.specs.Ends.{Reports}

@@ -2,7 +2,7 @@
 ghost use Rattle.std.specs.Prelude.{◌≡◌, ◌<◌, ◌++◌, ◌∷◌, [], List, Some, Ok, Err, true, false, nat_lt, IfOk, IfErr, OnOk, length};
 ghost use Rattle.st_journal.specs.Changes.{is_ranged};
 ghost use Rattle.st_journal.specs.Parts.{Applies, stable_of};
-ghost use Rattle.st_journal.specs.Plans as plans;
+ghost use Rattle.st_store.specs.Plans as plans;
 ghost use Rattle.st_journal.specs.Stable.{apply};
 ghost use Rattle.st_journal.specs.Stops.{after_stop};
 ghost use Rattle.st_journal.specs.declared.change.Change.{Change};

@@ -5,8 +5,8 @@ use Rattle.std.specs.declared.alloc.Global.{Global}
 use Rattle.std.specs.Io.KnownBytes.{Appends, IsAtEnd}
 use Rattle.st_link.specs.Causes.{Rose}
 use Rattle.st_link.specs.Prefixes.{AppendsPrefix}
-use Rattle.st_journal.specs.InMemory.{InMemory, fresh_contents}
-use Rattle.st_journal.specs.Plans as plans
+use Rattle.st_store.specs.InMemory.{InMemory, fresh_contents}
+use Rattle.st_store.specs.Plans as plans
 use Rattle.st_script_journal.specs.JournalRuns.{HasChanges, IsFreshStore, Leaves, STORE_SIZE}
 use Rattle.st_script_journal.specs.JournalScripts.{JournalState}
 use Rattle.st_script.specs.declared.fault.ScriptFault.{ScriptFault}

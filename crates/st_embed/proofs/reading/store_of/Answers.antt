@@ -1,6 +1,6 @@
 use Rattle.std.proofs.Common.{◌∙◌, ap}
-use Rattle.st_journal.specs.InMemory.{InMemory, held}
-use Rattle.st_journal.specs.Store.{written}
+use Rattle.st_store.specs.InMemory.{InMemory, held}
+use Rattle.st_store.specs.Store.{written}
 use Rattle.st_embed.proofs.Zeros.{all_written}
 use Rattle.st_embed.proofs.reading.store_of.Goals as goal
 

@@ -1,4 +1,4 @@
-use Rattle.st_journal.proofs.Kept.{length-zeros}
+use Rattle.st_store.proofs.Kept.{length-zeros}
 use Rattle.st_journal.proofs.Stopping.{zeros_journal}
 use Rattle.st_journal.proofs.laws.zeros_are_an_empty_journal.Goals as goal
 

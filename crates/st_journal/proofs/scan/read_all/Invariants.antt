@@ -1,7 +1,7 @@
 use Rattle.std.proofs.Common.{◌≡◌, ◌≤◌, ◌-◌, length}
 use Rattle.st_journal.specs.Parts.{stable_of}
 use Rattle.st_journal.specs.Scan.{IsReadTo}
-use Rattle.st_journal.specs.Store.{Rests}
+use Rattle.st_store.specs.Store.{Rests}
 use Rattle.st_journal.proofs.scan.read_all.Given as goal
 
 abbrev pub invariant-changes : goal.invariant-changes

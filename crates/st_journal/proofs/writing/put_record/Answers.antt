@@ -1,5 +1,5 @@
 use Rattle.std.proofs.Common.{ℕ, List, inl, inr, subst}
-use Rattle.st_journal.specs.Store.{Torn}
+use Rattle.st_store.specs.Store.{Torn}
 use Rattle.st_journal.specs.Writing.{IsTornAppend}
 use Rattle.st_journal.proofs.Moments.{goes_through, weaker}
 use Rattle.st_journal.proofs.writing.put_record.Goals as goal
