@@ -16,8 +16,8 @@ use Rattle.st_rules.specs.Admissible.{cannot_step, clocks_refused, drift_refused
 use Rattle.st_rules.specs.Events.{counted}
 use Rattle.st_rules.specs.Safety.{is_event, is_increment}
 use Rattle.st_rules.specs.World.{World, all_clients, is_running}
-use Rattle.st_world.specs.Advances.{IsAccepted}
-use Rattle.st_world.specs.Readiness.{IsMet, IsReady, MayCount}
+use Rattle.st_world_events.specs.Advances.{IsAccepted}
+use Rattle.st_world_events.specs.Readiness.{IsMet, IsReady, MayCount}
 use Rattle.st_world.specs.Timed.{IsLaid, IsTimed}
 
 neither : {A : Type 0} (o rest : Option A) → option_or o rest ≡ None → (o ≡ None) × (rest ≡ None)

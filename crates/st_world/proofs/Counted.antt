@@ -2,7 +2,7 @@
 use Rattle.std.proofs.Common.{◌≡◌, ℕ, ◌+◌, ◌-◌, ◌<◌, ◌≤◌, List, [], ◌∷◌, ◌++◌, refl, sym, ap, ◌∙◌, append_assoc}
 use Rattle.std.specs.Prelude.{map}
 use Rattle.st_rules.specs.Extents.{numbers}
-use Rattle.st_world.proofs.Flushed.{numbers_end, numbers_on}
+use Rattle.st_world_events.proofs.Flushed.{numbers_end, numbers_on}
 
 nothing_more : {A : Type 0} (xs : List A) → xs ++ [] ≡ xs
 nothing_more [] = refl

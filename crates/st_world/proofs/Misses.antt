@@ -8,7 +8,7 @@ use Rattle.st_rules.specs.Admissible.{flush_missed, missed_at, missed_by}
 use Rattle.st_rules.specs.Extents.{numbers}
 use Rattle.st_rules.specs.Keys.{client}
 use Rattle.st_rules.specs.World.{World, all_servers, server, site_of}
-use Rattle.st_world.proofs.Flushed.{numbers_end, numbers_on}
+use Rattle.st_world_events.proofs.Flushed.{numbers_end, numbers_on}
 
 first_some : {A : Type 0} (o rest : Option A) (x : A) → Some x ≡ o → option_or o rest ≡ Some x
 first_some None rest x h = absurd (cc)

@@ -30,9 +30,9 @@ use Rattle.st_rules.specs.Leases.{drift_after, raise_rows}
 use Rattle.st_rules.specs.Server as server
 use Rattle.st_rules.specs.Server.{ServerNode}
 use Rattle.st_rules.specs.World.{ClientSite, World, all_servers, clock_of, message_of, node_of, receiver_of, site_of}
-use Rattle.st_world.specs.Flushing.{flush_each}
+use Rattle.st_world_events.specs.Flushing.{flush_each}
 use Rattle.st_world.specs.Shaping.{HasSteps, IsAfter, SameShape, SameTime}
-use Rattle.st_world.proofs.Flushed.{flushes_is}
+use Rattle.st_world_events.proofs.Flushed.{flushes_is}
 
 over : {u v w : World} → SameTime u v → SameTime v w → SameTime u w
 over a b = record { events = b.events ∙ a.events; clocks = b.clocks ∙ a.clocks; drift = b.drift ∙ a.drift; clients = b.clients ∙ a.clients; servers = b.servers ∙ a.servers; config = b.config ∙ a.config }

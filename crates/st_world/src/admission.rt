@@ -6,82 +6,86 @@ ghost use Rattle.st_rules.specs.Admissible as admissible;
 ghost use Rattle.st_world.specs.Delivering.{advance_refused};
 ghost use Rattle.st_world.specs.Timed.{IsTimed};
 
-use crate::machine::WorldMachine;
+use crate::checks::{
+    cannot_step, no_node, not_running, refused_delivery, refused_effect, refused_loss,
+    refused_report, still_running,
+};
+use crate::clocks::clocks_refused;
+use crate::missed_flushes::flush_missed;
 use st_base::NodeId;
 use st_messages::Event;
 use st_rules::WorldRefusal;
+use st_world_events::WorldMachine;
 
-impl WorldMachine {
-    /// A tick or an ask of a node.
-    fn step_refused(&self, node: NodeId) -> Option<WorldRefusal>
-        ensures { result ≡ option_or (admissible.no_node self.now.world node) (admissible.cannot_step self.now.world node) }
-    {
-        match self.no_node(node) {
-            Some(refusal) => Some(refusal),
-            None => self.cannot_step(node),
-        }
+/// A tick or an ask of a node.
+fn step_refused(machine: &WorldMachine, node: NodeId) -> Option<WorldRefusal>
+    ensures { result ≡ option_or (admissible.no_node machine.now.world node) (admissible.cannot_step machine.now.world node) }
+{
+    match no_node(machine, node) {
+        Some(refusal) => Some(refusal),
+        None => cannot_step(machine, node),
     }
+}
 
-    /// A cut or a heal of a direction.
-    fn link_refused(&self, from: NodeId, to: NodeId) -> Option<WorldRefusal>
-        ensures { result ≡ option_or (admissible.no_node self.now.world from) (admissible.no_node self.now.world to) }
-    {
-        match self.no_node(from) {
-            Some(refusal) => Some(refusal),
-            None => self.no_node(to),
-        }
+/// A cut or a heal of a direction.
+fn link_refused(machine: &WorldMachine, from: NodeId, to: NodeId) -> Option<WorldRefusal>
+    ensures { result ≡ option_or (admissible.no_node machine.now.world from) (admissible.no_node machine.now.world to) }
+{
+    match no_node(machine, from) {
+        Some(refusal) => Some(refusal),
+        None => no_node(machine, to),
     }
+}
 
-    fn crash_refused(&self, node: NodeId) -> Option<WorldRefusal>
-        ensures { result ≡ option_or (admissible.no_node self.now.world node) (admissible.not_running self.now.world node) }
-    {
-        match self.no_node(node) {
-            Some(refusal) => Some(refusal),
-            None => self.not_running(node),
-        }
+fn crash_refused(machine: &WorldMachine, node: NodeId) -> Option<WorldRefusal>
+    ensures { result ≡ option_or (admissible.no_node machine.now.world node) (admissible.not_running machine.now.world node) }
+{
+    match no_node(machine, node) {
+        Some(refusal) => Some(refusal),
+        None => not_running(machine, node),
     }
+}
 
-    fn start_refused(&self, node: NodeId) -> Option<WorldRefusal>
-        ensures { result ≡ option_or (admissible.no_node self.now.world node) (admissible.still_running self.now.world node) }
-    {
-        match self.no_node(node) {
-            Some(refusal) => Some(refusal),
-            None => self.still_running(node),
-        }
+fn start_refused(machine: &WorldMachine, node: NodeId) -> Option<WorldRefusal>
+    ensures { result ≡ option_or (admissible.no_node machine.now.world node) (admissible.still_running machine.now.world node) }
+{
+    match no_node(machine, node) {
+        Some(refusal) => Some(refusal),
+        None => still_running(machine, node),
     }
+}
 
-    fn advance_refused(&self, steps: &[u64]) -> Option<WorldRefusal>
-        requires clients { length self.now.world.clients ≤ 16 }
-        requires servers { length self.now.world.servers ≤ 4 }
-        requires timed { IsTimed self.now.world steps.now }
-        ensures { result ≡ advance_refused self.now.world steps.now }
-    {
-        match self.clocks_refused(steps) {
-            Some(refusal) => Some(refusal),
-            None => self.flush_missed(steps),
-        }
+fn advance_refused(machine: &WorldMachine, steps: &[u64]) -> Option<WorldRefusal>
+    requires clients { length machine.now.world.clients ≤ 16 }
+    requires servers { length machine.now.world.servers ≤ 4 }
+    requires timed { IsTimed machine.now.world steps.now }
+    ensures { result ≡ advance_refused machine.now.world steps.now }
+{
+    match clocks_refused(machine, steps) {
+        Some(refusal) => Some(refusal),
+        None => flush_missed(machine, steps),
     }
+}
 
-    /// Returns the first refusal of an event that stands. It changes nothing and takes no memory.
-    #[tactic(auto, unfolding(st_rules::specs::Admissible::refusal))]
-    pub fn refusal(&self, event: &Event) -> Option<WorldRefusal>
-        requires clients { length self.now.world.clients ≤ 16 }
-        requires servers { length self.now.world.servers ≤ 4 }
-        requires timed { (steps : List ℕ) → event.now ≡ events.Advance steps → IsTimed self.now.world steps }
-        ensures { result ≡ admissible.refusal self.now.world event.now }
-    {
-        match event {
-            Event::Tick(node) => self.step_refused(*node),
-            Event::App { client, .. } => self.step_refused(NodeId::Client(*client)),
-            Event::Deliver(k) => self.refused_delivery(*k),
-            Event::Lose(k) => self.refused_loss(*k),
-            Event::Cut(from, to) => self.link_refused(*from, *to),
-            Event::Heal(from, to) => self.link_refused(*from, *to),
-            Event::Advance(steps) => self.advance_refused(steps.as_slice()),
-            Event::Effect(k) => self.refused_effect(*k),
-            Event::Report { k, ok } => self.refused_report(*k, *ok),
-            Event::Crash(node) => self.crash_refused(*node),
-            Event::Start(node) => self.start_refused(*node),
-        }
+/// Returns the first refusal of an event that stands. It changes nothing and takes no memory.
+#[tactic(auto, unfolding(st_rules::specs::Admissible::refusal))]
+pub(crate) fn refusal(machine: &WorldMachine, event: &Event) -> Option<WorldRefusal>
+    requires clients { length machine.now.world.clients ≤ 16 }
+    requires servers { length machine.now.world.servers ≤ 4 }
+    requires timed { (steps : List ℕ) → event.now ≡ events.Advance steps → IsTimed machine.now.world steps }
+    ensures { result ≡ admissible.refusal machine.now.world event.now }
+{
+    match event {
+        Event::Tick(node) => step_refused(machine, *node),
+        Event::App { client, .. } => step_refused(machine, NodeId::Client(*client)),
+        Event::Deliver(k) => refused_delivery(machine, *k),
+        Event::Lose(k) => refused_loss(machine, *k),
+        Event::Cut(from, to) => link_refused(machine, *from, *to),
+        Event::Heal(from, to) => link_refused(machine, *from, *to),
+        Event::Advance(steps) => advance_refused(machine, steps.as_slice()),
+        Event::Effect(k) => refused_effect(machine, *k),
+        Event::Report { k, ok } => refused_report(machine, *k, *ok),
+        Event::Crash(node) => crash_refused(machine, *node),
+        Event::Start(node) => start_refused(machine, *node),
     }
 }

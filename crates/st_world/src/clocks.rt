@@ -6,10 +6,10 @@ ghost use Rattle.st_rules.specs.Leases as leases;
 ghost use Rattle.st_rules.specs.World as world;
 ghost use Rattle.st_world.specs.Timed.{IsPair, IsTimed, excess_in};
 
-use crate::machine::WorldMachine;
 use st_base::{ClientId, Config, NodeId, ServerId};
 use st_clock::{Drift, rate_ok};
 use st_rules::{Excess, WorldRefusal};
+use st_world_events::WorldMachine;
 use st_world_parts::stands;
 
 fn greatest(steps: &[u64]) -> u64
@@ -54,54 +54,55 @@ fn excess_after(drift: &Drift, steps: &[u64], config: &Config) -> Option<Excess>
     excess_in(drift.check(steps, config.num, config.den, config.grain))
 }
 
-impl WorldMachine {
-    /// The node of a place among the clocks, from 0.
-    #[tactic(auto, unfolding(st_rules::specs::World::node_of_place))]
-    fn node_of_place(&self, place: usize) -> NodeId
-        requires { place < 20 }
-        ensures { result ≡ world.node_of_place self.now.world place }
-    {
-        if place < self.clients.len() {
-            NodeId::Client(ClientId((place + 1) as u16))
-        } else {
-            NodeId::Server(ServerId((place + 1 - self.clients.len()) as u16))
-        }
+/// The node of a place among the clocks, from 0.
+#[tactic(auto, unfolding(st_rules::specs::World::node_of_place))]
+fn node_of_place(machine: &WorldMachine, place: usize) -> NodeId
+    requires { place < 20 }
+    ensures { result ≡ world.node_of_place machine.now.world place }
+{
+    if place < machine.clients.len() {
+        NodeId::Client(ClientId((place + 1) as u16))
+    } else {
+        NodeId::Server(ServerId((place + 1 - machine.clients.len()) as u16))
     }
+}
 
-    fn rate_refused(&self, steps: &[u64]) -> Option<WorldRefusal>
-        requires { 1 ≤ length steps.now }
-        ensures { result ≡ admissible.rate_refused self.now.world steps.now }
-    {
-        stands(
-            !rate_ok(steps, self.config.num, self.config.den),
-            WorldRefusal::ClockRate(greatest(steps), least(steps)),
+fn rate_refused(machine: &WorldMachine, steps: &[u64]) -> Option<WorldRefusal>
+    requires { 1 ≤ length steps.now }
+    ensures { result ≡ admissible.rate_refused machine.now.world steps.now }
+{
+    stands(
+        !rate_ok(steps, machine.config.num, machine.config.den),
+        WorldRefusal::ClockRate(greatest(steps), least(steps)),
+    )
+}
+
+fn drift_refused(machine: &WorldMachine, excess: Option<Excess>) -> Option<WorldRefusal>
+    requires { IfSome excess (IsPair 20) }
+    ensures { result ≡ admissible.drift_refused machine.now.world excess }
+{
+    match excess {
+        None => None,
+        Some(excess) => Some(WorldRefusal::ClockDrift(
+            node_of_place(machine, excess.m),
+            node_of_place(machine, excess.n),
+            excess.excess,
+        )),
+    }
+}
+
+/// Clocks that would run apart too far.
+#[tactic(auto, unfolding(st_rules::specs::Admissible::clocks_refused))]
+pub(crate) fn clocks_refused(machine: &WorldMachine, steps: &[u64]) -> Option<WorldRefusal>
+    requires { IsTimed machine.now.world steps.now }
+    ensures { result ≡ admissible.clocks_refused machine.now.world steps.now }
+{
+    if machine.form == 1 {
+        rate_refused(machine, steps)
+    } else {
+        drift_refused(
+            machine,
+            excess_after(&machine.drift, steps, &machine.config),
         )
-    }
-
-    fn drift_refused(&self, excess: Option<Excess>) -> Option<WorldRefusal>
-        requires { IfSome excess (IsPair 20) }
-        ensures { result ≡ admissible.drift_refused self.now.world excess }
-    {
-        match excess {
-            None => None,
-            Some(excess) => Some(WorldRefusal::ClockDrift(
-                self.node_of_place(excess.m),
-                self.node_of_place(excess.n),
-                excess.excess,
-            )),
-        }
-    }
-
-    /// Clocks that would run apart too far.
-    #[tactic(auto, unfolding(st_rules::specs::Admissible::clocks_refused))]
-    pub(crate) fn clocks_refused(&self, steps: &[u64]) -> Option<WorldRefusal>
-        requires { IsTimed self.now.world steps.now }
-        ensures { result ≡ admissible.clocks_refused self.now.world steps.now }
-    {
-        if self.form == 1 {
-            self.rate_refused(steps)
-        } else {
-            self.drift_refused(excess_after(&self.drift, steps, &self.config))
-        }
     }
 }

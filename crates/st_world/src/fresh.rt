@@ -5,11 +5,11 @@ ghost use Rattle.st_rules.specs.Extents.{numbers};
 ghost use Rattle.st_rules.specs.World as world;
 ghost use Rattle.st_world.specs.Heads.{HasCounts, nodes_at_start};
 
-use crate::client::WorldClient;
 use st_base::{ClientId, Config, ServerId, Stamp};
 use st_client::ClientNode;
 use st_messages::Counts;
 use st_server::ServerNode;
+use st_world_events::WorldClient;
 use std::alloc::{AllocError, Global};
 
 /// Adds the clocks of clients.

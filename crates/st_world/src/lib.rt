@@ -3,31 +3,15 @@
 #![tactic(auto)]
 
 mod admission;
-mod advances;
-mod answers;
-mod asks;
-mod changes;
 mod checks;
-mod client;
 mod clocks;
-mod crashes;
-mod dispatch;
-mod events;
 mod fault;
-mod flushes;
 mod fresh;
 mod growth;
-mod index;
-mod lease_ends;
-mod machine;
 mod missed_flushes;
-mod node_steps;
-mod notes;
-mod outputs;
 mod parts;
 mod safe;
 mod steps;
-mod summary;
 mod world;
 
 pub use fault::WorldFault;

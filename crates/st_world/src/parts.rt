@@ -10,9 +10,10 @@ ghost use Rattle.st_world_parts.specs.Pieces as pieces;
 ghost use Rattle.st_world.specs.Heads.{HasCounts, least};
 ghost use Rattle.st_world.specs.Steps.{StepsAs};
 
+use crate::admission::refusal;
 use crate::fault::WorldFault;
 use crate::fresh::{push_client_clocks, push_nodes, push_server_clocks, push_sites};
-use crate::machine::WorldMachine;
+use crate::steps::step_admitted;
 use st_base::{ClientId, Config, NodeId, ServerId, Stamp};
 use st_client::ClientNode;
 use st_clock::Drift;
@@ -20,6 +21,7 @@ use st_messages::{Counts, Event};
 use st_model::FlatLog;
 use st_rules::{Observation, Summary, WorldRefusal, runs_go_on_in_parts};
 use st_server::ServerNode;
+use st_world_events::WorldMachine;
 use st_world_parts::{Commands, Lives, Network};
 use std::alloc::{AllocError, Global};
 use std::marker::Model;
@@ -143,7 +145,7 @@ impl Parts {
             return Err(WorldFault::Memory);
         }
         runs_go_on_in_parts();
-        match self.machine.step_admitted(event, spare) {
+        match step_admitted(&mut self.machine, event, spare) {
             Ok(seen) => Ok(seen),
             Err(WorldFault::Refused(refusal)) => Err(WorldFault::Refused(refusal)),
             Err(WorldFault::Memory) => {
@@ -179,7 +181,7 @@ impl Parts {
         requires room { self.now.tally.events < 2 ^ 29 }
         ensures { result ≡ refusal self.now event.now }
     {
-        self.machine.refusal(event)
+        refusal(&self.machine, event)
     }
 
     /// A node's clock.

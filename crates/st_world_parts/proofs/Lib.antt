@@ -4,3 +4,5 @@ pub mod Effects
 pub mod Lasts
 pub mod Opens
 pub mod Stays
+pub mod Overs
+pub mod Sums

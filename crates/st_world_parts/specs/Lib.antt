@@ -5,3 +5,5 @@ pub mod Issued
 pub mod Open
 pub mod Owners
 pub mod Pieces
+pub mod Overs
+pub mod Sorts

@@ -4,8 +4,10 @@
 
 mod clocks;
 mod commands;
+mod counts;
 mod cuts;
 mod firsts;
+mod lease_ends;
 mod lives;
 mod network;
 mod open;
@@ -16,7 +18,9 @@ mod refusals;
 mod spares;
 
 pub use commands::Commands;
+pub use counts::{Sort, count_of};
 pub use firsts::LifeKey;
+pub use lease_ends::Ending;
 pub use lives::Lives;
 pub use network::Network;
 pub use owners::OwnerKey;

@@ -12,7 +12,7 @@ step_admitted-requires-clause-laid c =
 
 pub invariant_of-self : goal.invariant_of-self
 invariant_of-self c = (
-  quiet_after c.runs_go_on_in_parts.ensures c.self.inside.machine c.step_admitted.new.self c.args.event.now c.in-Ok.seen.items c.self.invariant.0
+  quiet_after c.runs_go_on_in_parts.ensures c.self.inside.machine c.step_admitted.new.machine c.args.event.now c.in-Ok.seen.items c.self.invariant.0
       (subst (λ (w : World). is_event (length w.clocks) c.args.event.now ≡ true) (sym c.self.view_is) c.requires.event)
       c.in-Ok.ensures.machine c.in-Ok.ensures.ends,
   c.self.invariant.1,
@@ -23,11 +23,11 @@ returns-in-Ok-clause-events c =
     let w = c.self.inside.machine.world in
     let l = laid w c.self.invariant.0.reached (omega (arith, ap (λ (w : World). w.tally.events) c.self.view_is, c.requires.room)) in
     let i = subst (λ (w : World). is_event (length w.clocks) c.args.event.now ≡ true) (sym c.self.view_is) c.requires.event in
-    (stepped w c.step_admitted.new.self.world c.args.event.now c.in-Ok.seen.items l i c.in-Ok.ensures.machine).events ∙ ap (λ (w : World). w.tally.events + 1) c.self.view_is
+    (stepped w c.step_admitted.new.machine.world c.args.event.now c.in-Ok.seen.items l i c.in-Ok.ensures.machine).events ∙ ap (λ (w : World). w.tally.events + 1) c.self.view_is
 
 pub returns-in-Ok-clause-clocks : goal.returns-in-Ok-clause-clocks
 returns-in-Ok-clause-clocks c =
     let w = c.self.inside.machine.world in
     let l = laid w c.self.invariant.0.reached (omega (arith, ap (λ (w : World). w.tally.events) c.self.view_is, c.requires.room)) in
     let i = subst (λ (w : World). is_event (length w.clocks) c.args.event.now ≡ true) (sym c.self.view_is) c.requires.event in
-    (stepped w c.step_admitted.new.self.world c.args.event.now c.in-Ok.seen.items l i c.in-Ok.ensures.machine).clocks ∙ ap (λ (w : World). length w.clocks) c.self.view_is
+    (stepped w c.step_admitted.new.machine.world c.args.event.now c.in-Ok.seen.items l i c.in-Ok.ensures.machine).clocks ∙ ap (λ (w : World). length w.clocks) c.self.view_is

@@ -1,0 +1,14 @@
+use Rattle.std.proofs.Common.{subst, sym}
+use Rattle.st_rules.specs.Events.{WorldTurn}
+use Rattle.st_world_events.specs.Readiness.{IsMet, IsReady}
+use Rattle.st_world.proofs.Admitted.{met, still_ready}
+use Rattle.st_world.proofs.steps.run.Goals as goal
+
+pub happen-happened-requires-clause-ready : goal.happen-happened-requires-clause-ready
+happen-happened-requires-clause-ready c =
+    subst (λ (s : WorldTurn). IsReady s.world) (sym c.count_event.ensures) (still_ready c.args.machine.now.world c.requires.ready)
+
+pub happen-happened-requires-clause-met : goal.happen-happened-requires-clause-met
+happen-happened-requires-clause-met c =
+    subst (λ (s : WorldTurn). IsMet s.world c.args.event.now) (sym c.count_event.ensures)
+    (met c.args.machine.now.world c.args.event.now c.requires.laid c.requires.event c.requires.admitted)

@@ -1,0 +1,11 @@
+pub mod Asked
+pub mod Crashed
+pub mod Delivered
+pub mod Dispatched
+pub mod Flushed
+pub mod Logged
+pub mod Numbers
+pub mod Puts
+pub mod Reached
+pub mod Submits
+pub mod Takings

@@ -1,0 +1,9 @@
+pub mod Advances
+pub mod Crashes
+pub mod Ends
+pub mod Flushing
+pub mod Indexes
+pub mod Keeping
+pub mod Readiness
+pub mod Shapes
+pub mod Takes

@@ -1,0 +1,38 @@
+// Answers to applications.
+ghost use Rattle.std.specs.Prelude.{◌≡◌, ◌<◌, ◌≤◌, ◌^◌, ◌-◌, OnOk};
+ghost use Rattle.st_rules.specs.Events as events;
+ghost use Rattle.st_world_events.specs.Keeping.{Keeps};
+
+use crate::machine::WorldMachine;
+use st_base::ClientId;
+use st_messages::AppAnswer;
+use st_rules::Observation;
+use std::alloc::AllocError;
+
+fn reads_in(answer: &AppAnswer) -> u64
+    ensures reads { result ≡ events.reads_in answer.now }
+    ensures most { result ≤ 1 }
+{
+    match answer {
+        AppAnswer::Read(_) => 1,
+        _ => 0,
+    }
+}
+
+impl WorldMachine {
+    /// Answers an ask of a client.
+    #[tactic(auto, unfolding(st_rules::specs::Events::answers_with))]
+    pub(crate) fn answer(
+        &mut self,
+        client: ClientId,
+        op: u32,
+        answer: AppAnswer,
+    ) -> Result<(), AllocError>
+        requires { self.old.world.tally.reads < 2 ^ 64 - 1 }
+        ensures exact { OnOk result (self.new ≡ events.answers_with self.old client op answer) }
+        ensures kept { Keeps self.old self.new }
+    {
+        self.reads += reads_in(&answer);
+        self.observe(Observation::Answered { client, op, answer })
+    }
+}
