@@ -8,6 +8,9 @@ use st_base::{ClientId, FileId, NameAsk, NodeId, PageBytes, PageNo, ServerId};
 use st_messages::{Ask, Event};
 use std::alloc::{AllocError, Global};
 
+/// The bytes that are reserved for a line. Only lines of names and of increments that differ are longer.
+const USUAL: usize = 40;
+
 /// Appends a space and a word.
 fn put_word(out: &mut Vec<u8>, word: &[u8]) -> Result<(), AllocError>
     ensures { OnOk result (out.new.items ≡ out.old.items ++ 32 ∷ word.now) }
@@ -16,27 +19,39 @@ fn put_word(out: &mut Vec<u8>, word: &[u8]) -> Result<(), AllocError>
     out.extend_from_slice(word)
 }
 
+/// Appends a number in decimal.
+fn put_digits(out: &mut Vec<u8>, n: u64) -> Result<(), AllocError>
+    ensures { OnOk result (out.new.items ≡ out.old.items ++ decimal n) }
+{
+    if n < 10 {
+        out.push(b'0' + n as u8)?;
+        return Ok(());
+    }
+    put_digits(out, n / 10)?;
+    out.push(b'0' + (n % 10) as u8)?;
+    Ok(())
+}
+
+/// Appends a space and a number.
 fn put_number(out: &mut Vec<u8>, n: u64) -> Result<(), AllocError>
     ensures { OnOk result (out.new.items ≡ out.old.items ++ 32 ∷ decimal n) }
 {
-    let text = format!(in *out.allocator(); "{n}")?;
-    put_word(out, text.as_bytes())
+    out.push(b' ')?;
+    put_digits(out, n)
 }
 
 fn put_client(out: &mut Vec<u8>, client: ClientId) -> Result<(), AllocError>
     ensures { OnOk result (out.new.items ≡ out.old.items ++ 32 ∷ grammar.client_text client) }
 {
-    let n = client.0;
-    let text = format!(in *out.allocator(); "c{n}")?;
-    put_word(out, text.as_bytes())
+    put_word(out, b"c")?;
+    put_digits(out, u64::from(client.0))
 }
 
 fn put_server(out: &mut Vec<u8>, server: ServerId) -> Result<(), AllocError>
     ensures { OnOk result (out.new.items ≡ out.old.items ++ 32 ∷ grammar.server_text server) }
 {
-    let n = server.0;
-    let text = format!(in *out.allocator(); "s{n}")?;
-    put_word(out, text.as_bytes())
+    put_word(out, b"s")?;
+    put_digits(out, u64::from(server.0))
 }
 
 fn put_node(out: &mut Vec<u8>, node: NodeId) -> Result<(), AllocError>
@@ -51,8 +66,9 @@ fn put_node(out: &mut Vec<u8>, node: NodeId) -> Result<(), AllocError>
 fn put_file(out: &mut Vec<u8>, server: u16, ino: u32) -> Result<(), AllocError>
     ensures { OnOk result (out.new.items ≡ out.old.items ++ 32 ∷ grammar.file_text server ino) }
 {
-    let text = format!(in *out.allocator(); "{server}:{ino}")?;
-    put_word(out, text.as_bytes())
+    put_number(out, u64::from(server))?;
+    out.push(b':')?;
+    put_digits(out, u64::from(ino))
 }
 
 fn put_place(out: &mut Vec<u8>, file: FileId, page: PageNo) -> Result<(), AllocError>
@@ -267,7 +283,8 @@ pub fn print(alloc: Global, event: &Event) -> Result<Vec<u8>, AllocError>
     // Behind every head with which the event has a line, it is read back as the same event.
     ensures back { IfOk result (λ line. IsReadAs line.items event.now) }
 {
-    let mut out = Vec::from_slice(alloc, verb(event))?;
+    let mut out = Vec::with_capacity(alloc, USUAL)?;
+    out.extend_from_slice(verb(event))?;
     put_rest(&mut out, event)?;
     Ok(out)
 }
