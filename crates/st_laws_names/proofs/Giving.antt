@@ -9,7 +9,7 @@ use Rattle.st_lemmas.specs.Lists.{Has}
 use Rattle.st_lemmas.proofs.Once.{none_any}
 use Rattle.st_lemmas.proofs.Tables.{and_both, and_true, has_append, some_passes}
 use Rattle.st_promises.specs.CutAsks.{numbered_asks}
-use Rattle.st_laws_names.specs.Given.{are_given, given_by, given_for, is_given}
+use Rattle.st_promises.specs.Given.{are_given, given_by, given_for, is_given}
 
 -- a member of the front
 has_front : {A : Type 0} (xs ys : List A) (x : A) → Has x xs → Has x (xs ++ ys)

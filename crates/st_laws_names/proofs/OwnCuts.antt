@@ -34,7 +34,7 @@ use Rattle.st_laws_requests.proofs.Cuts.Keeping.{Answers}
 use Rattle.st_promises.specs.CutAsks.{asks_cut, has_alone_at, is_uncertain, settles_in}
 use Rattle.st_laws_names.specs.Once.{SameKey}
 use Rattle.st_laws_names.specs.Keys.{HasEvent, RepliesHaveEvents, ServedAt, ServedOnce, is_final, is_kept_why}
-use Rattle.st_laws_names.specs.Refusals.{cuts_in, is_done_answer, is_not_refused, is_not_refused_in, is_own_line}
+use Rattle.st_promises.specs.Refusals.{cuts_in, is_done_answer, is_not_refused, is_not_refused_in, is_own_line}
 use Rattle.st_laws_names.proofs.Frames.{IsKeptRefusal}
 use Rattle.st_laws_names.proofs.Keys.{keyed_same}
 use Rattle.st_laws_names.proofs.World.{Asked, Heard, RepliesUnder, TellsOrRefuses}

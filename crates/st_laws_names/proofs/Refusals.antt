@@ -65,7 +65,7 @@ use Rattle.st_laws_cuts.proofs.Open.{numbers_has}
 use Rattle.st_laws_cuts.proofs.Words.{under_has}
 use Rattle.st_laws_names.specs.Keys.{HasEvent, ServedAt, is_final}
 use Rattle.st_laws_names.specs.Once.{SameKey, WaitsUnder}
-use Rattle.st_laws_names.specs.Refusals.{RefusalsChangeNothing, cuts_in, is_all, is_of_cut}
+use Rattle.st_promises.specs.Refusals.{RefusalsChangeNothing, cuts_in, is_all, is_of_cut}
 use Rattle.st_laws_names.proofs.Behind.{Behind, behind, not_past}
 use Rattle.st_laws_names.proofs.Changes.{past_same}
 use Rattle.st_laws_names.proofs.CutReplies.{CutKept, CutsBy, cut_kept}

@@ -5,7 +5,7 @@ ghost use Rattle.st_laws_leases.specs.Sides.Law.{InEveryRun};
 ghost use Rattle.st_laws_names.specs.Changes.{AsksChangeOnce};
 ghost use Rattle.st_laws_names.specs.Keys.{RepliesAreOfTheirEvents};
 ghost use Rattle.st_laws_names.specs.Once.{KeysHaveOneOperation, OperationsAskOnce};
-ghost use Rattle.st_laws_names.specs.Refusals.{RefusalsChangeNothing};
+ghost use Rattle.st_promises.specs.Refusals.{RefusalsChangeNothing};
 ghost use Rattle.st_promises.specs.NamesOnce.{NamesChangeOnce};
 
 /// In every run operations ask once: where a client waits for the reply to the request of an operation, that request never had another key, which is

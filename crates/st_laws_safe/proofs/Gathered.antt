@@ -13,6 +13,7 @@ use Rattle.st_laws_cuts.proofs.Acknowledged as acknowledged
 use Rattle.st_laws_cuts.proofs.Changes as renamed
 use Rattle.st_laws_grants.proofs.Law as grants
 use Rattle.st_laws_names.proofs.OwnersLaw as changed
+use Rattle.st_laws_names.proofs.Refusals as refused
 
 pub every_run : EveryRunIsSafe
 every_run k clients servers disks blocks form es head events =
@@ -45,6 +46,7 @@ every_run k clients servers disks blocks form es head events =
       named = named.law k clients servers disks blocks form es head events;
       renamed = renamed.law k clients servers disks blocks form es head events;
       changed = changed.law k clients servers disks blocks form es head events;
+      refused = refused.law k clients servers disks blocks form es head events;
     }
 
 pub all_promised : IsAllPromised

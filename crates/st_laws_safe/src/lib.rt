@@ -4,7 +4,7 @@
 ghost use Rattle.st_promises.specs.Safe.{EveryRunIsSafe, IsAllPromised};
 
 /// Every run is safe: from the world of every head and over every list of events in their ranges, up to the first that is refused, each
-/// step keeps all twenty-seven promises. Restarts and several servers are included.
+/// step keeps all twenty-eight promises. Restarts and several servers are included.
 pub fn every_run_is_safe()
     ensures { EveryRunIsSafe }
 {}

@@ -2,11 +2,13 @@ pub mod Acknowledgements
 pub mod Counts
 pub mod CutAsks
 pub mod Faults
+pub mod Given
 pub mod Grants
 pub mod Held
 pub mod NameAnswers
 pub mod NameChanges
 pub mod NamesOnce
 pub mod Numbers
+pub mod Refusals
 pub mod Losses
 pub mod Safe

@@ -34,12 +34,14 @@ use Rattle.st_promises.specs.Acknowledgements.{CutsAreAcknowledged}
 use Rattle.st_promises.specs.Counts.{TheCountsAreTrue, counts_open}
 use Rattle.st_promises.specs.CutAsks.{CutsAreAsked}
 use Rattle.st_promises.specs.Faults.{FaultsHaveACause}
+use Rattle.st_promises.specs.Given.{given_open}
 use Rattle.st_promises.specs.Grants.{GrantNumbersAreGivenOnce, GrantNumbersRise}
 use Rattle.st_promises.specs.Held.{DisksHoldWhatIsHard, held_open}
 use Rattle.st_promises.specs.Losses.{LossesAreTold, losses_open}
 use Rattle.st_promises.specs.NameAnswers.{NamesAnswerTruly, name_answers_open}
 use Rattle.st_promises.specs.NameChanges.{NamesChangeAsAsked}
 use Rattle.st_promises.specs.NamesOnce.{NamesChangeOnce, names_once_open}
+use Rattle.st_promises.specs.Refusals.{RefusalsChangeNothing}
 
 -- Safe: every promise is kept at every step of the run.
 pub record IsSafe (xs : List Step) : Type 0 where
@@ -70,6 +72,7 @@ pub record IsSafe (xs : List Step) : Type 0 where
   pub named : Throughout NamesAnswerTruly [] xs
   pub renamed : Throughout NamesChangeAsAsked [] xs
   pub changed : Throughout NamesChangeOnce [] xs
+  pub refused : Throughout RefusalsChangeNothing [] xs
 
 -- a run from the world of a head
 abbrev pub IsSafeRun : World → List Event → Type 0
@@ -91,5 +94,5 @@ pub record IsAllPromised : Type 0 where
 
 -- opens all that the promises of this crate are made of
 unfoldable pub promises_open : ⊤
-unfolding counts_open held_open losses_open name_answers_open names_once_open
+unfolding counts_open given_open held_open losses_open name_answers_open names_once_open
 promises_open = tt

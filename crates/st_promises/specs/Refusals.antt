@@ -15,7 +15,7 @@ use Rattle.st_rules.specs.World.{World, all_clients, node_of}
 use Rattle.st_rules.specs.Safety.{Promise, Step}
 use Rattle.st_promises.specs.Acknowledgements.{is_cut_line}
 use Rattle.st_promises.specs.CutAsks.{asks_cut, has_alone_at, is_uncertain, settles_in}
-use Rattle.st_laws_names.specs.Given.{are_given}
+use Rattle.st_promises.specs.Given.{are_given}
 
 -- an event that cut a file
 abbrev pub cuts_in : Step → Bool
