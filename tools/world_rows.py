@@ -117,7 +117,7 @@ FILES = {
 FIELDS = [
     "alone", "reads", "causes", "stays", "hard", "thefts", "dates", "waits", "conflicts",
     "told", "logged", "once", "locked", "order", "emptied", "history", "losses", "held", "faults", "numbers", "cuts", "given", "rising",
-    "acknowledged", "named", "renamed",
+    "acknowledged", "named", "renamed", "changed", "refused",
 ]
 SAFE = [
     ("schedules/theft", "theft_is_safe", "Every promise is kept in the row of the theft."),

@@ -1,5 +1,5 @@
--- Steps made by hand, each of which breaks one promise and keeps the others.
-use Rattle.std.specs.Prelude.{ℕ, ◌+◌, ◌==◌, Bool, true, false, List, [], ◌∷◌, ◌++◌, map, codes, Option, Some, None, ⊤}
+-- Steps made by hand, each of which breaks one promise and keeps the others; of three steps of names only that they break theirs is shown.
+use Rattle.std.specs.Prelude.{ℕ, ◌+◌, ◌==◌, Bool, true, false, not, List, [], ◌∷◌, ◌++◌, filter, map, codes, Option, Some, None, ⊤}
 use Rattle.std.specs.List.{list_any}
 use Rattle.st_base.specs.Page.{filled}
 use Rattle.st_base.specs.declared.disk.Command.TheVariants as commands
@@ -64,7 +64,9 @@ use Rattle.st_promises.specs.Held.{DisksHoldWhatIsHard}
 use Rattle.st_promises.specs.Losses.{LossesAreTold}
 use Rattle.st_promises.specs.NameAnswers.{NamesAnswerTruly}
 use Rattle.st_promises.specs.NameChanges.{NamesChangeAsAsked}
+use Rattle.st_promises.specs.NamesOnce.{NamesChangeOnce}
 use Rattle.st_promises.specs.Numbers.{LinesGiveTheNextNumbers}
+use Rattle.st_promises.specs.Refusals.{RefusalsChangeNothing}
 use Rattle.st_rows.specs.Words.{at, c, life, epoch, page, stamp, g}
 use Rattle.st_rows.specs.ClientWords.{lost_row, on, server}
 use Rattle.st_rows_world.specs.WorldWords.{ask, client_node, world_of, answered, cut, dropped, failed, read_out, sent, stolen, wrote}
@@ -109,6 +111,8 @@ pub record IsKeptBut (ns : List ℕ) (past : List Step) (x : Step) : Type 0 wher
   pub acknowledged : unless ns 24 (CutsAreAcknowledged past x)
   pub named : unless ns 25 (NamesAnswerTruly past x)
   pub renamed : unless ns 26 (NamesChangeAsAsked past x)
+  pub changed : unless ns 27 (NamesChangeOnce past x)
+  pub refused : unless ns 28 (RefusalsChangeNothing past x)
 
 -- A run in which a client writes a page, its lease is dated from a request that was sent at 400 and answered at 450, and an
 -- ask follows.
@@ -569,6 +573,26 @@ unfoldable pub cut_and_refused : Step
 cut_and_refused =
     seeing (cut 2 1 2 0 ∷ told_to 7 1 bodies.Ack ∷ told_to 8 1 refusal ∷ []) (leaving (with_message (message_to 1 refusal)) (cuts_after cutting))
 
+-- the cut was done and acknowledged, and its ask is answered: that it was not done, or that it was
+unfoldable pub past_done : List Step
+past_done = past cutting ++ cut_as_asked ∷ []
+
+unfoldable pub done_and_quiesced : Step
+done_and_quiesced = seeing (answered 1 2 answers.Quiesced ∷ []) (still cut_as_asked.after)
+
+unfoldable pub done_and_told : Step
+done_and_told = seeing (answered 1 2 answers.Cut ∷ []) (still cut_as_asked.after)
+
+-- a refusal is sent behind it, and comes to the asker
+unfoldable pub refusal_sent : Step
+refusal_sent = seeing (told_to 8 1 refusal ∷ []) (leaving (with_message (message_to 1 refusal)) (still cut_as_asked.after))
+
+unfoldable pub past_sent : List Step
+past_sent = past cutting ++ cut_as_asked ∷ refusal_sent ∷ []
+
+unfoldable pub done_and_refused : Step
+done_and_refused = by_event (events.Deliver 8) (seeing (answered 1 2 answers.NotHolder ∷ []) (still refusal_sent.after))
+
 -- a step that follows the ask
 unfoldable pub past_asked : Event → List Step
 past_asked e = past e ++ still (here e) ∷ []
@@ -614,6 +638,56 @@ created_as_asked = leaving (all_named with_file) (still (here creating))
 unfoldable pub past_refused : List Step
 past_refused = past creating ++ seeing (answered 1 2 (answers.Refused 8) ∷ []) (still (here creating)) ∷ []
 
+-- the new file was made, and a step follows
+unfoldable pub past_created : List Step
+past_created = past creating ++ created_as_asked ∷ still created_as_asked.after ∷ []
+
+-- its ask is answered: the name is there
+unfoldable pub created_and_refused : Step
+created_and_refused = seeing (answered 1 2 (answers.Refused 2) ∷ []) (still created_as_asked.after)
+
+-- two clients ask: the other one for the same new file, or to remove it
+abbrev pub creating_too : Event
+creating_too = ask 2 (asks.Name (server 1) (name_asks.Create 1 (codes "new")))
+
+abbrev pub removing : Event
+removing = ask 2 (asks.Name (server 1) (name_asks.Remove 1 (codes "new") 10))
+
+abbrev pub both : Event → List Event
+both e = prepared creating ++ e ∷ []
+
+unfoldable pub here_both : Event → Traced
+here_both e = led_to (trace (both e) (traced (world_of 2 1 1 8)))
+
+unfoldable pub past_both : Event → List Step
+past_both e = steps (both e) (traced (world_of 2 1 1 8))
+
+-- the new file is there, and no more, and there again
+abbrev pub without_file : Names → Names
+without_file n = record n { entries = filter (λ d. not (names.is_entry_at 1 (codes "new") d)) n.entries }
+
+unfoldable pub created_first : Event → Step
+created_first e = leaving (all_named with_file) (still (here_both e))
+
+unfoldable pub removed_then : Step
+removed_then = leaving (all_named without_file) (still (created_first removing).after)
+
+unfoldable pub past_removed : List Step
+past_removed = past_both removing ++ created_first removing ∷ removed_then ∷ []
+
+unfoldable pub created_again : Step
+created_again = leaving (all_named with_file) (still removed_then.after)
+
+-- both are told of one new file
+unfoldable pub told_first : Step
+told_first = seeing (answered 1 2 (answers.Named 10) ∷ []) (still (created_first creating_too).after)
+
+unfoldable pub past_told : List Step
+past_told = past_both creating_too ++ created_first creating_too ∷ told_first ∷ []
+
+unfoldable pub told_too : Step
+told_too = seeing (answered 2 1 (answers.Named 10) ∷ []) (still told_first.after)
+
 unfoldable pub broken_open : ⊤
-unfolding safe_words_open prepared past here met past_met here_met lost_run past_lost here_lost past_cut stale_read beside_a_lock beside_a_held_lock dropped_without_a_crash dropped_by_another_command dropped_without_a_report hard_no_more hard_too_early stolen_early stolen_as_another_life dated_from_the_arrival replied_behind_a_timer grace_too_short grace_never_begun conflict_sent hard_and_pending hard_twice written_and_not_logged cut_and_not_logged written_under_another_number written_and_not_answered answered_twice written_without_a_lock written_under_a_lesser_grant cut_without_a_lock cut_and_not_asked cut_as_asked past_answered kept_after_the_end submitted_after_the_end read_after_the_end timer_unknown timer_without_a_suspect date_unknown grant_unknown loss_not_told loss_told_in_part told_and_not_lost hard_and_not_held fault_without_a_report full_without_operations refused_without_a_refusal told_and_not_sent counted_and_not_told given_to_another_client given_of_another_file given_below given_again cut_and_not_acknowledged cut_and_refused past_asked named_wrongly named_truly named_and_not_asked named_and_not_created created_and_not_asked created_otherwise created_as_asked past_refused
+unfolding safe_words_open prepared past here met past_met here_met lost_run past_lost here_lost past_cut stale_read beside_a_lock beside_a_held_lock dropped_without_a_crash dropped_by_another_command dropped_without_a_report hard_no_more hard_too_early stolen_early stolen_as_another_life dated_from_the_arrival replied_behind_a_timer grace_too_short grace_never_begun conflict_sent hard_and_pending hard_twice written_and_not_logged cut_and_not_logged written_under_another_number written_and_not_answered answered_twice written_without_a_lock written_under_a_lesser_grant cut_without_a_lock cut_and_not_asked cut_as_asked past_answered kept_after_the_end submitted_after_the_end read_after_the_end timer_unknown timer_without_a_suspect date_unknown grant_unknown loss_not_told loss_told_in_part told_and_not_lost hard_and_not_held fault_without_a_report full_without_operations refused_without_a_refusal told_and_not_sent counted_and_not_told given_to_another_client given_of_another_file given_below given_again cut_and_not_acknowledged cut_and_refused past_asked named_wrongly named_truly named_and_not_asked named_and_not_created created_and_not_asked created_otherwise created_as_asked past_refused past_created created_and_refused here_both past_both created_first removed_then past_removed created_again told_first past_told told_too past_done done_and_quiesced done_and_told refusal_sent past_sent done_and_refused
 broken_open = tt

@@ -32,7 +32,9 @@ use Rattle.st_promises.specs.Held.{DisksHoldWhatIsHard}
 use Rattle.st_promises.specs.Losses.{LossesAreTold}
 use Rattle.st_promises.specs.NameAnswers.{NamesAnswerTruly}
 use Rattle.st_promises.specs.NameChanges.{NamesChangeAsAsked}
+use Rattle.st_promises.specs.NamesOnce.{NamesChangeOnce}
 use Rattle.st_promises.specs.Numbers.{LinesGiveTheNextNumbers, numbers_open}
+use Rattle.st_promises.specs.Refusals.{RefusalsChangeNothing}
 use Rattle.st_promises.specs.Safe.{promises_open}
 use Rattle.st_rows_world.specs.WorldWords.{world_words_open}
 
@@ -64,6 +66,8 @@ pub record AreKept (xs : List Step) : Type 0 where
   pub acknowledged : Throughout CutsAreAcknowledged [] xs
   pub named : Throughout NamesAnswerTruly [] xs
   pub renamed : Throughout NamesChangeAsAsked [] xs
+  pub changed : Throughout NamesChangeOnce [] xs
+  pub refused : Throughout RefusalsChangeNothing [] xs
 
 -- a run from a world
 abbrev pub IsKeptRun : World → List Event → Type 0

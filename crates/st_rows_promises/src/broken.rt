@@ -8,7 +8,9 @@ ghost use Rattle.st_promises.specs.Held.{DisksHoldWhatIsHard};
 ghost use Rattle.st_promises.specs.Losses.{LossesAreTold};
 ghost use Rattle.st_promises.specs.NameAnswers.{NamesAnswerTruly};
 ghost use Rattle.st_promises.specs.NameChanges.{NamesChangeAsAsked};
-ghost use Rattle.st_rows_promises.specs.Broken.{IsKeptBut, answered_twice, beside_a_held_lock, beside_a_lock, conflict_sent, counted_and_not_told, created_and_not_asked, created_as_asked, created_otherwise, creating, cut_and_not_acknowledged, cut_and_not_asked, cut_and_not_logged, cut_and_refused, cut_as_asked, cut_without_a_lock, cutting, date_unknown, dated_from_the_arrival, dropped_by_another_command, dropped_without_a_crash, dropped_without_a_report, fault_without_a_report, full_without_operations, given_again, given_below, given_of_another_file, given_to_another_client, grace_never_begun, grace_too_short, grant_unknown, hard_and_not_held, hard_and_pending, hard_no_more, hard_too_early, hard_twice, kept_after_the_end, looking, loss_not_told, loss_told_in_part, named_and_not_asked, named_and_not_created, named_truly, named_wrongly, past, past_answered, past_asked, past_cut, past_lost, past_met, past_refused, read_after_the_end, reading, refused_without_a_refusal, replied_behind_a_timer, stale_read, stolen_as_another_life, stolen_early, submitted_after_the_end, syncing, timer_unknown, timer_without_a_suspect, told_and_not_lost, told_and_not_sent, writing, written_and_not_answered, written_and_not_logged, written_under_a_lesser_grant, written_under_another_number, written_without_a_lock};
+ghost use Rattle.st_promises.specs.NamesOnce.{NamesChangeOnce};
+ghost use Rattle.st_promises.specs.Refusals.{RefusalsChangeNothing};
+ghost use Rattle.st_rows_promises.specs.Broken.{IsKeptBut, answered_twice, beside_a_held_lock, beside_a_lock, conflict_sent, counted_and_not_told, created_again, created_and_not_asked, created_and_refused, created_as_asked, created_otherwise, creating, cut_and_not_acknowledged, cut_and_not_asked, cut_and_not_logged, cut_and_refused, cut_as_asked, cut_without_a_lock, cutting, date_unknown, dated_from_the_arrival, done_and_quiesced, done_and_refused, done_and_told, dropped_by_another_command, dropped_without_a_crash, dropped_without_a_report, fault_without_a_report, full_without_operations, given_again, given_below, given_of_another_file, given_to_another_client, grace_never_begun, grace_too_short, grant_unknown, hard_and_not_held, hard_and_pending, hard_no_more, hard_too_early, hard_twice, kept_after_the_end, looking, loss_not_told, loss_told_in_part, named_and_not_asked, named_and_not_created, named_truly, named_wrongly, past, past_answered, past_asked, past_created, past_cut, past_done, past_lost, past_met, past_refused, past_removed, past_sent, past_told, read_after_the_end, reading, refused_without_a_refusal, replied_behind_a_timer, stale_read, stolen_as_another_life, stolen_early, submitted_after_the_end, syncing, timer_unknown, timer_without_a_suspect, told_and_not_lost, told_and_not_sent, told_too, writing, written_and_not_answered, written_and_not_logged, written_under_a_lesser_grant, written_under_another_number, written_without_a_lock};
 ghost use Rattle.st_rules.specs.Safety.{AnswersAreLogged, AsksAreAnsweredOnce, ChangesAreLocked, ChangesGoInTheOrderOfLocks, DirtyPagesStandAlone, DropsHaveACause, ExpiredLeasesEmptyClients, GraceWaits, HardIsHard, HardStaysHard, LeasesAreDatedFromRequests, NoConflictIsSent, ReadsReturnLastWrites, TheHistoryIsTheWorlds, TheReportTellsTheLog, TheftsComeLate};
 
 /// A page that is dirty while another client has a row of its file.
@@ -155,7 +157,7 @@ pub fn a_cut_that_is_not_logged_is_refused()
 #[tactic(auto, unfolding(crate::specs::Broken::broken_open))]
 pub fn a_cut_from_before_the_ask_is_refused()
     ensures broken { ¬ AnswersAreLogged past_cut cut_and_not_logged }
-    ensures kept { IsKeptBut (11 ∷ []) past_cut cut_and_not_logged }
+    ensures kept { IsKeptBut (11 ∷ 28 ∷ []) past_cut cut_and_not_logged }
 {}
 
 /// A write that is logged and not answered.
@@ -309,14 +311,14 @@ pub fn a_theft_without_a_line_is_refused()
 #[tactic(auto, unfolding(crate::specs::Broken::broken_open))]
 pub fn a_cut_that_is_not_asked_is_refused()
     ensures broken { ¬ CutsAreAsked (past reading) cut_and_not_asked }
-    ensures kept { IsKeptBut (21 ∷ []) (past reading) cut_and_not_asked }
+    ensures kept { IsKeptBut (21 ∷ 28 ∷ []) (past reading) cut_and_not_asked }
 {}
 
 /// A cut whose ask was answered before, with a refusal. Before that answer it is no fault.
 #[tactic(auto, unfolding(crate::specs::Broken::broken_open))]
 pub fn a_cut_that_was_refused_is_refused()
     ensures broken { ¬ CutsAreAsked past_answered cut_as_asked }
-    ensures kept { IsKeptBut (21 ∷ []) past_answered cut_as_asked }
+    ensures kept { IsKeptBut (21 ∷ 28 ∷ []) past_answered cut_as_asked }
     ensures before { IsKeptBut [] (past cutting) cut_as_asked }
 {}
 
@@ -382,27 +384,60 @@ pub fn a_name_that_was_not_asked_is_refused()
 #[tactic(auto, unfolding(crate::specs::Broken::broken_open))]
 pub fn a_create_that_is_not_done_is_refused()
     ensures broken { ¬ NamesAnswerTruly (past_asked creating) named_and_not_created }
-    ensures kept { IsKeptBut (25 ∷ []) (past_asked creating) named_and_not_created }
+    ensures kept { IsKeptBut (25 ∷ 27 ∷ []) (past_asked creating) named_and_not_created }
 {}
 
 /// A new file that nobody asked for.
 #[tactic(auto, unfolding(crate::specs::Broken::broken_open))]
 pub fn a_change_of_names_that_is_not_asked_is_refused()
     ensures broken { ¬ NamesChangeAsAsked (past reading) created_and_not_asked }
-    ensures kept { IsKeptBut (26 ∷ []) (past reading) created_and_not_asked }
+    ensures kept { IsKeptBut (26 ∷ 27 ∷ []) (past reading) created_and_not_asked }
 {}
 
 /// A change of names that is another than the one that was asked.
 #[tactic(auto, unfolding(crate::specs::Broken::broken_open))]
 pub fn a_change_of_names_to_others_is_refused()
     ensures broken { ¬ NamesChangeAsAsked (past creating) created_otherwise }
-    ensures kept { IsKeptBut (26 ∷ []) (past creating) created_otherwise }
+    ensures kept { IsKeptBut (26 ∷ 27 ∷ []) (past creating) created_otherwise }
 {}
 
 /// A new file whose ask was answered before, with a refusal. Before that answer it is no fault.
 #[tactic(auto, unfolding(crate::specs::Broken::broken_open))]
 pub fn a_change_of_names_that_was_refused_is_refused()
     ensures broken { ¬ NamesChangeAsAsked past_refused created_as_asked }
-    ensures kept { IsKeptBut (26 ∷ []) past_refused created_as_asked }
+    ensures kept { IsKeptBut (26 ∷ 27 ∷ []) past_refused created_as_asked }
     ensures before { IsKeptBut [] (past creating) created_as_asked }
+{}
+
+/// A new file whose ask is answered as if it had been there before. That the step keeps the other promises is not shown here.
+#[tactic(auto, unfolding(crate::specs::Broken::broken_open))]
+pub fn a_change_of_names_that_is_answered_as_another_is_refused()
+    ensures broken { ¬ NamesChangeOnce past_created created_and_refused }
+{}
+
+/// A new file that is removed, and then made again by the same ask. That the step keeps the other promises is not shown here.
+#[tactic(auto, unfolding(crate::specs::Broken::broken_open))]
+pub fn a_second_change_of_names_by_one_ask_is_refused()
+    ensures broken { ¬ NamesChangeOnce past_removed created_again }
+{}
+
+/// One new file of which two asks are told. That the step keeps the other promises is not shown here.
+#[tactic(auto, unfolding(crate::specs::Broken::broken_open))]
+pub fn one_change_of_names_for_two_asks_is_refused()
+    ensures broken { ¬ NamesChangeOnce past_told told_too }
+{}
+
+/// A cut that was done, and whose ask is answered as if it had not been. That it was done is no fault.
+#[tactic(auto, unfolding(crate::specs::Broken::broken_open))]
+pub fn a_cut_that_is_answered_as_not_done_is_refused()
+    ensures broken { ¬ RefusalsChangeNothing past_done done_and_quiesced }
+    ensures kept { IsKeptBut (28 ∷ []) past_done done_and_quiesced }
+    ensures said { IsKeptBut [] past_done done_and_told }
+{}
+
+/// A cut that was done and acknowledged, and whose ask is answered by a refusal that comes later.
+#[tactic(auto, unfolding(crate::specs::Broken::broken_open))]
+pub fn a_cut_that_is_refused_later_is_refused()
+    ensures broken { ¬ RefusalsChangeNothing past_sent done_and_refused }
+    ensures kept { IsKeptBut (28 ∷ []) past_sent done_and_refused }
 {}
