@@ -1,10 +1,11 @@
--- Steps made by hand, each of which breaks one promise and keeps the others; of three steps of names only that they break theirs is shown.
+-- Steps made by hand, each of which breaks one promise and keeps the others.
 use Rattle.std.specs.Prelude.{ℕ, ◌+◌, ◌==◌, Bool, true, false, not, List, [], ◌∷◌, ◌++◌, filter, map, codes, Option, Some, None, ⊤}
 use Rattle.std.specs.List.{list_any}
 use Rattle.st_base.specs.Page.{filled}
 use Rattle.st_base.specs.declared.disk.Command.TheVariants as commands
 use Rattle.st_base.specs.declared.mode.Mode.TheVariants as modes
 use Rattle.st_base.specs.declared.names.NameAsk.TheVariants as name_asks
+use Rattle.st_messages.specs.declared.answer.AppAnswer.{AppAnswer}
 use Rattle.st_messages.specs.declared.answer.AppAnswer.TheVariants as answers
 use Rattle.st_messages.specs.declared.ask.Ask.TheVariants as asks
 use Rattle.st_messages.specs.declared.event.Event.{Event}
@@ -12,6 +13,7 @@ use Rattle.st_messages.specs.declared.event.Event.TheVariants as events
 use Rattle.st_messages.specs.declared.message.Body.{Body}
 use Rattle.st_messages.specs.declared.message.Body.TheVariants as bodies
 use Rattle.st_messages.specs.declared.message.Message.{Message}
+use Rattle.st_messages.specs.declared.message.NameReply.TheVariants as replies
 use Rattle.st_messages.specs.declared.message.Why.TheVariants as why
 use Rattle.st_rules.specs.declared.client.HeldLock.{HeldLock}
 use Rattle.st_rules.specs.declared.disks.DiskCommand.{DiskCommand}
@@ -638,13 +640,25 @@ created_as_asked = leaving (all_named with_file) (still (here creating))
 unfoldable pub past_refused : List Step
 past_refused = past creating ++ seeing (answered 1 2 (answers.Refused 8) ∷ []) (still (here creating)) ∷ []
 
--- the new file was made, and a step follows
-unfoldable pub past_created : List Step
-past_created = past creating ++ created_as_asked ∷ still created_as_asked.after ∷ []
+-- the new file was made, and then a refusal is sent to the asker: the name is there
+abbrev pub name_refusal : Body
+name_refusal = bodies.Named (replies.Refused 2)
 
--- its ask is answered: the name is there
+unfoldable pub name_refusal_sent : Step
+name_refusal_sent = seeing (told_to 8 1 name_refusal ∷ []) (leaving (with_message (message_to 1 name_refusal)) (still created_as_asked.after))
+
+unfoldable pub past_created : List Step
+past_created = past creating ++ created_as_asked ∷ name_refusal_sent ∷ []
+
+-- the ask is answered when the refusal comes: that the name was there, or that the file was made
+abbrev pub created_and_answered : AppAnswer → Step
+created_and_answered answer = by_event (events.Deliver 8) (seeing (answered 1 2 answer ∷ []) (still name_refusal_sent.after))
+
 unfoldable pub created_and_refused : Step
-created_and_refused = seeing (answered 1 2 (answers.Refused 2) ∷ []) (still created_as_asked.after)
+created_and_refused = created_and_answered (answers.Refused 2)
+
+unfoldable pub created_and_told : Step
+created_and_told = created_and_answered (answers.Named 10)
 
 -- two clients ask: the other one for the same new file, or to remove it
 abbrev pub creating_too : Event
@@ -672,8 +686,12 @@ created_first e = leaving (all_named with_file) (still (here_both e))
 unfoldable pub removed_then : Step
 removed_then = leaving (all_named without_file) (still (created_first removing).after)
 
+-- the steps up to the new file, and up to its removal
+unfoldable pub past_first : Event → List Step
+past_first e = past_both e ++ created_first e ∷ []
+
 unfoldable pub past_removed : List Step
-past_removed = past_both removing ++ created_first removing ∷ removed_then ∷ []
+past_removed = past_first removing ++ removed_then ∷ []
 
 unfoldable pub created_again : Step
 created_again = leaving (all_named with_file) (still removed_then.after)
@@ -683,11 +701,11 @@ unfoldable pub told_first : Step
 told_first = seeing (answered 1 2 (answers.Named 10) ∷ []) (still (created_first creating_too).after)
 
 unfoldable pub past_told : List Step
-past_told = past_both creating_too ++ created_first creating_too ∷ told_first ∷ []
+past_told = past_first creating_too ++ told_first ∷ []
 
 unfoldable pub told_too : Step
 told_too = seeing (answered 2 1 (answers.Named 10) ∷ []) (still told_first.after)
 
 unfoldable pub broken_open : ⊤
-unfolding safe_words_open prepared past here met past_met here_met lost_run past_lost here_lost past_cut stale_read beside_a_lock beside_a_held_lock dropped_without_a_crash dropped_by_another_command dropped_without_a_report hard_no_more hard_too_early stolen_early stolen_as_another_life dated_from_the_arrival replied_behind_a_timer grace_too_short grace_never_begun conflict_sent hard_and_pending hard_twice written_and_not_logged cut_and_not_logged written_under_another_number written_and_not_answered answered_twice written_without_a_lock written_under_a_lesser_grant cut_without_a_lock cut_and_not_asked cut_as_asked past_answered kept_after_the_end submitted_after_the_end read_after_the_end timer_unknown timer_without_a_suspect date_unknown grant_unknown loss_not_told loss_told_in_part told_and_not_lost hard_and_not_held fault_without_a_report full_without_operations refused_without_a_refusal told_and_not_sent counted_and_not_told given_to_another_client given_of_another_file given_below given_again cut_and_not_acknowledged cut_and_refused past_asked named_wrongly named_truly named_and_not_asked named_and_not_created created_and_not_asked created_otherwise created_as_asked past_refused past_created created_and_refused here_both past_both created_first removed_then past_removed created_again told_first past_told told_too past_done done_and_quiesced done_and_told refusal_sent past_sent done_and_refused
+unfolding safe_words_open prepared past here met past_met here_met lost_run past_lost here_lost past_cut stale_read beside_a_lock beside_a_held_lock dropped_without_a_crash dropped_by_another_command dropped_without_a_report hard_no_more hard_too_early stolen_early stolen_as_another_life dated_from_the_arrival replied_behind_a_timer grace_too_short grace_never_begun conflict_sent hard_and_pending hard_twice written_and_not_logged cut_and_not_logged written_under_another_number written_and_not_answered answered_twice written_without_a_lock written_under_a_lesser_grant cut_without_a_lock cut_and_not_asked cut_as_asked past_answered kept_after_the_end submitted_after_the_end read_after_the_end timer_unknown timer_without_a_suspect date_unknown grant_unknown loss_not_told loss_told_in_part told_and_not_lost hard_and_not_held fault_without_a_report full_without_operations refused_without_a_refusal told_and_not_sent counted_and_not_told given_to_another_client given_of_another_file given_below given_again cut_and_not_acknowledged cut_and_refused past_asked named_wrongly named_truly named_and_not_asked named_and_not_created created_and_not_asked created_otherwise created_as_asked past_refused name_refusal_sent past_created created_and_refused created_and_told here_both past_both created_first removed_then past_first past_removed created_again told_first past_told told_too past_done done_and_quiesced done_and_told refusal_sent past_sent done_and_refused
 broken_open = tt

@@ -10,7 +10,7 @@ ghost use Rattle.st_promises.specs.NameAnswers.{NamesAnswerTruly};
 ghost use Rattle.st_promises.specs.NameChanges.{NamesChangeAsAsked};
 ghost use Rattle.st_promises.specs.NamesOnce.{NamesChangeOnce};
 ghost use Rattle.st_promises.specs.Refusals.{RefusalsChangeNothing};
-ghost use Rattle.st_rows_promises.specs.Broken.{IsKeptBut, answered_twice, beside_a_held_lock, beside_a_lock, conflict_sent, counted_and_not_told, created_again, created_and_not_asked, created_and_refused, created_as_asked, created_otherwise, creating, cut_and_not_acknowledged, cut_and_not_asked, cut_and_not_logged, cut_and_refused, cut_as_asked, cut_without_a_lock, cutting, date_unknown, dated_from_the_arrival, done_and_quiesced, done_and_refused, done_and_told, dropped_by_another_command, dropped_without_a_crash, dropped_without_a_report, fault_without_a_report, full_without_operations, given_again, given_below, given_of_another_file, given_to_another_client, grace_never_begun, grace_too_short, grant_unknown, hard_and_not_held, hard_and_pending, hard_no_more, hard_too_early, hard_twice, kept_after_the_end, looking, loss_not_told, loss_told_in_part, named_and_not_asked, named_and_not_created, named_truly, named_wrongly, past, past_answered, past_asked, past_created, past_cut, past_done, past_lost, past_met, past_refused, past_removed, past_sent, past_told, read_after_the_end, reading, refused_without_a_refusal, replied_behind_a_timer, stale_read, stolen_as_another_life, stolen_early, submitted_after_the_end, syncing, timer_unknown, timer_without_a_suspect, told_and_not_lost, told_and_not_sent, told_too, writing, written_and_not_answered, written_and_not_logged, written_under_a_lesser_grant, written_under_another_number, written_without_a_lock};
+ghost use Rattle.st_rows_promises.specs.Broken.{IsKeptBut, answered_twice, beside_a_held_lock, beside_a_lock, conflict_sent, counted_and_not_told, created_again, created_and_not_asked, created_and_refused, created_and_told, created_as_asked, created_otherwise, creating, creating_too, cut_and_not_acknowledged, cut_and_not_asked, cut_and_not_logged, cut_and_refused, cut_as_asked, cut_without_a_lock, cutting, date_unknown, dated_from_the_arrival, done_and_quiesced, done_and_refused, done_and_told, dropped_by_another_command, dropped_without_a_crash, dropped_without_a_report, fault_without_a_report, full_without_operations, given_again, given_below, given_of_another_file, given_to_another_client, grace_never_begun, grace_too_short, grant_unknown, hard_and_not_held, hard_and_pending, hard_no_more, hard_too_early, hard_twice, kept_after_the_end, looking, loss_not_told, loss_told_in_part, named_and_not_asked, named_and_not_created, named_truly, named_wrongly, past, past_answered, past_asked, past_created, past_cut, past_done, past_first, past_lost, past_met, past_refused, past_removed, past_sent, past_told, read_after_the_end, reading, refused_without_a_refusal, removed_then, removing, replied_behind_a_timer, stale_read, stolen_as_another_life, stolen_early, submitted_after_the_end, syncing, timer_unknown, timer_without_a_suspect, told_and_not_lost, told_and_not_sent, told_first, told_too, writing, written_and_not_answered, written_and_not_logged, written_under_a_lesser_grant, written_under_another_number, written_without_a_lock};
 ghost use Rattle.st_rules.specs.Safety.{AnswersAreLogged, AsksAreAnsweredOnce, ChangesAreLocked, ChangesGoInTheOrderOfLocks, DirtyPagesStandAlone, DropsHaveACause, ExpiredLeasesEmptyClients, GraceWaits, HardIsHard, HardStaysHard, LeasesAreDatedFromRequests, NoConflictIsSent, ReadsReturnLastWrites, TheHistoryIsTheWorlds, TheReportTellsTheLog, TheftsComeLate};
 
 /// A page that is dirty while another client has a row of its file.
@@ -409,22 +409,28 @@ pub fn a_change_of_names_that_was_refused_is_refused()
     ensures before { IsKeptBut [] (past creating) created_as_asked }
 {}
 
-/// A new file whose ask is answered as if it had been there before. That the step keeps the other promises is not shown here.
+/// A new file whose ask is answered as if it had been there before, by a refusal that comes later. That it was made is no fault.
 #[tactic(auto, unfolding(crate::specs::Broken::broken_open))]
 pub fn a_change_of_names_that_is_answered_as_another_is_refused()
     ensures broken { ¬ NamesChangeOnce past_created created_and_refused }
+    ensures kept { IsKeptBut (27 ∷ []) past_created created_and_refused }
+    ensures said { IsKeptBut [] past_created created_and_told }
 {}
 
-/// A new file that is removed, and then made again by the same ask. That the step keeps the other promises is not shown here.
+/// A new file that is removed, and then made again by the same ask. Up to the removal it is no fault.
 #[tactic(auto, unfolding(crate::specs::Broken::broken_open))]
 pub fn a_second_change_of_names_by_one_ask_is_refused()
     ensures broken { ¬ NamesChangeOnce past_removed created_again }
+    ensures kept { IsKeptBut (27 ∷ []) past_removed created_again }
+    ensures before { IsKeptBut [] (past_first removing) removed_then }
 {}
 
-/// One new file of which two asks are told. That the step keeps the other promises is not shown here.
+/// One new file of which two asks are told. That the first of them is told is no fault.
 #[tactic(auto, unfolding(crate::specs::Broken::broken_open))]
 pub fn one_change_of_names_for_two_asks_is_refused()
     ensures broken { ¬ NamesChangeOnce past_told told_too }
+    ensures kept { IsKeptBut (27 ∷ []) past_told told_too }
+    ensures before { IsKeptBut [] (past_first creating_too) told_first }
 {}
 
 /// A cut that was done, and whose ask is answered as if it had not been. That it was done is no fault.
