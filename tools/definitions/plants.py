@@ -10,28 +10,52 @@ class Plant(NamedTuple):
     asks: str = "all"
 
 
-REFUSED_CUT = ("Server", "cut_from t ino from = replied (cut_pages t ino from) bodies.Ack", "cut_from t ino from = replied (cut_pages t ino from) (bodies.Nack why.NotHolder ino 0)")
+CUT_FROM = "cut_from t ino from = replied (cut_pages t ino from) bodies.Ack"
+REFUSED_CUT = ("Server", CUT_FROM, "cut_from t ino from = replied (cut_pages t ino from) (bodies.Nack why.NotHolder ino 0)")
+AGAIN = "request_by t now h body (takes.Again kept) = reply t h kept"
+KEPT = "keep_and_reply t h body = reply (with_sessions (sessions.store t.state.sessions (sender h) h.number body) t) h body"
+KEPT_OTHER = "keep_and_reply t h body = reply (with_sessions (sessions.store t.state.sessions (sender h) h.number (kept_for body)) t) h body\n"
 CHANGED = "name_changed t (Ok d) = replied (with_names d.names t) (bodies.Named (Ino d.ino))"
 RAISED = "record { 0 = first_after l.epoch + l.grants + 1 }"
 TAKE_FROM = "take_from last reply number = if number == last then again reply else take_next last number"
+SENT_ANEW = (
+    "ClientReplies", "follow_epoch t s epoch = answer_each (is_asked t.here.server) (answers.Uncertain s.epoch.0 epoch.0) (with_session (in_epoch epoch s) t)",
+    "use Rattle.st_rules.specs.declared.client.Stage.TheVariants as stages\n"
+    "follow_epoch t s epoch = with_operations (map (sent_anew t) t.operations) (with_session (in_epoch epoch s) t)\n"
+    "sent_anew t o = if is_asked t.here.server o then at_stage stages.Unsent o else o")
 
 PLANTS = (
     # Cuts.
-    Plant("a server truncates a file whenever it grants it exclusively", "CutsAreAsked CutsAreAcknowledged DisksHoldWhatIsHard ReadsReturnLastWrites", (
+    Plant("a server truncates a file whenever it grants it exclusively", "CutsAreAsked CutsAreAcknowledged DisksHoldWhatIsHard ReadsReturnLastWrites RefusalsChangeNothing", (
         ("Server", "acquire_by t ino mode (Ok a) = replied (with_locks a.locks t) (verdict_body ino mode a.verdict)",
          "acquire_by t ino modes.X (Ok a) = cut_at_grant (with_locks a.locks t) ino a.verdict\n"
          "acquire_by t ino mode (Ok a) = replied (with_locks a.locks t) (verdict_body ino mode a.verdict)\n"
          "cut_at_grant t ino (verdicts.Granted g held) = replied (cut_pages t ino (page_no 0)) (bodies.Granted ino g held)\n"
          "cut_at_grant t ino verdict = replied t (verdict_body ino modes.X verdict)"),)),
-    Plant("a cut is done again when its request comes again", "CutsAreAsked", (
-        ("Server", "request_by t now h body (takes.Again kept) = reply t h kept",
+    Plant("a cut is done again when its request comes again", "CutsAreAsked RefusalsChangeNothing", (
+        ("Server", AGAIN,
          "request_by t now h (bodies.Cut ino g from) (takes.Again bodies.Ack) = reply (cut_pages t ino from) h bodies.Ack\n"
          "request_by t now h body (takes.Again kept) = reply t h kept"),), "cuts"),
-    Plant("a cut takes the whole file, whatever its page", "CutsAreAsked AnswersAreLogged", (
-        ("Server", "cut_from t ino from = replied (cut_pages t ino from) bodies.Ack", "cut_from t ino from = replied (cut_pages t ino (page_no 0)) bodies.Ack"),), "cuts"),
-    Plant("a cut is done and answered `notholder`", "CutsAreAcknowledged", (REFUSED_CUT,), "cuts"),
-    Plant("a client answers an acknowledged cut `notholder`", "FaultsHaveACause", (
+    Plant("a cut takes the whole file, whatever its page", "CutsAreAsked AnswersAreLogged RefusalsChangeNothing", (
+        ("Server", CUT_FROM, "cut_from t ino from = replied (cut_pages t ino (page_no 0)) bodies.Ack"),), "cuts"),
+    Plant("a cut is done and answered `notholder`", "CutsAreAcknowledged RefusalsChangeNothing", (REFUSED_CUT,), "cuts"),
+    Plant("a client answers an acknowledged cut `notholder`", "FaultsHaveACause RefusalsChangeNothing", (
         ("ClientReplies", "answer_each (is_asked t.here.server) answers.Cut t", "answer_each (is_asked t.here.server) answers.NotHolder t"),), "cuts"),
+    Plant("a cut is acknowledged and not done", "AnswersAreLogged", (("Server", CUT_FROM, "cut_from t ino from = replied t bodies.Ack"),), "cuts"),
+    # Refusals.
+    Plant("where a cut is acknowledged, `notholder` is kept as its reply", "RefusalsChangeNothing", (
+        ("Server", KEPT, KEPT_OTHER + "kept_for bodies.Ack = bodies.Nack why.NotHolder 0 0\nkept_for body = body"),), "cuts"),
+    Plant("where an inode is told, a refusal is kept as the reply", "RefusalsChangeNothing NamesAnswerTruly NamesChangeOnce", (
+        ("Server", KEPT, KEPT_OTHER + "kept_for (bodies.Named (Ino ino)) = bodies.Named (Refused 2)\nkept_for body = body"),), "cuts"),
+    Plant("operations that were sent are answered `quiesced`", "RefusalsChangeNothing NamesAnswerTruly NamesChangeOnce CutsAreAsked NamesChangeAsAsked", (
+        ("ClientPasses", "quiesce t o = if is_sent o then keep o t else answer o answers.Quiesced t", "quiesce t o = answer o answers.Quiesced t"),), "cuts"),
+    Plant("a request with a kept reply is served again", "RefusalsChangeNothing CutsAreAsked NamesAnswerTruly NamesChangeAsAsked NamesChangeOnce", (
+        ("Server", AGAIN, "request_by t now h body (takes.Again kept) = serve h (rule t now h body)"),), "cuts"),
+    Plant("a cut whose request is given up is answered `quiesced`", "RefusalsChangeNothing NamesAnswerTruly NamesChangeOnce", (
+        ("ClientReplies", "(answers.Uncertain s.epoch.0 epoch.0)", "answers.Quiesced"),), "cuts"),
+    Plant("a cut that was sent before a lost lease is answered `quiesced`", "RefusalsChangeNothing NamesAnswerTruly NamesChangeOnce", (
+        ("Client", "answered t o.op (answers.Uncertain s.epoch.0 0)", "answered t o.op answers.Quiesced"),), "cuts"),
+    Plant("a cut is sent again in a new epoch", "RefusalsChangeNothing NamesChangeOnce", (SENT_ANEW,), "cuts"),
     # Losses.
     Plant("lost pages are never told: a sync always answers `hard`", "LossesAreTold", (
         ("Client", "if pages.has_lost t.here.lost f.ino then tell_lost t op f.ino else enqueue t op ask", "enqueue t op ask"),
@@ -55,6 +79,14 @@ PLANTS = (
     Plant("a read is not counted", "TheCountsAreTrue", (("Events", "reads_in (answers.Read bytes) = 1", "reads_in (answers.Read bytes) = 0"),)),
     Plant("a message is sent without its line in the report", "TheCountsAreTrue LeasesAreDatedFromRequests CutsAreAcknowledged", (
         ("Events", "sends sc m = observe (with_message m sc.world) sc (seen.Sent (length sc.world.net.messages + 1) m)", "sends sc m = world_turn (with_message m sc.world) sc.seen"),)),
+    Plant("a dropped entry is told as hard", "TheReportTellsTheLog TheCountsAreTrue", (
+        ("Events", "fate_seen number fates.Pending (fates.Gone cause) = seen.Dropped number cause ∷ []",
+         "fate_seen number fates.Pending (fates.Gone cause) = seen.Hardened number ∷ []"),)),
+    Plant("what a crash drops is told as failed", "DropsHaveACause", (("Events", "(log.always causes.Crash)", "(log.always (causes.Failed 1))"),)),
+    # Answers.
+    Plant("what is answered `quiesced` stays pending", "AsksAreAnsweredOnce CutsAreAsked NamesAnswerTruly NamesChangeAsAsked NamesChangeOnce RefusalsChangeNothing", (
+        ("ClientPasses", "quiesce t o = if is_sent o then keep o t else answer o answers.Quiesced t",
+         "quiesce t o = if is_sent o then keep o t else keep o (answer o answers.Quiesced t)"),)),
     # Grant numbers.
     Plant("shared grants do not raise the number", "GrantNumbersAreGivenOnce", (
         ("Locks", "grant l c life ino mode = record l { grants = l.grants + 1;",
@@ -73,11 +105,11 @@ PLANTS = (
         ("Server", "name_found t (names.lookup t.state.stable.names dir n)", "name_found t (names.lookup names.fresh_names dir n)"),), "names"),
     Plant("a client takes the reply of an older request", "NamesAnswerTruly NamesChangeOnce AnswersAreLogged FaultsHaveACause LeasesAreDatedFromRequests", (
         ("ClientReplies", "is_counting number reply q = is_request_of number q && fits reply q.body", "is_counting number reply q = fits reply q.body"),), "names"),
-    Plant("an ask whose request is given up is answered as refused", "NamesAnswerTruly NamesChangeOnce", (
+    Plant("an ask whose request is given up is answered as refused", "NamesAnswerTruly NamesChangeOnce RefusalsChangeNothing", (
         ("ClientReplies", "(answers.Uncertain s.epoch.0 epoch.0)", "(answers.Refused 1)"),), "names"),
-    Plant("an ask that was sent before a lost lease is answered as refused", "NamesAnswerTruly NamesChangeOnce", (
+    Plant("an ask that was sent before a lost lease is answered as refused", "NamesAnswerTruly NamesChangeOnce FaultsHaveACause RefusalsChangeNothing", (
         ("Client", "answered t o.op (answers.Uncertain s.epoch.0 0)", "answered t o.op (answers.Refused 1)"),), "names"),
-    Plant("a client answers all its asks for names by one reply", "NamesAnswerTruly NamesChangeOnce", (
+    Plant("a client answers all its asks for names by one reply", "NamesAnswerTruly NamesChangeOnce RefusalsChangeNothing", (
         ("ClientReplies", "named_as (answer_each (is_asked t.here.server) (name_answer reply) t) s file reply",
          "named_as (answer_each (asks_name t.here.server) (name_answer reply) t) s file reply\n"
          "use Rattle.st_messages.specs.declared.ask.Ask.TheVariants as asks\n"
@@ -97,22 +129,18 @@ PLANTS = (
         ("Server", "crash s =\n    record s {", "crash s =\n    record s {\n      stable = record s.stable { names = names.fresh_names };"),), "names"),
     Plant("a server takes an inode number at each start", "NamesChangeAsAsked NamesChangeOnce", (
         ("Server", "stable = record s.stable { epoch = epoch };", "stable = record s.stable { epoch = epoch; names = record s.stable.names { next = s.stable.names.next + 1 } };"),), "names"),
-    Plant("an older request is served again", "NamesChangeAsAsked NamesChangeOnce CutsAreAsked", (
+    Plant("an older request is served again", "NamesChangeAsAsked NamesChangeOnce CutsAreAsked RefusalsChangeNothing", (
         ("Sessions", "take_number last reply number = if nat_lt number last then Stale", "take_number last reply number = if nat_lt number last then Fresh"),), "names"),
-    Plant("an ask is sent again in a new epoch", "NamesChangeOnce", (
-        ("ClientReplies", "follow_epoch t s epoch = answer_each (is_asked t.here.server) (answers.Uncertain s.epoch.0 epoch.0) (with_session (in_epoch epoch s) t)",
-         "use Rattle.st_rules.specs.declared.client.Stage.TheVariants as stages\n"
-         "follow_epoch t s epoch = with_operations (map (sent_anew t) t.operations) (with_session (in_epoch epoch s) t)\n"
-         "sent_anew t o = if is_asked t.here.server o then at_stage stages.Unsent o else o"),), "names"),
-    Plant("a request that comes again is served again", "NamesChangeOnce NamesChangeAsAsked NamesAnswerTruly CutsAreAsked", (
+    Plant("an ask is sent again in a new epoch", "NamesChangeOnce RefusalsChangeNothing", (SENT_ANEW,), "names"),
+    Plant("a request that comes again is served again", "NamesChangeOnce NamesChangeAsAsked NamesAnswerTruly CutsAreAsked RefusalsChangeNothing", (
         ("Sessions", TAKE_FROM, "take_from last reply number = if number == last then Fresh else take_next last number"),), "names"),
     # Leases, timers and grace.
-    Plant("a theft comes one tick early", "TheftsComeLate", (("Authority", "is_over wait now s = nat_le (s.start.0 + wait) now.0", "is_over wait now s = nat_le (s.start.0 + wait) (now.0 + 1)"),)),
-    Plant("the steal wait is the lease alone", "TheftsComeLate GraceWaits", (("Leases", "div_ceil (k.lease * k.num + k.den * k.grain) k.den", "k.lease"),)),
-    Plant("the steal wait leaves out the grain", "TheftsComeLate GraceWaits", (
+    Plant("a theft comes one tick early", "TheftsComeLate DirtyPagesStandAlone ReadsReturnLastWrites", (
+        ("Authority", "is_over wait now s = nat_le (s.start.0 + wait) now.0", "is_over wait now s = nat_le (s.start.0 + wait) (now.0 + 1)"),)),
+    Plant("the steal wait is the lease alone", "TheftsComeLate GraceWaits DirtyPagesStandAlone ReadsReturnLastWrites", (
+        ("Leases", "div_ceil (k.lease * k.num + k.den * k.grain) k.den", "k.lease"),)),
+    Plant("the steal wait leaves out the grain", "TheftsComeLate GraceWaits DirtyPagesStandAlone ReadsReturnLastWrites", (
         ("Leases", "div_ceil (k.lease * k.num + k.den * k.grain) k.den", "div_ceil (k.lease * k.num) k.den"),)),
-    Plant("the steal wait is rounded down", "TheftsComeLate GraceWaits", (
-        ("Leases", "steal_wait k = div_ceil (k.lease * k.num + k.den * k.grain) k.den", "steal_wait k = div_ceil (k.lease * k.num + k.den * k.grain + 1 - k.den) k.den"),)),
     Plant("a server has no grace", "GraceWaits", (("Grace", "begin_grace now k = Some (record { start = now; wait = steal_wait k })", "begin_grace now k = None"),)),
     Plant("grace is one tick short", "GraceWaits", (("Grace", "nat_lt now.0 (g.start.0 + g.wait)", "nat_lt (now.0 + 1) (g.start.0 + g.wait)"),)),
     Plant("a server grants in grace", "DirtyPagesStandAlone ReadsReturnLastWrites ChangesAreLocked NoConflictIsSent ChangesGoInTheOrderOfLocks", (
@@ -121,13 +149,11 @@ PLANTS = (
         ("ClientReplies", "welcome t now (record { 0 = h.epoch }) (record { 0 = h.stamp })", "welcome t now (record { 0 = h.epoch }) now"),)),
     Plant("a lease is dated from a reply", "LeasesAreDatedFromRequests TheftsComeLate", (
         ("ClientReplies", "counted t s now h.number (record { 0 = h.stamp }) reply s.requests.asked", "counted t s now h.number now reply s.requests.asked"),)),
-    Plant("a condemned lease is renewed", "LeasesAreDatedFromRequests TheftsComeLate", (
-        ("ClientLease", "is_renewal stamp l = not l.condemned && nat_lt l.date.0 stamp.0", "is_renewal stamp l = nat_lt l.date.0 stamp.0"),)),
-    Plant("a timer begins anew", "TheHistoryIsTheWorlds", (
-        ("Authority", "suspect a c now = if may_ack a c then start_timer a c now else a",
-         "suspect a c now = start_timer (record a { suspects = filter (λ s. not (is_suspect c s)) a.suspects }) c now"),)),
+    Plant("a timer runs on after the theft", "TheHistoryIsTheWorlds", (
+        ("Authority", "still_running a now = record a { suspects = filter (λ s. not (is_over a.wait now s)) a.suspects }", "still_running a now = a"),)),
+    Plant("shared locks conflict where they are reasserted", "NoConflictIsSent", (("Locks", "(holder_against l c row.0 row.2)", "(holder_against l c row.0 modes.X)"),)),
     # Locks and pages.
-    Plant("a server grants over a conflict", "DirtyPagesStandAlone ReadsReturnLastWrites ChangesAreLocked", (
+    Plant("a server grants over a conflict", "DirtyPagesStandAlone ReadsReturnLastWrites ChangesAreLocked ChangesGoInTheOrderOfLocks NoConflictIsSent", (
         ("Locks", "if list_any (stands_against w.client w.ino w.mode) l.rows then None else Some w", "Some w"),)),
     Plant("a new life replaces one with locks", "DirtyPagesStandAlone ReadsReturnLastWrites ChangesAreLocked ChangesGoInTheOrderOfLocks HardStaysHard", (
         ("Sessions", "hello_higher t c life rows = if rows then greeted hellos.Wait t else begin_session hellos.Replaced c life t",
@@ -135,18 +161,19 @@ PLANTS = (
     Plant("clean pages are kept at an expiry", "ReadsReturnLastWrites ExpiredLeasesEmptyClients", (
         ("Client", "session = None; store = empty_store; lost = a.lost }",
          "session = None; store = record empty_store { pages = record pages.no_pages { clean = a.store.pages.clean } }; lost = a.lost }"),)),
-    Plant("clean pages are kept at a release", "ReadsReturnLastWrites", (
+    Plant("clean pages are kept at a release", "ReadsReturnLastWrites DisksHoldWhatIsHard", (
         ("ClientPasses", "forgotten_at ino modes.None st = pages.forget_from st ino (page_no 0)", "forgotten_at ino modes.None st = st"),)),
-    Plant("a client reads without a lock", "ReadsReturnLastWrites", (
-        ("ClientPasses", "read t s o f p = if holds s modes.S f then", "read t s o f p = if holds s modes.None f then"),)),
-    Plant("a client writes with a shared lock", "ChangesAreLocked DirtyPagesStandAlone ReadsReturnLastWrites", (
+    Plant("clean pages are kept at a release, and read without a lock", "ReadsReturnLastWrites DisksHoldWhatIsHard", (
+        ("ClientPasses", "forgotten_at ino modes.None st = pages.forget_from st ino (page_no 0)", "forgotten_at ino modes.None st = st"),
+        ("ClientPasses", "read t s o f p = if holds s modes.S f then", "read t s o f p = if holds s modes.None f then"))),
+    Plant("a client writes with a shared lock", "ChangesAreLocked DirtyPagesStandAlone ReadsReturnLastWrites ChangesGoInTheOrderOfLocks DropsHaveACause", (
         ("ClientPasses", "may_write t s f p = holds s modes.X f", "may_write t s f p = holds s modes.S f"),)),
-    Plant("a lock is released with dirty pages", "DirtyPagesStandAlone ReadsReturnLastWrites", (
+    Plant("a lock is released with dirty pages", "DirtyPagesStandAlone ReadsReturnLastWrites DropsHaveACause", (
         ("ClientPasses", "may_reduce t s ino = pages.is_idle t.here.store ino && not (is_busy t.operations t.here.server s ino)",
          "may_reduce t s ino = not (is_busy t.operations t.here.server s ino)"),)),
     Plant("a sync is `hard` while pages are dirty", "HardIsHard", (
         ("ClientPages", "is_hard st ino = not (has_dirty st.pages ino) && not (has_write_on st.commands ino)", "is_hard st ino = not (has_write_on st.commands ino)"),)),
-    Plant("a changed page is hard by its older write", "HardIsHard ReadsReturnLastWrites", (
+    Plant("a changed page is hard by its older write", "HardIsHard ReadsReturnLastWrites DropsHaveACause", (
         ("ClientPages", "write_ended version now = if version == now then Hard else Redirty", "write_ended version now = Hard"),)),
     Plant("the birth of a block is not looked at", "ReadsReturnLastWrites", (
         ("ClientPages", "same_file tag.file f && (same_page tag.page p && (tag.birth == m.birth))", "same_file tag.file f && same_page tag.page p"),)),
@@ -155,11 +182,11 @@ PLANTS = (
     Plant("a patch is over zeros", "ReadsReturnLastWrites DisksHoldWhatIsHard", (
         ("ClientPasses", "patch_at t o f p at bytes None = fetch t o f p", "patch_at t o f p at bytes None = patch_bytes t o f p at bytes (filled 0)"),)),
     # The log.
-    Plant("one entry hardens alone", "HardIsHard DisksHoldWhatIsHard", (
+    Plant("one entry hardens alone", "HardIsHard DisksHoldWhatIsHard DropsHaveACause", (
         ("FlatLog", "if nat_le number index && same_owner e.of o then harder_entry e else e", "if (number == index) && same_owner e.of o then harder_entry e else e"),)),
     Plant("a crash spares nothing", "DisksHoldWhatIsHard HardIsHard DropsHaveACause ReadsReturnLastWrites", (
         ("Events", "is_of_crashed w c number o = log.is_of_client c o && not (is_spared w number o)", "is_of_crashed w c number o = log.is_of_client c o"),)),
-    Plant("a hard entry is dropped", "HardStaysHard", (("FlatLog", "lost cause Hard = Hard", "lost cause Hard = Gone cause"),)),
+    Plant("a hard entry is dropped", "HardStaysHard DropsHaveACause TheReportTellsTheLog DisksHoldWhatIsHard TheCountsAreTrue ReadsReturnLastWrites", (("FlatLog", "lost cause Hard = Hard", "lost cause Hard = Gone cause"),)),
     # Old messages.
     Plant("a client hears messages of other lives", "OldMessagesChangeNoClient", (
         ("ClientReplies", "(h.from == server_node t.here.server) && ((h.life == t.here.life.0) && nat_le h.stamp now.0)",

@@ -20,8 +20,6 @@ from scheme import Translator, symbol  # noqa: E402
 RULES, PROMISES = "Rattle.st_rules.specs.", "Rattle.st_promises.specs."
 ROOTS = (("Run", "run"), ("Report", "report"), ("Report", "ending"), ("World", "fresh_world"), ("Events", "world_step"), ("Safety", "IsHead"), ("Safety", "is_event"),
          ("Safety", "steps"), ("Safety", "is_old"), ("Safety", "is_of_other_epoch"), ("Safety", "is_of_past_life"), ("History", "traced"))
-# Promises that are evaluated besides the fields of IsSafe: a module of st_promises/specs, and a name in it.
-MORE_PROMISES = ("NamesOnce.NamesChangeOnce",)
 ENUMS = (("st_rules", "disks", "Report"), ("st_messages", "event", "Event"), ("st_messages", "ask", "Ask"), ("st_base", "names", "NameAsk"), ("st_base", "ids", "NodeId"),
          ("core", "result", "Result"))
 RECORDS = (("0",), ("server", "ino"), ("lease", "renew", "quiesce", "flush", "demand", "retry", "num", "den", "grain"))
@@ -31,10 +29,10 @@ MOST_MEMORY = 4 << 30
 
 
 def promises_of(translator, more):
-    """The promises by name, each as its symbol: the fields of IsSafe, and those besides."""
+    """The promises by name, each as its symbol: the fields of IsSafe, and these more, each a module of st_promises/specs and a name in it."""
     module = translator.sources.module(PROMISES + "Safe")
     names = [text.split()[1] for _, text in module.records["IsSafe"][1]]
-    places = [place.rsplit(".", 1) for place in (*MORE_PROMISES, *more)]
+    places = [place.rsplit(".", 1) for place in more]
     found = [translator.root(module.path, name) for name in names] + [translator.root(PROMISES + file, name) for file, name in places if name not in names]
     return {one[1].name: symbol(one[1].module.path, one[1].name) for one in found}
 

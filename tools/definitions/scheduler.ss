@@ -61,6 +61,8 @@
               [(9 10) (list 5 (a-directory) (a-name) (a-directory) (a-name))]
               [else (list 6 (a-directory) '(bytes))])
             (case (random 4) [(0) (list 1 1 (a-name))] [(1) (list 2 1 (a-name))] [(2) (list 4 1 (a-name) (one-of '(0 2 2 3 10)))] [else (list 5 1 (a-name) 1 (a-name))]))))
+; a create or a mkdir that is likely not refused
+(define (a-new-name s) (list 'name s (list (one-of '(2 3)) 1 (list 'bytes '(1 110) (list 1 (from-to 97 122))))))
 (define (a-cut run s)
   (let ([ino (one-of (drawn-inodes run))])
     (if (or (> ino 9) (chance 0.7)) (list 'cut (list s ino) (random (drawn-pages run))) (list 'name s (list 4 1 (list 'bytes '(1 102) (list 1 (+ 48 ino))) ino)))))
@@ -151,7 +153,8 @@
                       (range 0 (client-count run))))
           (put run (list 'tick (list-ref (nodes-of run) (car it))))))))
 
-; Scenes: a holder is silent; a server starts anew; a client hears of a new epoch, and what it says from then on is held back.
+; Scenes: a holder is silent; a server starts anew, sometimes after all clients read a file; a client hears of a new epoch, and what it says from then
+; on is held back.
 (define (silence run)
   (let* ([c (a-client run)] [s (a-server run)] [f (list s (one-of (drawn-inodes run)))] [p (random (drawn-pages run))] [other (a-client run)])
     (put run (list 'app c (list 'write f p (a-page))))
@@ -181,7 +184,8 @@
         (drain run)))))
 (define (look-up run c s) (put run (list 'app c (list 'name s (list 1 1 '(bytes (1 102) (1 50)))))))
 (define (resume run)
-  (let ([s (a-server run)])
+  (let* ([s (a-server run)] [f (list s (one-of (drawn-inodes run)))])
+    (when (chance 0.3) (for-each (lambda (c) (put run (list 'app c (list 'read f 0))) (drain run)) (clients-of run)))
     (restart run (server-node s))
     (for-each (lambda (c)
                 (when (chance 0.1) (restart run c))
@@ -218,13 +222,13 @@
       (drain run)
       (put run (list 'app c (list 'sync f)))
       (drain run))
-    (put run (list 'app c (if cuts? (list 'cut f (random (drawn-pages run))) (a-name-ask run))))
+    (put run (list 'app c (cond [cuts? (list 'cut f (random (drawn-pages run)))] [(chance 0.5) (a-new-name s)] [else (a-name-ask run)])))
     (let ([request (max 1 (length (messages-of run)))])
       (when (chance 0.7) (put run (list 'deliver request)))
+      (when (chance 0.5) (put run (list 'lose (max 1 (length (messages-of run))))))
       (case (random 5)
-        [(0) (restart run (server-node s))]
-        [(1) (restart run c)]
-        [(2) (put run (list 'lose (max 1 (length (messages-of run)))))]
+        [(0 1) (restart run (server-node s))]
+        [(2) (restart run c)]
         [else #f])
       (when (chance 0.5) (put run (list 'app (a-client run) (an-ask run))) (drain run))
       (advance run (- c 1) (list-ref (settings-of run) 5))
