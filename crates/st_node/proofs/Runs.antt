@@ -22,7 +22,7 @@ pub fed_nothing : (f : Frames) → fed f [] ≡ f
 fed_nothing f = ap (λ (w : List ℕ). record { offset = f.offset; rest = w; refusal = f.refusal }) (append-nil f.rest)
 
 pub behind_both : (a b : List ℕ) (r : Run) → behind (a ++ b) r ≡ behind a (behind b r)
-behind_both a b r = ap (λ (w : List ℕ). record { node = r.node; out = w; stop = r.stop }) (append_assoc a b r.out)
+behind_both a b r = ap (λ (w : List ℕ). record { node = r.node; out = w; readings = r.readings; stop = r.stop }) (append_assoc a b r.out)
 
 -- ---- one frame
 
@@ -33,15 +33,15 @@ unfolding run
 frame_goes zero n readings f g m more some e = absurd (omega arith)
 frame_goes (suc k) n readings f g m more some e =
     let less : suc k - 1 ≡ k = omega arith in
-    ap (go_on (λ n f. run k n (after readings) f) n (reading readings)) (next_more f more g (Ok m) e)
+    ap (go_on (λ n f. run k n (after readings) f) n readings) (next_more f more g (Ok m) e)
     ∙ ap (λ (j : ℕ). then_rest (handle n (reading readings) m) (λ p. run j p (after readings) (fed g more))) (sym less)
 
 -- a frame that is refused
 pub frame_stops : (k : ℕ) (n : Node) (readings : List Stamp) (f g : Frames) (r : CodecRefusal) (more : List ℕ) → 0 < k → next f ≡ (g, Some (Err r)) →
-    run k n readings (fed f more) ≡ ended n (Err (faults.Frame g.offset r))
+    run k n readings (fed f more) ≡ ended n readings (Err (faults.Frame g.offset r))
 unfolding run
 frame_stops zero n readings f g r more some e = absurd (omega arith)
-frame_stops (suc k) n readings f g r more some e = ap (go_on (λ n f. run k n (after readings) f) n (reading readings)) (next_more f more g (Err r) e)
+frame_stops (suc k) n readings f g r more some e = ap (go_on (λ n f. run k n (after readings) f) n readings) (next_more f more g (Err r) e)
 
 full_list : (rest more : List ℕ) → 0 < length rest → full_at (rest ++ more) ≡ Err faults.TooManyFrames
 full_list [] more some = absurd (omega arith)
@@ -49,19 +49,19 @@ full_list (b ∷ bs) more some = refl
 
 -- a frame begins, and no more may
 pub full_stops : (n : Node) (readings : List Stamp) (f : Frames) (more : List ℕ) → 0 < length f.rest →
-    run 0 n readings (fed f more) ≡ ended n (Err faults.TooManyFrames)
+    run 0 n readings (fed f more) ≡ ended n readings (Err faults.TooManyFrames)
 unfolding run
-full_stops n readings f more some = ap (ended n) (full_list f.rest more some)
+full_stops n readings f more some = ap (ended n readings) (full_list f.rest more some)
 
 empty_ends : (offset : ℕ) (rest : List ℕ) → rest ≡ [] → full_at rest ≡ end_at offset rest
 empty_ends offset [] e = refl
 empty_ends offset (b ∷ bs) e = absurd cc
 
 -- nothing more comes
-pub idle_ends : (k : ℕ) (n : Node) (readings : List Stamp) (f : Frames) → IsIdle k f → run k n readings f ≡ ended n (end_at f.offset f.rest)
+pub idle_ends : (k : ℕ) (n : Node) (readings : List Stamp) (f : Frames) → IsIdle k f → run k n readings f ≡ ended n readings (end_at f.offset f.rest)
 unfolding run
-idle_ends zero n readings f idle = ap (ended n) (empty_ends f.offset f.rest idle)
-idle_ends (suc k) n readings f idle = ap (go_on (λ n f. run k n (after readings) f) n (reading readings)) idle
+idle_ends zero n readings f idle = ap (ended n readings) (empty_ends f.offset f.rest idle)
+idle_ends (suc k) n readings f idle = ap (go_on (λ n f. run k n (after readings) f) n readings) idle
 
 -- ---- readings
 
@@ -123,11 +123,14 @@ pub carries_nothing : (a : Option (List Stamp)) (k : ℕ) (n : Node) (f : Frames
 carries_nothing a k n f old = record { each = λ last are. record { readings = last; are = are; holds = λ more. refl } }
 
 -- a stop behind what was done
-pub stops_behind : (a b : Option (List Stamp)) (k j : ℕ) (n p q : Node) (f g : Frames) (old mid new : List ℕ) (stop : NodeFault) →
-    Carries a b (GoesOn k n f old j p g mid) → OfReadings b (StopsAt j p g mid q new stop) → OfReadings a (StopsAt k n f old q new stop)
-stops_behind a b k j n p q f g old mid new stop one two =
-    let o = one.each two.readings two.are in
-    record { readings = o.readings; are = o.are; holds = λ more. two.holds more ∙ o.holds more }
+pub stops_behind : (a b c : Option (List Stamp)) (k j : ℕ) (n p q : Node) (f g : Frames) (old mid new : List ℕ) (stop : NodeFault) →
+    Carries a b (GoesOn k n f old j p g mid) → Carries b c (StopsAt j p g mid q new stop) → Carries a c (StopsAt k n f old q new stop)
+stops_behind a b c k j n p q f g old mid new stop one two = record {
+  each = λ last are.
+      let t = two.each last are in
+      let o = one.each t.readings t.are in
+      record { readings = o.readings; are = o.are; holds = λ more. t.holds more ∙ o.holds more };
+}
 
 -- ---- some readings
 
@@ -144,14 +147,19 @@ each_reading told fact all = let some = some_readings told in record { readings 
 pub map_readings : (told : Option (List Stamp)) (one two : List Stamp → Type 0) → ((rs : List Stamp) → one rs → two rs) → OfReadings told one → OfReadings told two
 map_readings told one two so h = record { readings = h.readings; are = h.are; holds = so h.readings h.holds }
 
--- what is so of readings whose last ones are given
-pub from_both : (a b : Option (List Stamp)) (fact : List Stamp → List Stamp → Type 0) (end goal : List Stamp → Type 0) →
-    Carries a b fact → OfReadings b end → ((rs later : List Stamp) → fact rs later → end later → goal rs) → OfReadings a goal
-from_both a b fact end goal goes ends so =
-    let o = goes.each ends.readings ends.are in
-    record { readings = o.readings; are = o.are; holds = so o.readings ends.readings o.holds ends.holds }
-
--- what is so whatever comes later
+-- what is so of readings whatever comes later
 pub from_first : (a b : Option (List Stamp)) (fact : List Stamp → List Stamp → Type 0) (goal : List Stamp → Type 0) →
-    Carries a b fact → ((rs later : List Stamp) → fact rs later → goal rs) → OfReadings a goal
-from_first a b fact goal goes so = from_both a b fact (λ readings. Unit {0}) goal goes (some_readings b) (λ rs later is u. so rs later is)
+    Carries a b fact → ((rs later : List Stamp) → AreReadings b later → fact rs later → goal rs) → OfReadings a goal
+from_first a b fact goal goes so =
+    let some = some_readings b in
+    let o = goes.each some.readings some.are in
+    record { readings = o.readings; are = o.are; holds = so o.readings some.readings some.are o.holds }
+
+-- the same of two facts, one behind the other
+pub from_both : (a b c : Option (List Stamp)) (fact end : List Stamp → List Stamp → Type 0) (goal : List Stamp → Type 0) →
+    Carries a b fact → Carries b c end → ((rs later last : List Stamp) → AreReadings c last → fact rs later → end later last → goal rs) → OfReadings a goal
+from_both a b c fact end goal goes ends so =
+    let some = some_readings c in
+    let t = ends.each some.readings some.are in
+    let o = goes.each t.readings t.are in
+    record { readings = o.readings; are = o.are; holds = so o.readings t.readings some.readings some.are o.holds t.holds }

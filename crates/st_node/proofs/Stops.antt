@@ -10,7 +10,7 @@ use Rattle.st_node.specs.Whole.{StopsByBytes}
 -- one turn of two runs that go on to the same stop
 turns_stop : (k : ℕ) (n m : Node) (readings others : List Stamp) (given : Frames × Answer) →
     ((n m : Node) (f : Frames) → (run k n (after readings) f).stop ≡ (run k m (after others) f).stop) →
-    (go_on (λ n f. run k n (after readings) f) n (reading readings) given).stop ≡ (go_on (λ n f. run k n (after others) f) m (reading others) given).stop
+    (go_on (λ n f. run k n (after readings) f) n readings given).stop ≡ (go_on (λ n f. run k n (after others) f) m others given).stop
 turns_stop k n m readings others (f, None) later = refl
 turns_stop k n m readings others (f, Some (Ok x)) later = later (handle n (reading readings) x).node (handle m (reading others) x).node f
 turns_stop k n m readings others (f, Some (Err e)) later = refl

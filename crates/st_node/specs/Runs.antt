@@ -123,19 +123,21 @@ handle n now m = if m.header.to == number_of n then handle_own n now m else pass
 
 -- A stream.
 
--- the node at the end of a run, all bytes that it wrote, and why the run stopped: nothing where the stream ended at a frame's boundary
+-- the node at the end of a run, all bytes that it wrote, the readings of the clock that it left, and why it stopped: nothing where the
+-- stream ended at a frame's boundary
 pub record Run : Type 0 where
   pub node : Node
   pub out : List ℕ
+  pub readings : List Stamp
   pub stop : Result Unit NodeFault
 
 -- a run that stops here
-abbrev pub ended : Node → Result Unit NodeFault → Run
-ended n stop = record { node = n; out = []; stop = stop }
+abbrev pub ended : Node → List Stamp → Result Unit NodeFault → Run
+ended n readings stop = record { node = n; out = []; readings = readings; stop = stop }
 
 -- a run behind these bytes
 abbrev pub behind : List ℕ → Run → Run
-behind out r = record { node = r.node; out = out ++ r.out; stop = r.stop }
+behind out r = record { node = r.node; out = out ++ r.out; readings = r.readings; stop = r.stop }
 
 -- the next reading of a clock that tells its readings
 abbrev pub reading : List Stamp → Stamp
@@ -157,15 +159,15 @@ abbrev pub then_rest : Handled → (Node → Run) → Run
 then_rest h rest = behind h.out (rest h.node)
 
 -- a run by what the reader of frames gives next
-abbrev pub go_on : (Node → Frames → Run) → Node → Stamp → Frames × Answer → Run
-go_on rest n now (f, None) = ended n (end_at f.offset f.rest)
-go_on rest n now (f, Some (Ok m)) = then_rest (handle n now m) (λ n. rest n f)
-go_on rest n now (f, Some (Err r)) = ended n (Err (faults.Frame f.offset r))
+abbrev pub go_on : (Node → Frames → Run) → Node → List Stamp → Frames × Answer → Run
+go_on rest n readings (f, None) = ended n readings (end_at f.offset f.rest)
+go_on rest n readings (f, Some (Ok m)) = then_rest (handle n (reading readings) m) (λ n. rest n f)
+go_on rest n readings (f, Some (Err r)) = ended n readings (Err (faults.Frame f.offset r))
 
 -- the run over what a reader of frames holds, of at most this many frames, each with one reading of the clock
 unfoldable pub run : ℕ → Node → List Stamp → Frames → Run
-run zero n readings f = ended n (full_at f.rest)
-run (suc k) n readings f = go_on (λ n f. run k n (after readings) f) n (reading readings) (next f)
+run zero n readings f = ended n readings (full_at f.rest)
+run (suc k) n readings f = go_on (λ n f. run k n (after readings) f) n readings (next f)
 
 -- a node takes at most this many frames
 unfoldable pub MOST : ℕ

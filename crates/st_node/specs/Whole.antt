@@ -17,10 +17,15 @@ unfoldable pub handle_all : List Message → Node → List Stamp → Handled
 handle_all [] n readings = passed n
 handle_all (m ∷ ms) n readings = then_others (handle n (reading readings) m) (λ p. handle_all ms p (after readings))
 
--- a stream of whole frames, at most as many as a node takes, is run through, and each message is handled once
+-- the readings that are left behind these messages, each of which takes one
+unfoldable pub after_all : List Message → List Stamp → List Stamp
+after_all [] readings = readings
+after_all (m ∷ ms) readings = after_all ms (after readings)
+
+-- a stream of whole frames, at most as many as a node takes, is run through, and each message is handled once, with one reading
 abbrev pub RunsThrough : Node → List Stamp → List Message → Type 0
 RunsThrough n readings ms = AllByRecursion IsFramed ms → length ms ≤ MOST →
-    node_run n readings (flat_map message_frame ms) ≡ record { node = (handle_all ms n readings).node; out = (handle_all ms n readings).out; stop = Ok tt }
+    node_run n readings (flat_map message_frame ms) ≡ record { node = (handle_all ms n readings).node; out = (handle_all ms n readings).out; readings = after_all ms readings; stop = Ok tt }
 
 -- Over these bytes the runs of all nodes, at all readings of a clock, stop for the same reason at the same offset.
 abbrev pub StopsByBytes : List ℕ → Type 0

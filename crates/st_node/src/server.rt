@@ -41,7 +41,7 @@ fn put_output(out: &mut Vec<u8>, output: &Output) -> Result<(), AllocError>
     }
 }
 
-/// Appends the frames of a server's outputs, in order. An error leaves any bytes behind those that were there.
+/// Appends the frames of a server's outputs, in order. After an error nothing is known of the bytes.
 pub fn put_outputs(out: &mut Vec<u8>, outputs: &[Output]) -> Result<(), AllocError>
     requires { list_all is_sent outputs.now ≡ true }
     ensures { OnOk result (out.new.items ≡ out.old.items ++ flat_map runs.server_frame outputs.now) }

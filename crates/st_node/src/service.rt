@@ -28,7 +28,7 @@ fn handle_next<C: Clock>(
     requires room { HasRoomFor left.old node.old }
     ensures goes { OnOk result (Carries (C.readings clock.old) (C.readings clock.new)
         (GoesOn left.old node.old reader.old text.old.items left.new node.new reader.new text.new.items)) }
-    ensures stops { OnStop result (λ stop. OfReadings (C.readings clock.old)
+    ensures stops { OnStop result (λ stop. Carries (C.readings clock.old) (C.readings clock.new)
         (StopsAt left.old node.old reader.old text.old.items node.new text.new.items stop)) }
     ensures room { OnOk result (HasRoomFor left.new node.new) }
     ensures few { OnOk result (length reader.old.rest + room_for left.new ≤ length reader.new.rest + room_for left.old) }
@@ -66,7 +66,7 @@ fn handle_frames<C: Clock>(
     requires room { HasRoomFor left.old node.old }
     ensures goes { OnOk result (Carries (C.readings clock.old) (C.readings clock.new)
         (GoesOn left.old node.old reader.old text.old.items left.new node.new reader.new text.new.items)) }
-    ensures stops { OnStop result (λ stop. OfReadings (C.readings clock.old)
+    ensures stops { OnStop result (λ stop. Carries (C.readings clock.old) (C.readings clock.new)
         (StopsAt left.old node.old reader.old text.old.items node.new text.new.items stop)) }
     ensures room { OnOk result (HasRoomFor left.new node.new) }
     ensures few { OnOk result (length reader.old.rest + room_for left.new ≤ length reader.new.rest + room_for left.old) }
@@ -155,14 +155,15 @@ pub fn serve<L: Link, C: Clock>(
 ) -> Result<(), NodeFault>
     requires room { HasRoomFor MOST node.old }
     // The run over all the bytes that the link held, where it tells them, at the clock's readings: those to come where the clock tells
-    // them, and else some readings. All of it where the stream ended or the run stopped, and otherwise a front of what is written in it.
+    // them, and else some readings. All of it where the stream ended or the run stopped, and then the clock has the readings that the run
+    // left; otherwise a front of what is written in it.
     ensures run { IfSome (L.left link.old) (λ bytes. OfReadings (C.readings clock.old) (λ readings.
-        Serves result (L.written link.old) (L.written link.new) node.new (node_run node.old readings bytes))) }
+        Serves result (L.written link.old) (L.written link.new) node.new (C.readings clock.new) (node_run node.old readings bytes))) }
     ensures through { OnOk result (IsAtEnd (L.left link.new)) }
-    // After `Read` and `Write` the node stands as after the run over the bytes that were taken; of this a front was written, and after
-    // `Read` all.
+    // After `Read` and `Write` the node and the clock stand as after the run over the bytes that were taken; of what it writes a front was
+    // written, and after `Read` all.
     ensures breaks { OfReadings (C.readings clock.old) (λ readings.
-        Breaks result node.old node.new readings (L.left link.old) (L.left link.new) (L.written link.old) (L.written link.new)) }
+        Breaks result node.old node.new readings (C.readings clock.new) (L.left link.old) (L.left link.new) (L.written link.old) (L.written link.new)) }
     // `Read` and `Write` come only where the count of faults rose; elsewhere but at `Memory` it stayed.
     ensures causes { HasCauses result (L.Source.faults link.old) (L.Source.faults link.new) }
     // The link is attached at no name.

@@ -17,7 +17,7 @@ use Rattle.st_node.specs.declared.fault.NodeFault.{NodeFault}
 use Rattle.st_node.specs.declared.fault.NodeFault.TheVariants as faults
 use Rattle.st_node.specs.Runs.{Run, node_run}
 use Rattle.st_node.specs.Service.{HasCauses, OfReadings, Serves}
-use Rattle.st_node.specs.Whole.{RunsThrough, handle_all}
+use Rattle.st_node.specs.Whole.{RunsThrough, after_all, handle_all}
 use Rattle.st_node.proofs.Runs.{each_reading, map_readings}
 use Rattle.st_tank.specs.NodeEnds.{AttachesBy, Completes, IsAttached, IsTold, MayTell, Writes, end_status, end_text}
 use Rattle.st_tank.specs.NodeWords.{started, started_run}
@@ -30,35 +30,35 @@ none_written : (before : Option (List ℕ)) (text : List ℕ) → AppendsPrefix 
 none_written before text = (0, Appends-nil before)
 
 -- what was served was written
-serves_writes : (ended : Result Unit NodeFault) (before now : Option (List ℕ)) (n : Node) (r : Run) → Serves ended before now n r → Writes ended before now r
-serves_writes (Ok u) before now n r h = (h.0, h.2)
-serves_writes (Err faults.Read) before now n r h = h
-serves_writes (Err faults.Write) before now n r h = h
-serves_writes (Err faults.Memory) before now n r h = h
-serves_writes (Err (faults.Frame at f)) before now n r h = (h.0, h.2)
-serves_writes (Err (faults.Cut at)) before now n r h = (h.0, h.2)
-serves_writes (Err faults.TooManyFrames) before now n r h = (h.0, h.2)
+serves_writes : (ended : Result Unit NodeFault) (before now : Option (List ℕ)) (n : Node) (told : Option (List Stamp)) (r : Run) → Serves ended before now n told r → Writes ended before now r
+serves_writes (Ok u) before now n told r h = (h.0, h.2)
+serves_writes (Err faults.Read) before now n told r h = h
+serves_writes (Err faults.Write) before now n told r h = h
+serves_writes (Err faults.Memory) before now n told r h = h
+serves_writes (Err (faults.Frame at f)) before now n told r h = (h.0, h.2)
+serves_writes (Err (faults.Cut at)) before now n told r h = (h.0, h.2)
+serves_writes (Err faults.TooManyFrames) before now n told r h = (h.0, h.2)
 
-pub served_writes : (ended : Result Unit NodeFault) (left before now : Option (List ℕ)) (readings : Option (List Stamp)) (n : Node) (run : List Stamp → List ℕ → Run) →
-    IfSome left (λ bytes. OfReadings readings (λ rs. Serves ended before now n (run rs bytes))) →
+pub served_writes : (ended : Result Unit NodeFault) (left before now : Option (List ℕ)) (readings told : Option (List Stamp)) (n : Node) (run : List Stamp → List ℕ → Run) →
+    IfSome left (λ bytes. OfReadings readings (λ rs. Serves ended before now n told (run rs bytes))) →
     IfSome left (λ bytes. OfReadings readings (λ rs. Writes ended before now (run rs bytes)))
-served_writes ended None before now readings n run h = tt
-served_writes ended (Some bytes) before now readings n run h =
-    map_readings readings (λ rs. Serves ended before now n (run rs bytes)) (λ rs. Writes ended before now (run rs bytes))
-    (λ rs. serves_writes ended before now n (run rs bytes)) h
+served_writes ended None before now readings told n run h = tt
+served_writes ended (Some bytes) before now readings told n run h =
+    map_readings readings (λ rs. Serves ended before now n told (run rs bytes)) (λ rs. Writes ended before now (run rs bytes))
+    (λ rs. serves_writes ended before now n told (run rs bytes)) h
 
 -- a node was started and attached, and then served
-pub attached_writes : (ended : Result Unit NodeFault) (l k w v now : Option (List ℕ)) (readings : Option (List Stamp)) (id : NodeId) (old new : Node) →
-    k ≡ l → v ≡ w → old ≡ started id → IfSome k (λ bytes. OfReadings readings (λ rs. Serves ended v now new (node_run old rs bytes))) →
+pub attached_writes : (ended : Result Unit NodeFault) (l k w v now : Option (List ℕ)) (readings told : Option (List Stamp)) (id : NodeId) (old new : Node) →
+    k ≡ l → v ≡ w → old ≡ started id → IfSome k (λ bytes. OfReadings readings (λ rs. Serves ended v now new told (node_run old rs bytes))) →
     IfSome l (λ bytes. OfReadings readings (λ rs. Writes ended w now (started_run id rs bytes)))
-attached_writes ended l k w v now readings id old new left written begun h =
-    let a : IfSome l (λ bytes. OfReadings readings (λ rs. Serves ended v now new (node_run old rs bytes))) =
-    subst (λ x. IfSome x (λ bytes. OfReadings readings (λ rs. Serves ended v now new (node_run old rs bytes)))) left h in
-    let b : IfSome l (λ bytes. OfReadings readings (λ rs. Serves ended w now new (node_run old rs bytes))) =
-    subst (λ x. IfSome l (λ bytes. OfReadings readings (λ rs. Serves ended x now new (node_run old rs bytes)))) written a in
-    let d : IfSome l (λ bytes. OfReadings readings (λ rs. Serves ended w now new (node_run (started id) rs bytes))) =
-    subst (λ x. IfSome l (λ bytes. OfReadings readings (λ rs. Serves ended w now new (node_run x rs bytes)))) begun b in
-    served_writes ended l w now readings new (λ rs bytes. started_run id rs bytes) d
+attached_writes ended l k w v now readings told id old new left written begun h =
+    let a : IfSome l (λ bytes. OfReadings readings (λ rs. Serves ended v now new told (node_run old rs bytes))) =
+    subst (λ x. IfSome x (λ bytes. OfReadings readings (λ rs. Serves ended v now new told (node_run old rs bytes)))) left h in
+    let b : IfSome l (λ bytes. OfReadings readings (λ rs. Serves ended w now new told (node_run old rs bytes))) =
+    subst (λ x. IfSome l (λ bytes. OfReadings readings (λ rs. Serves ended x now new told (node_run old rs bytes)))) written a in
+    let d : IfSome l (λ bytes. OfReadings readings (λ rs. Serves ended w now new told (node_run (started id) rs bytes))) =
+    subst (λ x. IfSome l (λ bytes. OfReadings readings (λ rs. Serves ended w now new told (node_run x rs bytes)))) begun b in
+    served_writes ended l w now readings told new (λ rs bytes. started_run id rs bytes) d
 
 -- nothing was served
 pub nothing_read : (left before : Option (List ℕ)) (readings : Option (List Stamp)) (run : List Stamp → List ℕ → Run) →
@@ -131,7 +131,7 @@ sure_status (Err (faults.Cut at)) status before now a b not (inr t) = absurd (no
 sure_status (Err faults.TooManyFrames) status before now a b not (inr t) = absurd (not refl)
 
 module _ (id : NodeId) (status : ℕ) (before now : Option (List ℕ)) (x y : ℕ) (told_before told_now : Option (List ℕ)) (a b : ℕ) (ms : List Message) (rs : List Stamp)
-    (goes : started_run id rs (flat_map message_frame ms) ≡ record { node = (handle_all ms (started id) rs).node; out = (handle_all ms (started id) rs).out; stop = Ok tt })
+    (goes : started_run id rs (flat_map message_frame ms) ≡ record { node = (handle_all ms (started id) rs).node; out = (handle_all ms (started id) rs).out; readings = after_all ms rs; stop = Ok tt })
     (still : ¬ (Rose x y)) where
   no_stop : (ended : Result Unit NodeFault) → (Ok tt ≡ ended → ⊥) → (started_run id rs (flat_map message_frame ms)).stop ≡ ended → ⊥
   no_stop ended not e = not (sym (ap (λ (r : Run). r.stop) goes) ∙ e)

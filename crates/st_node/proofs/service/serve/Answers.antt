@@ -96,4 +96,4 @@ returns-in-Err-clause-breaks g c =
 pub returns-then-n-eq0-clause-breaks : goal.returns-then-n-eq0-clause-breaks
 returns-then-n-eq0-clause-breaks g c =
     end_breaks c.finish.result (g.L.Source.left c.args.link.now) (g.L.Source.left c.receive.new.self) (g.L.Sink.written c.args.link.now) (g.L.Sink.written c.receive.new.self)
-    (g.C.Clock.readings c.args.clock.now) c.args.node.now c.pieces.node c.pieces.reader.offset c.pieces.reader.rest c.finish.ensures
+    (g.C.Clock.readings c.args.clock.now) (g.C.Clock.readings c.pieces.clock) c.args.node.now c.pieces.node c.pieces.reader.offset c.pieces.reader.rest c.finish.ensures

@@ -7,7 +7,7 @@ use Rattle.st_tank.proofs.node_service.attach_and_serve.Goals as goal
 pub returns-in-Ok-clause-run : goal.returns-in-Ok-clause-run
 returns-in-Ok-clause-run g c =
     attached_writes c.serve.result (g.L.Source.left c.args.link.now) (g.L.Source.left c.attach.new.self) (g.L.Sink.written c.args.link.now)
-    (g.L.Sink.written c.attach.new.self) (g.L.Sink.written c.serve.new.link) (g.C.Clock.readings c.args.clock.now) c.args.id c.args.node.now c.serve.new.node
+    (g.L.Sink.written c.attach.new.self) (g.L.Sink.written c.serve.new.link) (g.C.Clock.readings c.args.clock.now) (g.C.Clock.readings c.serve.new.clock) c.args.id c.args.node.now c.serve.new.node
     c.attach.ensures.left c.attach.ensures.written c.requires.started c.serve.ensures.run
 
 pub returns-in-Ok-clause-causes : goal.returns-in-Ok-clause-causes
