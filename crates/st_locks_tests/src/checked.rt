@@ -74,17 +74,24 @@ pub fn old_row(epoch: Epoch, row: Row) -> Option<(u32, GrantNo, Mode)>
     }
 }
 
-/// Installs one row.
-pub fn install_one(
+/// Installs three rows, if they are of locks on rising files and an earlier epoch gave their grant numbers.
+#[tactic(auto, using(crate::proofs::Files::three_files))]
+pub fn install_three(
     locks: &mut LockTable,
     client: ClientId,
     life: Life,
-    row: (u32, GrantNo, Mode),
-) -> Result<(), LockRefusal>
+    rows: [Row; 3],
+) -> Option<Result<(), LockRefusal>>
     requires client { IsClient client }
     requires none { locks_of.has_rows locks.old client ≡ false }
-    requires lock { is_lock_row row ≡ true }
-    requires earlier { is_old_row locks.old.epoch row ≡ true }
 {
-    locks.install(client, life, &[row])
+    let epoch = locks.epoch();
+    let a = old_row(epoch, rows[0])?;
+    let b = old_row(epoch, rows[1])?;
+    let c = old_row(epoch, rows[2])?;
+    if a.0 < b.0 && b.0 < c.0 {
+        Some(locks.install(client, life, &[a, b, c]))
+    } else {
+        None
+    }
 }

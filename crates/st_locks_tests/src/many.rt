@@ -1,7 +1,7 @@
-use crate::checked::{CONFIG, client, install_one, lock, old_row};
+use crate::checked::{CONFIG, Row, client, install_three, lock};
 use crate::draws::Draws;
 use crate::plain::{Answer, Plain, mode};
-use st_base::{ClientId, Epoch, GrantNo, Life, Mode, ServerId, Stamp};
+use st_base::{ClientId, Epoch, GrantNo, Life, ServerId, Stamp};
 use st_locks::{LockRefusal, LockTable, Verdict};
 use std::alloc::{AllocError, Global};
 use std::test::Fail;
@@ -50,12 +50,30 @@ fn acquire(
     Ok(is_answer(&given, wanted, others.as_slice()))
 }
 
-/// Releases the lock under its grant number, or under the one below.
-fn release(locks: &mut LockTable, plain: &mut Plain, draws: &mut Draws, ask: Ask) -> bool {
-    let g = match plain.row(ask.client, ask.ino) {
+/// One of the last rows, or what was asked.
+fn drawn_target(plain: &Plain, draws: &mut Draws, ask: Ask) -> Ask {
+    let place = plain.rows.len().wrapping_sub(draws.draw(80) as usize);
+    match plain.rows.get(place) {
+        Some(row) => Ask {
+            client: row.client,
+            life: row.life,
+            ino: row.ino,
+            ..ask
+        },
+        None => ask,
+    }
+}
+
+/// The grant number of the client's row of the file, or seldom the one below.
+fn drawn_grant(plain: &Plain, draws: &mut Draws, ask: Ask) -> u64 {
+    match plain.row(ask.client, ask.ino) {
         Some(row) => row.g.wrapping_sub(draws.draw(8).max(6) - 6),
         None => 9,
-    };
+    }
+}
+
+fn release(locks: &mut LockTable, plain: &mut Plain, draws: &mut Draws, ask: Ask) -> bool {
+    let g = drawn_grant(plain, draws, ask);
     let to = draws.draw(2) as u8;
     let given = locks.released(
         ClientId(ask.client),
@@ -67,25 +85,51 @@ fn release(locks: &mut LockTable, plain: &mut Plain, draws: &mut Draws, ask: Ask
     given == plain.release(ask.client, ask.life, ask.ino, g, to)
 }
 
-/// Installs one row, where the client has none.
-fn install(locks: &mut LockTable, plain: &mut Plain, ask: Ask) -> Result<bool, AllocError> {
+/// All locks of the client go. Client 1 keeps its locks, so that it comes to have too many.
+fn forget(locks: &mut LockTable, plain: &mut Plain, ask: Ask) {
+    if ask.client != 1 {
+        locks.forget(ClientId(ask.client));
+        plain.forget(ask.client);
+    }
+}
+
+/// A row of the client's, in a drawn mode.
+fn drawn_row(draws: &mut Draws, ino: u32, ask: Ask) -> Row {
+    (ino, ask.now, 1 + draws.draw(2) as u8)
+}
+
+/// Three rows, of rising files that are near each other.
+fn drawn_rows(draws: &mut Draws, ask: Ask) -> [Row; 3] {
+    let first = 1 + draws.draw(100) as u32;
+    let second = first + 1 + draws.draw(3) as u32;
+    let third = second + 1 + draws.draw(3) as u32;
+    let a = drawn_row(draws, first, ask);
+    let b = drawn_row(draws, second, ask);
+    let c = drawn_row(draws, third, ask);
+    [a, b, c]
+}
+
+/// Three rows take the place of the client's locks, or all of its locks are gone.
+fn install(
+    locks: &mut LockTable,
+    plain: &mut Plain,
+    draws: &mut Draws,
+    ask: Ask,
+) -> Result<bool, AllocError> {
     let Some(id) = client(ask.client) else {
         return Ok(false);
     };
+    forget(locks, plain, ask);
     if locks.has_rows(id) {
         return Ok(true);
     }
-    let g = ask.now;
-    let Some(row) = old_row(locks.epoch(), (ask.ino, g, ask.mode)) else {
+    let rows = drawn_rows(draws, ask);
+    let Some(given) = install_three(locks, id, Life(ask.life), rows) else {
         return Ok(false);
     };
-    let given = install_one(locks, id, Life(ask.life), row);
-    match plain.holder(ask.client, ask.ino, ask.mode) {
-        Some(holder) => Ok(given == Err(LockRefusal::Conflict(ask.ino, ClientId(holder)))),
-        None => {
-            plain.install(ask.client, ask.life, ask.ino, g, ask.mode)?;
-            Ok(given == Ok(()))
-        }
+    match plain.install(ask.client, ask.life, &rows)? {
+        Some((ino, holder)) => Ok(given == Err(LockRefusal::Conflict(ino, ClientId(holder)))),
+        None => Ok(given == Ok(())),
     }
 }
 
@@ -105,39 +149,69 @@ fn demands(
     ask: Ask,
     tick: bool,
 ) -> Result<bool, AllocError> {
-    let suspects = [ClientId(ask.client)];
-    let given = locks.demands_due(Stamp(ask.now), tick, &suspects, &CONFIG)?;
-    let wanted = plain.demands(alloc, ask.now, tick, &suspects)?;
+    let given = locks.demands_due(Stamp(ask.now), tick, plain.suspects.as_slice(), &CONFIG)?;
+    let wanted = plain.demands(alloc, ask.now, tick)?;
     Ok(given.as_slice() == wanted.as_slice())
 }
 
-fn answered(locks: &mut LockTable, plain: &mut Plain, ask: Ask) -> bool {
-    let g = match plain.row(ask.client, ask.ino) {
-        Some(row) => row.g,
-        None => 9,
-    };
+fn answered(locks: &mut LockTable, plain: &mut Plain, draws: &mut Draws, ask: Ask) -> bool {
+    let g = drawn_grant(plain, draws, ask);
     locks.answered(ClientId(ask.client), ask.ino, GrantNo(g));
     plain.answered(ask.client, ask.ino, g);
     true
 }
 
-/// What takes locks and waits away, which is drawn seldom. Client 1 keeps its locks, so that it comes to have too many.
-fn drop_some(locks: &mut LockTable, plain: &mut Plain, ask: Ask, which: u64) -> bool {
-    match which {
-        0 if ask.client != 1 => {
-            locks.forget(ClientId(ask.client));
-            plain.forget(ask.client);
-        }
-        1 => {
-            locks.drop_waits(ClientId(ask.client));
-            plain.drop_waits(ask.client);
-        }
-        _ => {
-            locks.drop_file_waits(ask.ino);
-            plain.drop_file_waits(ask.ino);
+/// Asks for 70 files in a row, of which nothing is granted: more than the passes keep one by one.
+fn crowd(
+    alloc: Global,
+    locks: &mut LockTable,
+    plain: &mut Plain,
+    ask: Ask,
+) -> Result<bool, AllocError> {
+    for place in 0..70 {
+        let ino = ask.ino.wrapping_add(place);
+        if !acquire(alloc, locks, plain, Ask { ino, ..ask }, false)? {
+            return Ok(false);
         }
     }
+    Ok(true)
+}
+
+/// The client is a suspect from now on, or nobody is.
+fn suspect(plain: &mut Plain, draws: &mut Draws, ask: Ask) -> Result<bool, AllocError> {
+    if draws.draw(3) == 0 {
+        plain.suspects.clear();
+    } else {
+        plain.suspects.push(ClientId(ask.client))?;
+    }
+    Ok(true)
+}
+
+/// What takes waits away.
+fn drop_waits(locks: &mut LockTable, plain: &mut Plain, draws: &mut Draws, ask: Ask) -> bool {
+    if draws.draw(2) == 0 {
+        locks.drop_waits(ClientId(ask.client));
+        plain.drop_waits(ask.client);
+    } else {
+        locks.drop_file_waits(ask.ino);
+        plain.drop_file_waits(ask.ino);
+    }
     true
+}
+
+/// A call that is drawn seldom.
+fn rare(
+    alloc: Global,
+    locks: &mut LockTable,
+    plain: &mut Plain,
+    draws: &mut Draws,
+    ask: Ask,
+) -> Result<bool, AllocError> {
+    match draws.draw(8) {
+        0 => crowd(alloc, locks, plain, ask),
+        1 | 2 | 3 => suspect(plain, draws, ask),
+        _ => Ok(drop_waits(locks, plain, draws, ask)),
+    }
 }
 
 /// One call on both; whether the answers are the same.
@@ -151,13 +225,20 @@ fn same(
     match draws.draw(14) {
         0 | 1 | 2 | 3 => acquire(alloc, locks, plain, ask, true),
         4 => acquire(alloc, locks, plain, ask, false),
-        5 | 6 | 7 => Ok(release(locks, plain, draws, ask)),
-        8 => install(locks, plain, ask),
+        5 => Ok(release(locks, plain, draws, ask)),
+        6 | 7 => {
+            let target = drawn_target(plain, draws, ask);
+            Ok(release(locks, plain, draws, target))
+        }
+        8 => install(locks, plain, draws, ask),
         9 => grants(alloc, locks, plain),
         10 => demands(alloc, locks, plain, ask, false),
         11 => demands(alloc, locks, plain, ask, true),
-        12 => Ok(answered(locks, plain, ask)),
-        _ => Ok(drop_some(locks, plain, ask, draws.draw(3))),
+        12 => {
+            let target = drawn_target(plain, draws, ask);
+            Ok(answered(locks, plain, draws, target))
+        }
+        _ => rare(alloc, locks, plain, draws, ask),
     }
 }
 
@@ -190,6 +271,7 @@ fn agree(alloc: Global, locks: &LockTable, plain: &Plain, ask: Ask) -> Result<bo
     Ok(
         locks.row(id, ask.ino) == row
             && locks.has_rows(id) == plain.has_rows(ask.client)
+            && locks.has_rows_from(id, Life(ask.life)) == plain.has_rows_from(ask.client, ask.life)
             && holders.as_slice() == plain.holders(alloc, ask.ino)?.as_slice()
             && of.as_slice() == plain.of(alloc, ask.client)?.as_slice()
             && late.as_slice() == plain.unanswered(alloc, ask.now)?.as_slice()
@@ -197,7 +279,7 @@ fn agree(alloc: Global, locks: &LockTable, plain: &Plain, ask: Ask) -> Result<bo
     )
 }
 
-/// A file for which many clients ask, or one of many files, for which client 1 alone asks.
+/// A file for which many clients ask, or one of many files, for most of which client 1 alone asks.
 fn drawn_ino(draws: &mut Draws, client: u16) -> u32 {
     if client == 1 && draws.draw(4) != 0 {
         return 17 + draws.draw(4_000) as u32;

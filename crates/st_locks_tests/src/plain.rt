@@ -1,3 +1,4 @@
+use crate::checked;
 use st_base::{ClientId, GrantNo, Life, Mode};
 use std::alloc::{AllocError, Global};
 
@@ -46,6 +47,8 @@ pub struct Plain {
     pub rows: Vec<Row>,
     waits: Vec<Wait>,
     last: u64,
+    /// The clients of which nothing is demanded.
+    pub suspects: Vec<ClientId>,
     /// How many requests were refused.
     pub refused: u64,
 }
@@ -67,6 +70,17 @@ fn sent(client: u16, life: u64, ino: u32, g: u64, to: u8) -> Sent {
     (ClientId(client), Life(life), ino, GrantNo(g), mode(to))
 }
 
+fn installed(client: u16, life: u64, row: checked::Row) -> Row {
+    Row {
+        client,
+        ino: row.0,
+        life,
+        g: row.1,
+        mode: row.2,
+        asked: None,
+    }
+}
+
 impl Row {
     /// Since when the demand on this row waits for an answer, if it does.
     pub fn since(&self) -> Option<u64> {
@@ -80,6 +94,7 @@ impl Plain {
             rows: Vec::new(alloc),
             waits: Vec::new(alloc),
             last: 12_884_901_888,
+            suspects: Vec::new(alloc),
             refused: 0,
         }
     }
@@ -251,7 +266,7 @@ impl Plain {
     }
 
     /// The least other client that conflicts on the file.
-    pub fn holder(&self, client: u16, ino: u32, mode: u8) -> Option<u16> {
+    fn holder(&self, client: u16, ino: u32, mode: u8) -> Option<u16> {
         self.rows
             .iter()
             .copied()
@@ -260,24 +275,30 @@ impl Plain {
             .min()
     }
 
-    /// Puts the row of a client that has none on the file.
+    /// The file of the first of these rows that conflicts with another client's, and that client.
+    fn conflict(&self, client: u16, rows: &[checked::Row]) -> Option<(u32, u16)> {
+        for row in rows {
+            if let Some(holder) = self.holder(client, row.0, row.2) {
+                return Some((row.0, holder));
+            }
+        }
+        None
+    }
+
+    /// Puts the rows of a client that has none, or tells which one conflicts, and with whom.
     pub fn install(
         &mut self,
         client: u16,
         life: u64,
-        ino: u32,
-        g: u64,
-        mode: u8,
-    ) -> Result<(), AllocError> {
-        self.rows.push(Row {
-            client,
-            ino,
-            life,
-            g,
-            mode,
-            asked: None,
-        })?;
-        Ok(())
+        rows: &[checked::Row],
+    ) -> Result<Option<(u32, u16)>, AllocError> {
+        if let Some(conflict) = self.conflict(client, rows) {
+            return Ok(Some(conflict));
+        }
+        for row in rows {
+            self.rows.push(installed(client, life, *row))?;
+        }
+        Ok(None)
     }
 
     fn next(&self, ino: u32) -> Option<Wait> {
@@ -355,12 +376,15 @@ impl Plain {
         Ok(found)
     }
 
+    fn is_suspect(&self, client: u16) -> bool {
+        self.suspects.iter().any(|suspect| suspect.0 == client)
+    }
+
     fn demand_on(
         &mut self,
         alloc: Global,
         now: u64,
         tick: bool,
-        suspects: &[ClientId],
         ino: u32,
         told: &mut Vec<Sent>,
     ) -> Result<(), AllocError> {
@@ -369,8 +393,7 @@ impl Plain {
         };
         let to = if wait.mode == 2 { 0 } else { 1 };
         for row in self.rows_of(alloc, ino)?.iter().copied() {
-            let suspect = suspects.iter().any(|other| other.0 == row.client);
-            if !suspect && stands(row, wait.client, ino, wait.mode) {
+            if !self.is_suspect(row.client) && stands(row, wait.client, ino, wait.mode) {
                 self.demand_of(now, tick, row, to, told)?;
             }
         }
@@ -383,11 +406,10 @@ impl Plain {
         alloc: Global,
         now: u64,
         tick: bool,
-        suspects: &[ClientId],
     ) -> Result<Vec<Sent>, AllocError> {
         let mut told = Vec::new(alloc);
         for ino in self.waited(alloc)?.iter().copied() {
-            self.demand_on(alloc, now, tick, suspects, ino, &mut told)?;
+            self.demand_on(alloc, now, tick, ino, &mut told)?;
         }
         Ok(told)
     }
@@ -441,6 +463,12 @@ impl Plain {
 
     pub fn has_rows(&self, client: u16) -> bool {
         self.rows.iter().any(|row| row.client == client)
+    }
+
+    pub fn has_rows_from(&self, client: u16, life: u64) -> bool {
+        self.rows
+            .iter()
+            .any(|row| row.client == client && row.life >= life)
     }
 }
 
