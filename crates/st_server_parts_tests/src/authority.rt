@@ -89,8 +89,9 @@ fn suspects_are_plain_rows(rt: HostRuntime) -> Result<(), Fail> {
     let mut authority = Authority::new(rt.alloc(), &config);
     let mut rows = Vec::new(rt.alloc());
     let mut draws = Draws::new(1);
-    for step in 0..10_000 {
-        let now = 9 * step;
+    let mut now = 0u64;
+    for _step in 0..10_000 {
+        now = now.wrapping_add(4 * draws.draw(5));
         let agreed = same(rt.alloc(), &mut authority, &mut rows, &mut draws, now)?;
         assert!(rt; agreed);
         let client = 1 + draws.draw(16) as u16;

@@ -4,7 +4,7 @@ use st_extents::{ExtentRefusal, Extents, Run, RunKey};
 use std::alloc::{AllocError, Global};
 use std::test::Fail;
 
-/// A mapped page. Its block is six times its disk, and its number.
+/// A mapped page. Its block is counted over the disks of the server.
 #[derive(Clone, Copy)]
 struct Row {
     ino: u32,
@@ -13,7 +13,7 @@ struct Row {
     birth: u64,
 }
 
-/// The extents of a server with two disks of six blocks, as plain rows.
+/// The extents of a server with three disks of sixteen blocks, which are disks 2, 5 and 8, as plain rows.
 #[derive(Drop)]
 struct Plain {
     rows: Vec<Row>,
@@ -22,7 +22,7 @@ struct Plain {
 
 fn file(ino: u32) -> FileId {
     FileId {
-        server: ServerId(1),
+        server: ServerId(2),
         ino,
     }
 }
@@ -38,7 +38,7 @@ fn mapped(rows: &[Row], ino: u32, page: u32) -> Option<(u32, u64)> {
 /// The blocks on which no page lies, in order.
 fn free_blocks(alloc: Global, rows: &[Row]) -> Result<Vec<u32>, AllocError> {
     let mut blocks = Vec::new(alloc);
-    for block in 6..18 {
+    for block in 0..48 {
         if !rows.iter().any(|row| row.block == block) {
             blocks.push(block)?;
         }
@@ -101,7 +101,9 @@ impl Plain {
 }
 
 fn number(at: BlockAt) -> u32 {
-    u32::from(at.disk.0).wrapping_mul(6).wrapping_add(at.block)
+    (u32::from(at.disk.0) / 3)
+        .wrapping_mul(16)
+        .wrapping_add(at.block)
 }
 
 /// Whether a row goes on where the one before it ends: the next page, block and birth, on the same disk.
@@ -111,7 +113,7 @@ fn follows(before: Option<Row>, row: Row) -> bool {
             last.ino == row.ino
                 && last.page.wrapping_add(1) == row.page
                 && last.block.wrapping_add(1) == row.block
-                && row.block % 6 != 0
+                && row.block % 16 != 0
                 && last.birth.wrapping_add(1) == row.birth
         }
         None => false,
@@ -122,8 +124,8 @@ fn follows(before: Option<Row>, row: Row) -> bool {
 fn run_of(row: Row) -> (RunKey, Run) {
     let key = (file(row.ino), PageNo(row.page));
     let at = BlockAt {
-        disk: DiskId((row.block / 6 % 8) as u16),
-        block: row.block % 6,
+        disk: DiskId((2 + row.block / 16 % 3 * 3) as u16),
+        block: row.block % 16,
     };
     let run = Run {
         length: 1,
@@ -174,7 +176,7 @@ fn is_free(extents: &Extents, block: u32) -> bool {
 /// Whether the blocks on none of the runs are these, and are counted.
 fn same_free(extents: &Extents, blocks: &[u32]) -> bool {
     let mut count = 0usize;
-    for block in 6..18u32 {
+    for block in 0..48u32 {
         if is_free(extents, block) {
             if blocks.get(count).copied() != Some(block) {
                 return false;
@@ -192,14 +194,14 @@ fn same(
     plain: &mut Plain,
     draws: &mut Draws,
 ) -> Result<bool, AllocError> {
-    let ino = 2 + draws.draw(3) as u32;
-    let page = draws.draw(8) as u32;
+    let ino = 2 + draws.draw(6) as u32;
+    let page = draws.draw(12) as u32;
     if draws.draw(3) == 0 {
         extents.release_from(file(ino), PageNo(page));
         plain.rows.retain(|row| row.ino != ino || row.page < page);
         return Ok(true);
     }
-    let count = draws.draw(5) as u32;
+    let count = draws.draw(6) as u32;
     if extents.next_birth() > 1_000_000 {
         return Ok(false);
     }
@@ -234,7 +236,7 @@ fn agree(
 
 #[test]
 fn extents_are_plain_rows(rt: HostRuntime) -> Result<(), Fail> {
-    let mut extents = Extents::new(rt.alloc(), ServerId(1), 1, 2, 6)?;
+    let mut extents = Extents::new(rt.alloc(), ServerId(2), 3, 8, 16)?;
     let mut plain = Plain {
         rows: Vec::new(rt.alloc()),
         births: 0,
@@ -243,8 +245,8 @@ fn extents_are_plain_rows(rt: HostRuntime) -> Result<(), Fail> {
     for _step in 0..10_000 {
         let agreed = same(rt.alloc(), &mut extents, &mut plain, &mut draws)?;
         assert!(rt; agreed);
-        let ino = 2 + draws.draw(3) as u32;
-        let page = draws.draw(8) as u32;
+        let ino = 2 + draws.draw(6) as u32;
+        let page = draws.draw(18) as u32;
         let told = agree(rt.alloc(), &extents, &plain, ino, page)?;
         assert!(rt; told);
     }
