@@ -4,7 +4,7 @@ ghost use Rattle.st_rules.specs.Report as text;
 
 use crate::names::put_name_rows;
 use crate::runs::put_page;
-use crate::words::{put_field, put_number, put_text};
+use crate::words::{put_behind, put_field, put_text};
 use st_base::LostRow;
 use st_messages::AppAnswer;
 use std::alloc::AllocError;
@@ -13,8 +13,7 @@ fn put_lost_row(out: &mut Vec<u8>, row: LostRow) -> Result<(), AllocError>
     ensures { OnOk result (out.new.items ≡ out.old.items ++ text.lost_row row) }
 {
     put_field(out, u64::from(row.page.0))?;
-    out.push(b':')?;
-    put_number(out, row.command)
+    put_behind(out, b':', row.command)
 }
 
 fn put_each_lost_row(out: &mut Vec<u8>, rows: &[LostRow]) -> Result<(), AllocError>

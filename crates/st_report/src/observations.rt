@@ -24,7 +24,8 @@ fn put_numbered(out: &mut Vec<u8>, word: &[u8], n: u64) -> Result<(), AllocError
 fn put_sent(out: &mut Vec<u8>, k: u64, message: &Message) -> Result<(), AllocError>
     ensures { OnOk result (out.new.items ≡ out.old.items ++ text.observation (seen.Sent k message.now)) }
 {
-    put_numbered(out, b" send", k)?;
+    put_text(out, b" send")?;
+    put_field(out, k)?;
     put_message(out, message)
 }
 

@@ -2,7 +2,7 @@ ghost use Rattle.std.specs.Prelude.{◌≡◌, ◌++◌, OnOk};
 ghost use Rattle.st_base.specs.Page.{filled};
 ghost use Rattle.st_rules.specs.Report as text;
 
-use crate::words::{put_number, put_text};
+use crate::words::{put_behind, put_number, put_text};
 use st_base::PageBytes;
 use std::alloc::AllocError;
 
@@ -10,8 +10,7 @@ fn put_run(out: &mut Vec<u8>, count: u64, byte: u8) -> Result<(), AllocError>
     ensures { OnOk result (out.new.items ≡ out.old.items ++ text.one_run count byte) }
 {
     put_number(out, count)?;
-    out.push(b'x')?;
-    put_number(out, u64::from(byte))
+    put_behind(out, b'x', u64::from(byte))
 }
 
 /// Appends the runs of these bytes, before which `first` stands.

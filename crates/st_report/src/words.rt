@@ -1,4 +1,4 @@
-ghost use Rattle.std.specs.Prelude.{◌≡◌, ◌++◌, OnOk};
+ghost use Rattle.std.specs.Prelude.{◌≡◌, ◌+◌, ◌%◌, ◌<◌, ◌∷◌, ◌++◌, IsTrue, OnOk};
 ghost use Rattle.std.specs.Fmt.{decimal};
 ghost use Rattle.st_rules.specs.Report as text;
 ghost use Rattle.st_rules.specs.World.{node_at};
@@ -14,24 +14,112 @@ pub fn put_text(out: &mut Vec<u8>, bytes: &[u8]) -> Result<(), AllocError>
     out.extend_from_slice(bytes)
 }
 
-/// Appends a number in decimal. Most numbers of a report have one digit.
-pub fn put_number(out: &mut Vec<u8>, n: u64) -> Result<(), AllocError>
+/// The bytes that a number of at most five digits takes at most, with a byte before it.
+const ROOM: usize = 6;
+
+/// Whether a number has at most five digits, and there is room for it and a byte before it.
+fn is_short(out: &Vec<u8>, n: u64) -> bool
+    ensures { IsTrue result → n < 100000 }
+{
+    n < 100_000 && ROOM <= out.capacity() - out.len()
+}
+
+/// The last digit of a number.
+fn digit(n: u64) -> u8
+    ensures { result ≡ 48 + n % 10 }
+{
+    b'0' + (n % 10) as u8
+}
+
+/// Appends a number of at most five digits. Most numbers of a report have one.
+#[tactic(auto, using(std::proofs::lemmas::Fmt::decimal_digit, crate::proofs::Digits::two, crate::proofs::Digits::three, crate::proofs::Digits::four, crate::proofs::Digits::five))]
+fn put_short(out: &mut Vec<u8>, n: u64) -> Result<(), AllocError>
+    requires { n < 100000 }
     ensures { OnOk result (out.new.items ≡ out.old.items ++ decimal n) }
 {
     if n < 10 {
-        out.push(b'0' + n as u8)?;
-        return Ok(());
+        return out.extend_from_slice(&[b'0' + n as u8]);
     }
+    let (d, c, b, a) = (digit(n), digit(n / 10), digit(n / 100), digit(n / 1000));
+    if n < 100 {
+        out.extend_from_slice(&[c, d])
+    } else if n < 1000 {
+        out.extend_from_slice(&[b, c, d])
+    } else if n < 10_000 {
+        out.extend_from_slice(&[a, b, c, d])
+    } else {
+        out.extend_from_slice(&[digit(n / 10_000), a, b, c, d])
+    }
+}
+
+/// Appends a number of any length.
+#[cold]
+#[inline(never)]
+fn put_long(out: &mut Vec<u8>, n: u64) -> Result<(), AllocError>
+    ensures { OnOk result (out.new.items ≡ out.old.items ++ decimal n) }
+{
     let mut buffer = Buffer::new();
     out.extend_from_slice(buffer.format(n).as_bytes())
+}
+
+/// Appends a number in decimal.
+pub fn put_number(out: &mut Vec<u8>, n: u64) -> Result<(), AllocError>
+    ensures { OnOk result (out.new.items ≡ out.old.items ++ decimal n) }
+{
+    if is_short(out, n) {
+        put_short(out, n)
+    } else {
+        put_long(out, n)
+    }
+}
+
+/// Appends a byte and a number of at most five digits.
+#[tactic(auto, using(std::proofs::lemmas::Fmt::decimal_digit, crate::proofs::Digits::two, crate::proofs::Digits::three, crate::proofs::Digits::four, crate::proofs::Digits::five))]
+fn put_short_behind(out: &mut Vec<u8>, front: u8, n: u64) -> Result<(), AllocError>
+    requires { n < 100000 }
+    ensures { OnOk result (out.new.items ≡ out.old.items ++ front ∷ decimal n) }
+{
+    if n < 10 {
+        return out.extend_from_slice(&[front, b'0' + n as u8]);
+    }
+    let (d, c, b, a) = (digit(n), digit(n / 10), digit(n / 100), digit(n / 1000));
+    if n < 100 {
+        out.extend_from_slice(&[front, c, d])
+    } else if n < 1000 {
+        out.extend_from_slice(&[front, b, c, d])
+    } else if n < 10_000 {
+        out.extend_from_slice(&[front, a, b, c, d])
+    } else {
+        out.extend_from_slice(&[front, digit(n / 10_000), a, b, c, d])
+    }
+}
+
+/// Appends a byte and a number of any length.
+#[cold]
+#[inline(never)]
+fn put_long_behind(out: &mut Vec<u8>, front: u8, n: u64) -> Result<(), AllocError>
+    ensures { OnOk result (out.new.items ≡ out.old.items ++ front ∷ decimal n) }
+{
+    out.push(front)?;
+    put_long(out, n)
+}
+
+/// Appends a byte and a number in decimal.
+pub(crate) fn put_behind(out: &mut Vec<u8>, front: u8, n: u64) -> Result<(), AllocError>
+    ensures { OnOk result (out.new.items ≡ out.old.items ++ front ∷ decimal n) }
+{
+    if is_short(out, n) {
+        put_short_behind(out, front, n)
+    } else {
+        put_long_behind(out, front, n)
+    }
 }
 
 /// Appends a space and a number.
 pub fn put_field(out: &mut Vec<u8>, n: u64) -> Result<(), AllocError>
     ensures { OnOk result (out.new.items ≡ out.old.items ++ text.field n) }
 {
-    out.push(b' ')?;
-    put_number(out, n)
+    put_behind(out, b' ', n)
 }
 
 /// Appends a space and a number of up to 128 bits.
@@ -89,6 +177,5 @@ pub(crate) fn put_file(out: &mut Vec<u8>, file: FileId) -> Result<(), AllocError
     ensures { OnOk result (out.new.items ≡ out.old.items ++ text.file file) }
 {
     put_field(out, u64::from(file.server.0))?;
-    out.push(b':')?;
-    put_number(out, u64::from(file.ino))
+    put_behind(out, b':', u64::from(file.ino))
 }
