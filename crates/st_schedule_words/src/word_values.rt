@@ -42,7 +42,7 @@ pub fn split_word(bytes: &[u8]) -> (&[u8], &[u8])
 pub fn is(word: &[u8], text: &[u8]) -> bool
     ensures { result ≡ bytes_eq word.now text.now }
 {
-    word == text
+    word.len() == text.len() && word == text
 }
 
 fn is_digit(b: u8) -> bool
