@@ -17,7 +17,7 @@ pub use law::{
     what_spells_an_event_is_read_so, words_spell_one_event,
 };
 pub use next_word::{ends, name_at, number_at, result_at, unknown_word, word_at};
-pub use printer::print;
+pub use printer::{print, put_line};
 pub use reader::{Line, Progress, ScheduleReader};
 pub use st_messages::{Counts, Event, Steps};
 pub use st_schedule_words::{is_long, split_word, take_line};

@@ -1,11 +1,11 @@
 ghost use Rattle.std.specs.Prelude.{◌≡◌, ◌∷◌, ◌++◌, IfOk, OnOk, get_or, length, map};
-ghost use Rattle.std.specs.Fmt.{decimal};
 ghost use Rattle.st_schedule_words.specs.Words.{line_of, spaced};
 ghost use Rattle.st_schedule.specs.Grammar as grammar;
 ghost use Rattle.st_schedule.specs.Reader.{IsReadAs};
 
 use st_base::{ClientId, FileId, NameAsk, NodeId, PageBytes, PageNo, ServerId};
 use st_messages::{Ask, Event};
+use st_report::{put_field, put_number};
 use std::alloc::{AllocError, Global};
 
 /// The bytes that are reserved for a line. Only lines of names and of increments that differ are longer.
@@ -19,39 +19,18 @@ fn put_word(out: &mut Vec<u8>, word: &[u8]) -> Result<(), AllocError>
     out.extend_from_slice(word)
 }
 
-/// Appends a number in decimal.
-fn put_digits(out: &mut Vec<u8>, n: u64) -> Result<(), AllocError>
-    ensures { OnOk result (out.new.items ≡ out.old.items ++ decimal n) }
-{
-    if n < 10 {
-        out.push(b'0' + n as u8)?;
-        return Ok(());
-    }
-    put_digits(out, n / 10)?;
-    out.push(b'0' + (n % 10) as u8)?;
-    Ok(())
-}
-
-/// Appends a space and a number.
-fn put_number(out: &mut Vec<u8>, n: u64) -> Result<(), AllocError>
-    ensures { OnOk result (out.new.items ≡ out.old.items ++ 32 ∷ decimal n) }
-{
-    out.push(b' ')?;
-    put_digits(out, n)
-}
-
 fn put_client(out: &mut Vec<u8>, client: ClientId) -> Result<(), AllocError>
     ensures { OnOk result (out.new.items ≡ out.old.items ++ 32 ∷ grammar.client_text client) }
 {
     put_word(out, b"c")?;
-    put_digits(out, u64::from(client.0))
+    put_number(out, u64::from(client.0))
 }
 
 fn put_server(out: &mut Vec<u8>, server: ServerId) -> Result<(), AllocError>
     ensures { OnOk result (out.new.items ≡ out.old.items ++ 32 ∷ grammar.server_text server) }
 {
     put_word(out, b"s")?;
-    put_digits(out, u64::from(server.0))
+    put_number(out, u64::from(server.0))
 }
 
 fn put_node(out: &mut Vec<u8>, node: NodeId) -> Result<(), AllocError>
@@ -66,16 +45,16 @@ fn put_node(out: &mut Vec<u8>, node: NodeId) -> Result<(), AllocError>
 fn put_file(out: &mut Vec<u8>, server: u16, ino: u32) -> Result<(), AllocError>
     ensures { OnOk result (out.new.items ≡ out.old.items ++ 32 ∷ grammar.file_text server ino) }
 {
-    put_number(out, u64::from(server))?;
+    put_field(out, u64::from(server))?;
     out.push(b':')?;
-    put_digits(out, u64::from(ino))
+    put_number(out, u64::from(ino))
 }
 
 fn put_place(out: &mut Vec<u8>, file: FileId, page: PageNo) -> Result<(), AllocError>
     ensures { OnOk result (out.new.items ≡ out.old.items ++ spaced (grammar.place_words file page)) }
 {
     put_file(out, file.server.0, file.ino)?;
-    put_number(out, u64::from(page.0))
+    put_field(out, u64::from(page.0))
 }
 
 /// The first of these bytes, or 0 where there is none.
@@ -130,7 +109,7 @@ fn put_name(out: &mut Vec<u8>, server: u16, ask: &NameAsk) -> Result<(), AllocEr
         NameAsk::Mkdir { dir, name } => put_entry(out, b"mkdir", server, *dir, name.as_slice()),
         NameAsk::Remove { dir, name, ino } => {
             put_entry(out, b"remove", server, *dir, name.as_slice())?;
-            put_number(out, u64::from(*ino))
+            put_field(out, u64::from(*ino))
         }
         NameAsk::Rename {
             dir,
@@ -139,7 +118,7 @@ fn put_name(out: &mut Vec<u8>, server: u16, ask: &NameAsk) -> Result<(), AllocEr
             name2,
         } => {
             put_entry(out, b"rename", server, *dir, name.as_slice())?;
-            put_number(out, u64::from(*dir2))?;
+            put_field(out, u64::from(*dir2))?;
             put_word(out, name2.as_slice())
         }
         NameAsk::List { dir, after } => {
@@ -158,7 +137,7 @@ fn put_ask(out: &mut Vec<u8>, ask: &Ask) -> Result<(), AllocError>
         Ask::Write(file, page, bytes) => {
             put_word(out, b"write")?;
             put_place(out, *file, *page)?;
-            put_number(out, u64::from(page_byte(bytes)))
+            put_field(out, u64::from(page_byte(bytes)))
         }
         Ask::Read(file, page) => {
             put_word(out, b"read")?;
@@ -176,9 +155,9 @@ fn put_ask(out: &mut Vec<u8>, ask: &Ask) -> Result<(), AllocError>
         Ask::Patch(file, page, at, bytes) => {
             put_word(out, b"patch")?;
             put_place(out, *file, *page)?;
-            put_number(out, u64::from(*at))?;
-            put_number(out, bytes.len() as u64)?;
-            put_number(out, u64::from(byte_of(bytes.as_slice())))
+            put_field(out, u64::from(*at))?;
+            put_field(out, bytes.len() as u64)?;
+            put_field(out, u64::from(byte_of(bytes.as_slice())))
         }
     }
 }
@@ -203,7 +182,7 @@ fn put_all(out: &mut Vec<u8>, steps: &[u64]) -> Result<(), AllocError>
     ensures { OnOk result (out.new.items ≡ out.old.items ++ spaced (grammar.in_full steps.now)) }
 {
     for d in steps {
-        put_number(out, *d)?;
+        put_field(out, *d)?;
     }
     Ok(())
 }
@@ -213,7 +192,7 @@ fn put_steps(out: &mut Vec<u8>, steps: &[u64]) -> Result<(), AllocError>
     ensures { OnOk result (out.new.items ≡ out.old.items ++ spaced (grammar.steps_words steps.now)) }
 {
     if are_equal(steps) {
-        put_number(out, first_step(steps))
+        put_field(out, first_step(steps))
     } else {
         put_all(out, steps)
     }
@@ -265,14 +244,22 @@ fn put_rest(out: &mut Vec<u8>, event: &Event) -> Result<(), AllocError>
             put_client(out, *client)?;
             put_ask(out, ask)
         }
-        Event::Deliver(k) | Event::Lose(k) | Event::Effect(k) => put_number(out, *k),
+        Event::Deliver(k) | Event::Lose(k) | Event::Effect(k) => put_field(out, *k),
         Event::Cut(from, to) | Event::Heal(from, to) => put_link(out, *from, *to),
         Event::Advance(steps) => put_steps(out, steps.as_slice()),
         Event::Report { k, ok } => {
-            put_number(out, *k)?;
+            put_field(out, *k)?;
             put_result(out, *ok)
         }
     }
+}
+
+/// Appends the line that spells this event, as `print` gives it.
+pub fn put_line(out: &mut Vec<u8>, event: &Event) -> Result<(), AllocError>
+    ensures { OnOk result (out.new.items ≡ out.old.items ++ line_of (grammar.words event.now)) }
+{
+    out.extend_from_slice(verb(event))?;
+    put_rest(out, event)
 }
 
 /// The line that spells this event; an advance whose increments are all equal gets the short line. A write or a patch is
@@ -284,7 +271,6 @@ pub fn print(alloc: Global, event: &Event) -> Result<Vec<u8>, AllocError>
     ensures back { IfOk result (λ line. IsReadAs line.items event.now) }
 {
     let mut out = Vec::with_capacity(alloc, USUAL)?;
-    out.extend_from_slice(verb(event))?;
-    put_rest(&mut out, event)?;
+    put_line(&mut out, event)?;
     Ok(out)
 }
