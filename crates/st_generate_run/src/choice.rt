@@ -1,4 +1,4 @@
-ghost use Rattle.std.specs.Prelude.{◌≡◌, ◌<◌, ◌^◌, true, IfOk, is_none, length};
+ghost use Rattle.std.specs.Prelude.{◌≡◌, ◌<◌, ◌^◌, true, IfOk, OnOk, is_none, length};
 ghost use Rattle.st_rules.specs.Generator.{chosen, fallback};
 ghost use Rattle.st_rules.specs.Admissible.{refusal};
 ghost use Rattle.st_rules.specs.Safety.{is_event};
@@ -50,10 +50,30 @@ fn try_one<J: Judge>(
 }
 
 /// The heal of c1's messages to s1.
-fn fallback_event() -> Event
+pub(crate) fn fallback_event() -> Event
     ensures { result ≡ fallback }
 {
     Event::Heal(NodeId::Client(ClientId(1)), NodeId::Server(ServerId(1)))
+}
+
+/// Chooses the next event, as `choose` does, and writes it into `event`.
+pub(crate) fn choose_into<J: Judge>(
+    draws: &mut Draws,
+    event: &mut Event,
+    judge: &J,
+    alloc: Global,
+) -> Result<(), AllocError>
+    requires nodes { length (J.world judge.now).clocks ≡ 5 }
+    requires room { (J.world judge.now).tally.events < 2 ^ 29 }
+    ensures { OnOk result ((event.new, draws.new) ≡ chosen (J.world judge.now) draws.old) }
+{
+    for _i in 0..16_u32 {
+        if try_one(draws, event, judge, alloc)? {
+            return Ok(());
+        }
+    }
+    *event = fallback_event();
+    Ok(())
 }
 
 /// Chooses the next event, in a world of five nodes: the first admissible one of 16 candidates, or else the heal of c1's messages to s1.
@@ -63,10 +83,6 @@ pub fn choose<J: Judge>(draws: &mut Draws, judge: &J, alloc: Global) -> Result<E
     ensures { IfOk result (λ e. (e, draws.new) ≡ chosen (J.world judge.now) draws.old) }
 {
     let mut event = fallback_event();
-    for _i in 0..16_u32 {
-        if try_one(draws, &mut event, judge, alloc)? {
-            return Ok(event);
-        }
-    }
-    Ok(fallback_event())
+    choose_into(draws, &mut event, judge, alloc)?;
+    Ok(event)
 }

@@ -7,11 +7,13 @@ ghost use Rattle.st_rules.specs.Generator.{chosen, generated, generator_world};
 ghost use Rattle.st_generate_run.specs.Pieces.{HasCauses, Writes};
 ghost use Rattle.st_generate_run.specs.Turns.{IsReady, IsTurn, lines};
 
+use crate::Draws;
+use crate::choice::{choose_into, fallback_event};
 use crate::fault::WorkFault;
 use crate::text::{flush, flush_long, put_end, put_event, put_head};
 use crate::turn::{fresh, run_event};
-use crate::{Draws, choose};
 use st_link::Sink;
+use st_rules::Observation;
 use st_world::World;
 use std::alloc::{AllocError, Global};
 
@@ -20,6 +22,7 @@ fn put_next(
     alloc: Global,
     world: &mut World,
     draws: &mut Draws,
+    seen: &mut Vec<Observation>,
     text: &mut Vec<u8>,
 ) -> Result<(), AllocError>
     requires ready { IsReady world.old }
@@ -29,10 +32,10 @@ fn put_next(
     ensures events { OnOk result (world.new.tally.events ≡ world.old.tally.events + 1) }
     ensures text { OnOk result (text.new.items ≡ text.old.items ++ event_line (chosen world.old draws.old).0) }
 {
-    let event = choose(draws, &*world, alloc)?;
-    put_event(alloc, text, &event)?;
-    let mut seen = Vec::new(alloc);
-    run_event(alloc, world, &event, &mut seen)
+    let mut event = fallback_event();
+    choose_into(draws, &mut event, &*world, alloc)?;
+    put_event(text, &event)?;
+    run_event(alloc, world, &event, seen)
 }
 
 /// Chooses the next event, appends its line and runs it, and writes the text where it is long.
@@ -40,6 +43,7 @@ fn write_next<O: Sink>(
     alloc: Global,
     world: &mut World,
     draws: &mut Draws,
+    seen: &mut Vec<Observation>,
     text: &mut Vec<u8>,
     out: &mut O,
 ) -> Result<(), WorkFault>
@@ -53,7 +57,7 @@ fn write_next<O: Sink>(
     ensures front { OnErr result (AppendsPrefix (O.written out.old) (O.written out.new) (text.old.items ++ event_line (chosen world.old draws.old).0)) }
     ensures causes { HasCauses result (O.faults out.old) (O.faults out.new) }
 {
-    put_next(alloc, world, draws, text)?;
+    put_next(alloc, world, draws, seen, text)?;
     flush_long(out, text)?;
     Ok(())
 }
@@ -73,8 +77,9 @@ fn write_events<O: Sink>(
     ensures front { OnErr result (AppendsPrefix (O.written out.old) (O.written out.new) (text.old.items ++ lines n world.old draws.old)) }
     ensures causes { HasCauses result (O.faults out.old) (O.faults out.new) }
 {
+    let mut seen = Vec::new(alloc);
     for _i in 0..n {
-        write_next(alloc, world, draws, text, out)?;
+        write_next(alloc, world, draws, &mut seen, text, out)?;
     }
     Ok(())
 }

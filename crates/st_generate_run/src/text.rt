@@ -9,8 +9,8 @@ ghost use Rattle.st_generate_run.specs.Pieces.{Writes};
 use st_link::{Failed, Sink, put_all};
 use st_messages::Event;
 use st_report::put_text;
-use st_schedule::print;
-use std::alloc::{AllocError, Global};
+use st_schedule::put_line;
+use std::alloc::AllocError;
 
 /// The text is written as soon as it has at least `LONG` bytes.
 const LONG: usize = 4096;
@@ -23,11 +23,10 @@ pub(crate) fn put_head(text: &mut Vec<u8>) -> Result<(), AllocError>
 }
 
 /// Appends the line of an event.
-pub(crate) fn put_event(alloc: Global, text: &mut Vec<u8>, event: &Event) -> Result<(), AllocError>
+pub(crate) fn put_event(text: &mut Vec<u8>, event: &Event) -> Result<(), AllocError>
     ensures { OnOk result (text.new.items ≡ text.old.items ++ event_line event.now) }
 {
-    let line = print(alloc, event)?;
-    put_text(text, line.as_slice())?;
+    put_line(text, event)?;
     put_text(text, b"\n")
 }
 

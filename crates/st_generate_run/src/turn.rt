@@ -6,7 +6,8 @@ ghost use Rattle.st_rules.specs.Generator as generator;
 ghost use Rattle.st_rules.specs.Safety.{is_event};
 ghost use Rattle.st_generate_run.specs.Turns.{IsReady, IsTurn, Leads};
 
-use crate::{Draws, choose};
+use crate::Draws;
+use crate::choice::{choose_into, fallback_event};
 use st_base::Config;
 use st_messages::{Counts, Event};
 use st_rules::Observation;
@@ -98,6 +99,7 @@ pub(crate) fn advance(
     ensures ready { OnOk result (IsReady world.new) }
     ensures events { OnOk result (world.new.tally.events ≡ world.old.tally.events + 1) }
 {
-    let event = choose(draws, &*world, alloc)?;
+    let mut event = fallback_event();
+    choose_into(draws, &mut event, &*world, alloc)?;
     run_event(alloc, world, &event, seen)
 }

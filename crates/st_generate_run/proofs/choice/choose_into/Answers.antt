@@ -2,7 +2,7 @@ use Rattle.std.proofs.Common.{◌≡◌, ◌-◌, arith, subst, ap, ◌∙◌}
 use Rattle.st_rules.specs.Generator.{choice}
 use Rattle.st_generate_run.specs.Choice.{IsTry, found}
 use Rattle.st_generate_run.proofs.Tries.{falls_back, goes_on, is_made}
-use Rattle.st_generate_run.proofs.choice.choose.Goals as goal
+use Rattle.st_generate_run.proofs.choice.choose_into.Goals as goal
 
 pub returns-then-branch : goal.returns-then-branch
 returns-then-branch g c =
