@@ -3,6 +3,7 @@ pub mod Steps
 pub mod First
 pub mod Begun
 pub mod Newlines
+pub mod FirstNewline
 pub mod Feeding
 pub mod LastLines
 pub mod Streams

@@ -8,7 +8,8 @@ use Rattle.st_messages.specs.declared.event.Event.{Event}
 use Rattle.st_rules.specs.declared.observation.Observation.{Observation}
 use Rattle.st_rules.specs.declared.observation.WorldRefusal.{WorldRefusal}
 use Rattle.st_rules.specs.World.{World}
-use Rattle.st_rules.specs.Events.{world_turn, world_step}
+use Rattle.st_rules.specs.Admissible.{refusal}
+use Rattle.st_rules.specs.Events.{world_by, world_turn, world_step}
 use Rattle.st_rules.specs.Run.{Run, run, go_on, behind as run_behind}
 use Rattle.st_rules.specs.Report.{lines, lines_from}
 use Rattle.st_rules.specs.Safety.{is_event}
@@ -59,6 +60,15 @@ event_goes old new n w v os e rest h counted number appended =
     ap (λ t. behind t (from_world v rest)) appended ∙ behind_both old (lines n os) (from_world v rest)
     ∙ ap (λ k. behind old (behind (lines n os) (replay_from (k + 1) v rest))) (counted ∙ sym number)
     ∙ ap (behind old) (sym (one_event n w v os e rest h)) ∙ ap (λ k. behind old (replay_from k w (begin e rest))) number
+
+-- a step of an event that is refused, and of one that is admissible
+pub refused_step : (w : World) (e : Event) (f : WorldRefusal) → refusal w e ≡ Some f → world_step w e ≡ Err f
+unfolding world_step world_by
+refused_step w e f h = ap (world_by w e) h
+
+pub not_refused : (w : World) (e : Event) (f : WorldRefusal) → refusal w e ≡ None → world_step w e ≡ Err f → ⊥
+unfolding world_step world_by
+not_refused w e f a h = let z = ap (world_by w e) a in cc
 
 refused_event : (n : ℕ) (w : World) (f : WorldRefusal) (e : Event) (rest : Schedule) → world_step w e ≡ Err f →
     replay_from n w (begin e rest) ≡ record { front = []; last = ended_by (n + 0) w rest.ending (Some f) }

@@ -1,18 +1,13 @@
 ghost use Rattle.std.specs.Prelude.{◌≡◌, ◌+◌, ◌<◌, take, drop, length};
 ghost use Rattle.st_replay.specs.Playing.{IsFirst};
 
+use memchr::memchr;
+
 /// The place of the first newline.
 pub(crate) fn newline(bytes: &[u8]) -> Option<usize>
     ensures { IsFirst bytes.now result }
 {
-    let mut at = 0;
-    while at < bytes.len() {
-        if bytes[at] == b'\n' {
-            return Some(at);
-        }
-        at += 1;
-    }
-    None
+    memchr(b'\n', bytes)
 }
 
 /// The bytes before this place.

@@ -1,4 +1,5 @@
-ghost use Rattle.std.specs.Prelude.{◌≡◌, ◌+◌, ◌<◌, ◌≤◌, ◌∷◌, ◌++◌, ◌^◌, ℕ, List, Ok, IfOk, OnOk, true, length};
+ghost use Rattle.std.specs.Prelude.{◌≡◌, ◌+◌, ◌<◌, ◌≤◌, ◌∷◌, ◌++◌, ◌^◌, ℕ, List, None, Ok, IfOk, OnOk, true, length};
+ghost use Rattle.st_rules.specs.Admissible.{refusal};
 ghost use Rattle.st_rules.specs.Report.{opening};
 ghost use Rattle.st_rules.specs.Safety.{IsHead, is_event};
 ghost use Rattle.st_rules.specs.World.{fresh_world};
@@ -12,29 +13,66 @@ use crate::fault::Stop;
 use st_base::Config;
 use st_messages::{Counts, Event};
 use st_report::{put_lines, put_opening};
+use st_rules::Observation;
 use st_runs::LineRefusal;
 use st_schedule::{Line, ScheduleReader, ScheduleRefusal};
 use st_world::{World, WorldFault};
 use std::alloc::Global;
+use std::mem;
 
-/// Runs the event in the line of this number, and appends what is observed of it.
-fn play_event(text: &mut Vec<u8>, world: &mut World, line: u64, event: Event) -> Result<(), Stop>
-    requires event { is_event (length world.old.clocks) event ≡ true }
+/// Runs the admissible event in the line of this number, and appends what is observed of it. What was observed of the one before
+/// makes room for that.
+fn run_event(
+    alloc: Global,
+    text: &mut Vec<u8>,
+    world: &mut World,
+    seen: &mut Vec<Observation>,
+    line: u64,
+    event: &Event,
+) -> Result<(), Stop>
+    requires event { is_event (length world.old.clocks) event.now ≡ true }
     requires room { world.old.tally.events < 2 ^ 29 }
+    requires admissible { refusal world.old event.now ≡ None }
     requires number { line ≡ world.old.tally.events + 2 }
     ensures goes { OnOk result ((rest : Schedule) →
-        behind text.new.items (from_world world.new rest) ≡ behind text.old.items (from_world world.old (begin event rest))) }
-    ensures stops { OnStop result (λ n f. (rest : Schedule) → EndsAt text.new.items n f (behind text.old.items (from_world world.old (begin event rest)))) }
+        behind text.new.items (from_world world.new rest) ≡ behind text.old.items (from_world world.old (begin event.now rest))) }
+    ensures memory { OnStop result (λ n f. ⊥) }
     ensures events { OnOk result (world.new.tally.events ≡ world.old.tally.events + 1) }
     ensures clocks { OnOk result (length world.new.clocks ≡ length world.old.clocks) }
 {
-    match world.step(event) {
-        Ok(seen) => {
-            put_lines(text, line - 1, &seen)?;
+    let spare = mem::replace(seen, Vec::new(alloc));
+    match world.run(event, spare) {
+        Ok(observed) => {
+            put_lines(text, line - 1, observed.as_slice())?;
+            *seen = observed;
             Ok(())
         }
-        Err(WorldFault::Refused(refusal)) => Err(Stop::Line(line, LineRefusal::World(refusal))),
+        Err(WorldFault::Refused(_)) => unreachable!(),
         Err(WorldFault::Memory) => Err(Stop::Memory),
+    }
+}
+
+/// Runs the event in the line of this number, and appends what is observed of it.
+fn play_event(
+    alloc: Global,
+    text: &mut Vec<u8>,
+    world: &mut World,
+    seen: &mut Vec<Observation>,
+    line: u64,
+    event: &Event,
+) -> Result<(), Stop>
+    requires event { is_event (length world.old.clocks) event.now ≡ true }
+    requires room { world.old.tally.events < 2 ^ 29 }
+    requires number { line ≡ world.old.tally.events + 2 }
+    ensures goes { OnOk result ((rest : Schedule) →
+        behind text.new.items (from_world world.new rest) ≡ behind text.old.items (from_world world.old (begin event.now rest))) }
+    ensures stops { OnStop result (λ n f. (rest : Schedule) → EndsAt text.new.items n f (behind text.old.items (from_world world.old (begin event.now rest)))) }
+    ensures events { OnOk result (world.new.tally.events ≡ world.old.tally.events + 1) }
+    ensures clocks { OnOk result (length world.new.clocks ≡ length world.old.clocks) }
+{
+    match world.refusal(event) {
+        Some(refusal) => Err(Stop::Line(line, LineRefusal::World(refusal))),
+        None => run_event(alloc, text, world, seen, line, event),
     }
 }
 
@@ -53,8 +91,10 @@ fn read(reader: &mut ScheduleReader, line: u64, bytes: &[u8]) -> Result<Line, St
 
 /// Reads the line of this number, after the head, and runs its event.
 pub(crate) fn play_line(
+    alloc: Global,
     text: &mut Vec<u8>,
     world: &mut World,
+    seen: &mut Vec<Observation>,
     reader: &mut ScheduleReader,
     line: u64,
     bytes: &[u8],
@@ -68,7 +108,7 @@ pub(crate) fn play_line(
     ensures room { OnOk result (length bytes.now + 1 + needs reader.new ≤ needs reader.old) }
 {
     match read(reader, line, bytes) {
-        Ok(Line::Event(event)) => play_event(text, world, line, event),
+        Ok(Line::Event(event)) => play_event(alloc, text, world, seen, line, &event),
         Ok(Line::Head(..)) => Ok(()),
         Ok(Line::End) => Ok(()),
         Err(stop) => Err(stop),

@@ -5,12 +5,13 @@ ghost use Rattle.st_replay.specs.Playing.{EndsAt, Goes, IsHere, OnStop, from_her
 
 use crate::fault::Stop;
 use crate::play::{play_head, play_line};
+use st_rules::Observation;
 use st_schedule::ScheduleReader;
 use st_world::World;
 use std::alloc::Global;
 
-/// A replay on its way: the reader, the world once the head was read, the number of the next line, and the text that was not
-/// written yet.
+/// A replay on its way: the reader, the world once the head was read, the number of the next line, the text that was not written
+/// yet, and what was observed of the last event.
 #[derive(Drop)]
 pub(crate) struct Player {
     pub(crate) alloc: Global,
@@ -18,6 +19,7 @@ pub(crate) struct Player {
     pub(crate) world: Option<World>,
     pub(crate) line: u64,
     pub(crate) text: Vec<u8>,
+    pub(crate) seen: Vec<Observation>,
 }
 
 /// Keeps the world of a head.
@@ -41,6 +43,7 @@ impl Player {
             world: None,
             line: 1,
             text: Vec::new(alloc),
+            seen: Vec::new(alloc),
         }
     }
 
@@ -57,7 +60,15 @@ impl Player {
     {
         match &mut self.world {
             Some(world) => {
-                play_line(&mut self.text, world, &mut self.reader, self.line, bytes)?;
+                play_line(
+                    self.alloc,
+                    &mut self.text,
+                    world,
+                    &mut self.seen,
+                    &mut self.reader,
+                    self.line,
+                    bytes,
+                )?;
                 self.line += 1;
                 Ok(())
             }
