@@ -1,6 +1,6 @@
 -- Where the block of a place stands, when one more block is written, or another one at the same place.
 use Rattle.std.proofs.Common.{◌≡◌, ℕ, ◌+◌, ◌<◌, ◌≤◌, Bool, true, false, cond, if◌then◌else◌, List, [], ◌∷◌, ◌++◌, length, set, Option, Some, None, arith, refl, sym, ap, ◌∙◌}
-use Rattle.std.specs.Prelude.{◌&&◌, ◌==◌, find, not, nat_lt, get_or, slice_get}
+use Rattle.std.specs.Prelude.{◌&&◌, ◌==◌, find, not, nat_lt, get_or, slice_get, unwrap_or}
 use Rattle.std.specs.List.{position, position_or_len}
 use Rattle.std.proofs.Math.Dec.{eqb}
 use Rattle.std.proofs.lemmas.Bool.{and_parts, eqb-true, ltb-false}
@@ -11,7 +11,7 @@ use Rattle.std.proofs.lemmas.List.Sums.{prefix_len-le-length}
 use Rattle.std.proofs.lemmas.List.{length-append, length-set}
 use Rattle.st_base.specs.declared.disk.BlockAt.{BlockAt}
 use Rattle.st_rules.specs.declared.disks.Block.{Block}
-use Rattle.st_rules.specs.Disks.{is_block_at}
+use Rattle.st_rules.specs.Disks.{Disks, block, fresh_block, is_block_at}
 use Rattle.st_rules.specs.Keys.{same_block}
 use Rattle.st_disk.specs.Indexes.{place_key, same_place}
 
@@ -72,3 +72,20 @@ pub find_none : {A : Type 0} (p : A → Bool) (xs : List A) → position p xs �
 find_none p xs e =
     let past = ltb-false (position_or_len p xs) (length xs) (none_is (nat_lt (position_or_len p xs) (length xs)) (position_or_len p xs) e) in
     sym (find_at p xs ∙ slice_get_past xs (position_or_len p xs) past)
+
+-- what is found passes the test
+passes_and : {A : Type 0} (p : A → Bool) (x y : A) (rest : Option A) (b : Bool) → p y ≡ b → (rest ≡ Some x → p x ≡ true) → cond b (Some y) rest ≡ Some x → p x ≡ true
+passes_and p x y rest true t more e = let q : y ≡ x = cc in rw (← q) t
+passes_and p x y rest false t more e = more e
+
+found_passes : {A : Type 0} (p : A → Bool) (xs : List A) (x : A) → find p xs ≡ Some x → p x ≡ true
+found_passes p [] x e = absurd (cc)
+found_passes p (y ∷ ys) x e = passes_and p x y (find p ys) (p y) refl (found_passes p ys x) e
+
+-- the block at a place is of this place
+of_place : (at : BlockAt) (bs : List Block) (found : Option Block) → find (is_block_at at) bs ≡ found → (unwrap_or found (fresh_block at)).at ≡ at
+of_place at bs None e = refl
+of_place at bs (Some b) e = place_is b.at at (found_passes (is_block_at at) bs b e)
+
+pub block_is_there : (d : Disks) (at : BlockAt) → (block d at).at ≡ at
+block_is_there d at = of_place at d.written _ refl

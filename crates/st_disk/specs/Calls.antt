@@ -18,6 +18,11 @@ abbrev pub place : Command → BlockAt
 place (Read at) = at
 place (Write at tag bytes) = at
 
+-- the command writes
+abbrev pub IsWrite : Command → Type 0
+IsWrite (Read at) = ⊥
+IsWrite (Write at tag bytes) = Unit
+
 -- the block is one of these disks': disks are numbered from 1, and their blocks from 0
 pub record HasBlock (d : Disks) (at : BlockAt) : Type 0 where
   pub some : 1 ≤ at.disk.0

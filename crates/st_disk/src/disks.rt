@@ -5,15 +5,17 @@ ghost use Rattle.st_rules.specs.declared.disks.DiskCommand.{DiskCommand};
 ghost use Rattle.st_rules.specs.Disks as disks;
 ghost use Rattle.st_rules.specs.Disks.{fresh_disks};
 ghost use Rattle.st_disk.specs.CommandStates.{standing_of};
-ghost use Rattle.st_disk.specs.Calls.{Answers, HasBlock, SameSize, ended, sampled_at, shown, told, written_at};
+ghost use Rattle.st_disk.specs.Calls.{Answers, HasBlock, IsWrite, SameSize, ended, sampled_at, shown, told, written_at};
+ghost use Rattle.st_base.specs.declared.disk.Command.TheVariants.{Read};
 
 use crate::blocks::Blocks;
 use crate::commands::{
     CommandState, command_at, effect_command, index_of, report_command, sample_command, standing_of,
 };
+use crate::kept::{FRESH_TAG, KeptCommand};
 use crate::refusal::DiskRefusal;
-use st_base::{BlockAt, Command, FileId, PageBytes, PageNo, ServerId, Tag};
-use st_rules::{Block, DiskCommand, Report};
+use st_base::{BlockAt, Command, PageBytes, Tag};
+use st_rules::{Block, Report};
 use std::alloc::{AllocError, Global};
 use std::marker::Model;
 
@@ -23,7 +25,7 @@ pub struct Disks {
     disks: u16,
     blocks: u32,
     written: Blocks,
-    commands: Vec<DiskCommand>,
+    commands: Vec<KeptCommand>,
     zeros: PageBytes,
 }
 
@@ -38,15 +40,6 @@ impl Model for Disks {
 
     ghost invariant = { λ d. d.zeros ≡ filled 0 };
 }
-
-const FRESH_TAG: Tag = Tag {
-    file: FileId {
-        server: ServerId(0),
-        ino: 0,
-    },
-    page: PageNo(0),
-    birth: 0,
-};
 
 impl Disks {
     /// Makes this number of disks with this number of blocks each. No block was written, and there are no commands. It does
@@ -70,12 +63,7 @@ impl Disks {
         ensures size { SameSize self.old self.new }
         ensures err { OnErr result (self.new ≡ self.old) }
     {
-        self.commands.push(DiskCommand {
-            what: command,
-            effected: false,
-            report: Report::Open,
-            sample: None,
-        })?;
+        self.commands.push(KeptCommand::new(command))?;
         Ok(self.commands.len() as u64)
     }
 
@@ -103,9 +91,7 @@ impl Disks {
     pub fn sample(&self, n: u64) -> Option<(Tag, &PageBytes)>
         ensures exact { option_map (λ s. (s.0, s.1.now)) result ≡ option_map shown (disks.sample self.now n) }
     {
-        let command = command_at(&self.commands, n)?;
-        let block = command.sample.as_ref()?;
-        Some((block.tag, &block.bytes))
+        command_at(&self.commands, n)?.sample()
     }
 
     /// A copy of a block as it stands.
@@ -124,7 +110,8 @@ impl Disks {
 
     /// Gives the read at this index its effect.
     fn read(&mut self, index: usize, at: BlockAt) -> Result<(), AllocError>
-        requires { index < length self.old.commands }
+        requires there { index < length self.old.commands }
+        requires reads { (c : DiskCommand) → slice_get self.old.commands index ≡ Some c → c.what ≡ Read at }
         ensures ok { (c : DiskCommand) → slice_get self.old.commands index ≡ Some c → OnOk result (self.new ≡ sampled_at index at c self.old) }
         ensures size { SameSize self.old self.new }
         ensures err { OnErr result (self.new ≡ self.old) }
@@ -136,7 +123,8 @@ impl Disks {
 
     /// Gives the write at this index its effect.
     fn write(&mut self, index: usize, block: Block) -> Result<(), AllocError>
-        requires { index < length self.old.commands }
+        requires there { index < length self.old.commands }
+        requires writes { (c : DiskCommand) → slice_get self.old.commands index ≡ Some c → IsWrite c.what }
         ensures ok { (c : DiskCommand) → slice_get self.old.commands index ≡ Some c → OnOk result (self.new ≡ written_at index block c self.old) }
         ensures size { SameSize self.old self.new }
         ensures err { OnErr result (self.new ≡ self.old) }
@@ -149,7 +137,8 @@ impl Disks {
     /// Gives the command at this index its effect.
     #[tactic(auto, unfolding(st_rules::specs::Disks::effect_of))]
     fn act(&mut self, index: usize, what: Command) -> Result<(), AllocError>
-        requires { index < length self.old.commands }
+        requires there { index < length self.old.commands }
+        requires what { (c : DiskCommand) → slice_get self.old.commands index ≡ Some c → c.what ≡ what }
         ensures ok { (c : DiskCommand) → slice_get self.old.commands index ≡ Some c → OnOk result (self.new ≡ disks.effect_of self.old (index + 1) c what) }
         ensures size { SameSize self.old self.new }
         ensures err { OnErr result (self.new ≡ self.old) }
@@ -172,13 +161,14 @@ impl Disks {
             return Err(DiskRefusal::NoCommand(n));
         };
         let command = &self.commands[index];
-        if command.report != Report::Open {
+        let state = command.state();
+        if state.report != Report::Open {
             return Err(DiskRefusal::Reported(n));
         }
-        if command.effected {
+        if state.effected {
             return Err(DiskRefusal::Twice(n));
         }
-        let what = command.what.copy()?;
+        let what = command.what()?;
         Ok(self.act(index, what)?)
     }
 
@@ -195,10 +185,11 @@ impl Disks {
             return Err(DiskRefusal::NoCommand(n));
         };
         let command = &self.commands[index];
-        if command.report != Report::Open {
+        let state = command.state();
+        if state.report != Report::Open {
             return Err(DiskRefusal::Twice(n));
         }
-        if ok && !command.effected {
+        if ok && !state.effected {
             return Err(DiskRefusal::NotEffected(n));
         }
         report_command(&mut self.commands, index, ok);

@@ -5,6 +5,7 @@
 mod blocks;
 mod commands;
 mod disks;
+mod kept;
 mod refusal;
 
 pub use commands::CommandState;
