@@ -19,6 +19,7 @@ use st_rules::Verdict;
 use std::alloc::{AllocError, Global};
 use std::collections::BTreeSet;
 use std::marker::Model;
+use std::mem;
 
 /// The locks of one server in one epoch. Contracts see them as the epoch, the number of grants, the list of rows and the
 /// list of waiters.
@@ -53,6 +54,7 @@ impl LockTable {
                 demanding: Touched::new(alloc),
                 waking: Waking::new(alloc),
                 besides: Vec::new(alloc),
+                spare: Vec::new(alloc),
             },
         }
     }
@@ -272,8 +274,15 @@ impl LockTable {
         ensures { IfOk result (λ v. locks.next_grants self.old ≡ granting self.new v.items) }
     {
         let mut granted = Vec::new(self.parts.alloc);
-        let files = walked(self.parts.alloc, &self.parts.table, &self.parts.granting)?;
+        let spare = mem::replace(&mut self.parts.spare, Vec::new(self.parts.alloc));
+        let files = walked(
+            self.parts.alloc,
+            &self.parts.table,
+            &self.parts.granting,
+            spare,
+        )?;
         self.grant_each(&mut granted, files.as_slice())?;
+        self.parts.spare = files;
         Ok(granted)
     }
 

@@ -12,6 +12,7 @@ use crate::waking::Waking;
 use st_base::{ClientId, GrantNo, Mode};
 use st_lock_tables::{Pass, PlainTable, Sent};
 use std::alloc::{AllocError, Global};
+use std::mem;
 
 /// A lock table; the files that calls touched since each pass; when the demanding pass looks at files again; and the clients of
 /// which it demanded nothing when it last ran.
@@ -23,20 +24,24 @@ pub(crate) struct Parts {
     pub(crate) demanding: Touched,
     pub(crate) waking: Waking,
     pub(crate) besides: Vec<ClientId>,
+    /// A list whose room a pass uses for the files that it walks.
+    pub(crate) spare: Vec<u32>,
 }
 
-/// The files that a pass walks, in rising order: all that are waited for, or those that were touched.
+/// The files that a pass walks, in rising order: all that are waited for, or those that were touched. The room of the spare list
+/// is used for them.
 pub(crate) fn walked(
     alloc: Global,
     table: &PlainTable,
     marks: &Touched,
+    spare: Vec<u32>,
 ) -> Result<Vec<u32>, AllocError>
     ensures { IfOk result (λ v. v.items ≡ walked marks.now (locks.waited_files table.now)) }
 {
     if marks.is_all() {
         table.waited_files()
     } else {
-        marks.rising(alloc)
+        marks.rising(alloc, spare)
     }
 }
 
@@ -126,7 +131,8 @@ impl Parts {
     {
         heed(&mut self.besides, &mut self.demanding, suspects)?;
         self.waking.wake(&mut self.demanding, pass)?;
-        let files = walked(self.alloc, &self.table, &self.demanding)?;
+        let spare = mem::replace(&mut self.spare, Vec::new(self.alloc));
+        let files = walked(self.alloc, &self.table, &self.demanding, spare)?;
         let mut due = Vec::new(self.alloc);
         match demand_files(
             &mut self.table,
@@ -138,6 +144,7 @@ impl Parts {
         ) {
             Ok(()) => {
                 self.demanding.clear();
+                self.spare = files;
                 Ok(due)
             }
             Err(error) => {

@@ -32,6 +32,15 @@ fn has(files: &[u32], ino: u32) -> bool
     files.iter().any(|k| *k == ino)
 }
 
+/// The same files, in the room of the spare list.
+fn same(files: &[u32], mut spare: Vec<u32>) -> Result<Vec<u32>, AllocError>
+    ensures { IfOk result (λ v. v.items ≡ files.now) }
+{
+    spare.clear();
+    spare.extend_from_slice(files)?;
+    Ok(spare)
+}
+
 impl Touched {
     pub fn new(alloc: Global) -> Touched
         ensures { IsClear result }
@@ -56,11 +65,15 @@ impl Touched {
         self.all
     }
 
-    /// The files of the list, in rising order.
-    pub fn rising(&self, alloc: Global) -> Result<Vec<u32>, AllocError>
+    /// The files of the list, in rising order. Where there is at most one, the room of the spare list is used.
+    pub fn rising(&self, alloc: Global, spare: Vec<u32>) -> Result<Vec<u32>, AllocError>
         ensures { IfOk result (λ v. v.items ≡ keys.rising self.now.files) }
     {
-        rising(alloc, self.files.as_slice())
+        if self.files.len() < 2 {
+            same(self.files.as_slice(), spare)
+        } else {
+            rising(alloc, self.files.as_slice())
+        }
     }
 
     /// Reserves room for one more file. Where a file finds no room, all files count as touched.
