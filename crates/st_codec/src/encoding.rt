@@ -218,16 +218,25 @@ fn put_kind(out: &mut Vec<u8>, kind: Kind) -> Result<(), AllocError>
     Ok(())
 }
 
-/// Returns the bytes of a message, as `docs/PROTOCOL.md`, "Wire", gives them table by table.
+/// Appends the bytes of a message, as `docs/PROTOCOL.md`, "Wire", gives them table by table.
 #[tactic(auto, unfolding(crate::specs::Spelling::spelling, st_messages::specs::Fits::fits))]
+pub fn put_message(out: &mut Vec<u8>, message: &Message) -> Result<(), AllocError>
+    requires { fits.fits message.now ≡ true }
+    ensures { OnOk result (out.new.items ≡ out.old.items ++ spells.spelling message.now) }
+{
+    put_kind(out, message.body.kind())?;
+    put_header(out, &message.header)?;
+    put_body(out, &message.body)?;
+    Ok(())
+}
+
+/// Returns the bytes of a message, as `put_message` appends them.
 pub fn encode(alloc: Global, message: &Message) -> Result<Vec<u8>, AllocError>
     requires { fits.fits message.now ≡ true }
     ensures { IfOk result (λ bytes. bytes.items ≡ spells.spelling message.now) }
 {
     // most messages are shorter
     let mut out = Vec::with_capacity(alloc, 64)?;
-    put_kind(&mut out, message.body.kind())?;
-    put_header(&mut out, &message.header)?;
-    put_body(&mut out, &message.body)?;
+    put_message(&mut out, message)?;
     Ok(out)
 }

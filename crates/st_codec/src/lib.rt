@@ -11,7 +11,7 @@ mod law;
 mod refusal;
 
 pub use decoding::decode;
-pub use encoding::encode;
+pub use encoding::{encode, put_message};
 pub use frames::FrameReader;
 pub use law::{bytes_that_follow, fits_a_frame, frames_in_any_pieces, one_spelling, spelled_size};
 pub use refusal::CodecRefusal;
