@@ -9,7 +9,7 @@ ghost use Rattle.st_rules.specs.World as world;
 use crate::cuts;
 use crate::places::{MessageEnds, SentPlace, head_of, lose, place_behind, place_of};
 use st_base::NodeId;
-use st_codec::{decode, encode};
+use st_codec::{decode, put_message};
 use st_messages::Message;
 use st_rules::CutLink;
 use std::alloc::{AllocError, Global};
@@ -22,6 +22,8 @@ pub struct Network {
     bytes: Vec<u8>,
     places: Vec<SentPlace>,
     cuts: Vec<CutLink>,
+    /// A list whose room the next message is spelled in.
+    spelled: Vec<u8>,
 }
 
 impl Model for Network {
@@ -65,6 +67,7 @@ impl Network {
             bytes: Vec::new(alloc),
             places: Vec::new(alloc),
             cuts: Vec::new(alloc),
+            spelled: Vec::new(alloc),
         }
     }
 
@@ -120,12 +123,13 @@ impl Network {
         ensures ok { OnOk result (self.new ≡ pieces.sent message.now self.old) }
         ensures err { OnErr result (self.new ≡ self.old) }
     {
-        let spelling = encode(*self.bytes.allocator(), message)?;
+        self.spelled.clear();
+        put_message(&mut self.spelled, message)?;
         let header = &message.header;
-        let place = place_behind(self.bytes.len(), spelling.len(), header.from, header.to)?;
+        let place = place_behind(self.bytes.len(), self.spelled.len(), header.from, header.to)?;
         self.places.reserve(1)?;
-        self.bytes.reserve(spelling.len())?;
-        self.bytes.extend_from_slice(&spelling)?;
+        self.bytes.reserve(self.spelled.len())?;
+        self.bytes.extend_from_slice(&self.spelled)?;
         self.places.push(place)?;
         Ok(())
     }
