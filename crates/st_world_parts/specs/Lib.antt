@@ -7,3 +7,4 @@ pub mod Owners
 pub mod Pieces
 pub mod Overs
 pub mod Sorts
+pub mod IssuedRows

@@ -1,5 +1,5 @@
 // The commands, and the calls on them.
-ghost use Rattle.std.specs.Prelude.{◌≡◌, ◌<◌, ◌^◌, length, IfOk, OnOk, OnErr};
+ghost use Rattle.std.specs.Prelude.{◌≡◌, ◌<◌, ◌^◌, length, slice_get, IfOk, OnOk, OnErr};
 ghost use Rattle.std.specs.Option.{option_map};
 ghost use Rattle.st_world_parts.specs.Issued as issued;
 ghost use Rattle.st_world_parts.specs.Open.{open_from};
@@ -9,6 +9,7 @@ ghost use Rattle.st_rules.specs.Disks as rules;
 ghost use Rattle.st_rules.specs.Events as events;
 ghost use Rattle.st_rules.specs.World.{numbered};
 
+use crate::issued_row::IssuedRow;
 use crate::open::close;
 use crate::owners::{OwnerKey, number_of, put_number};
 use crate::spares::{owner_of, spares_of};
@@ -26,7 +27,7 @@ use std::marker::Model;
 #[derive(Drop)]
 pub struct Commands {
     disks: Disks,
-    issued: Vec<IssuedCommand>,
+    issued: Vec<IssuedRow>,
     outstanding: Vec<usize>,
     last: IndexMap<OwnerKey, u64>,
 }
@@ -67,6 +68,16 @@ fn report(disks: &mut Disks, outstanding: &mut Vec<usize>, k: u64, ok: bool)
     }
 }
 
+/// The command of the row at this index, if there is one.
+fn row_at(issued: &[IssuedRow], index: usize) -> Option<IssuedCommand>
+    ensures { result ≡ slice_get issued.now index }
+{
+    match issued.get(index) {
+        None => None,
+        Some(row) => Some(row.command()),
+    }
+}
+
 impl Commands {
     /// Makes this number of disks with this number of blocks each. No command was issued. It does not allocate.
     pub fn new(alloc: Global, disks: u16, blocks: u32) -> Commands
@@ -95,7 +106,7 @@ impl Commands {
         if k == 0 {
             return None;
         }
-        self.issued.get((k - 1) as usize).copied()
+        row_at(&self.issued, (k - 1) as usize)
     }
 
     /// Returns how the command of this number stands, if there is one.
@@ -114,7 +125,7 @@ impl Commands {
         self.outstanding.reserve(1)?;
         self.last.reserve(1)?;
         let number = self.disks.submit(what)?;
-        self.issued.push(command)?;
+        self.issued.push(IssuedRow::new(&command))?;
         self.outstanding.push(self.issued.len() - 1)?;
         match command.carries {
             None => Ok(()),

@@ -7,6 +7,7 @@ mod commands;
 mod counts;
 mod cuts;
 mod firsts;
+mod issued_row;
 mod lease_ends;
 mod lives;
 mod network;

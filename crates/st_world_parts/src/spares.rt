@@ -4,6 +4,7 @@ ghost use Rattle.std.specs.List.{list_all};
 ghost use Rattle.st_rules.specs.World as world;
 ghost use Rattle.st_world_parts.specs.Open.{is_below, spare_of, spares_at};
 
+use crate::issued_row::IssuedRow;
 use st_model::Spare;
 use st_rules::{Carried, IssuedCommand, LogOwner};
 use std::alloc::{AllocError, Global};
@@ -38,7 +39,7 @@ fn push_spare(found: &mut Vec<Spare>, command: &IssuedCommand) -> Result<(), All
 /// What the commands at these places carry, in order.
 pub fn spares_of(
     alloc: Global,
-    issued: &[IssuedCommand],
+    issued: &[IssuedRow],
     outstanding: &[usize],
 ) -> Result<Vec<Spare>, AllocError>
     requires { list_all (is_below (length issued.now)) outstanding.now ≡ true }
@@ -46,7 +47,8 @@ pub fn spares_of(
 {
     let mut found = Vec::new(alloc);
     for i in 0..outstanding.len() {
-        push_spare(&mut found, &issued[outstanding[i]])?;
+        let row = &issued[outstanding[i]];
+        push_spare(&mut found, &row.command())?;
     }
     Ok(found)
 }

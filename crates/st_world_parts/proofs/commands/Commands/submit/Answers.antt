@@ -15,7 +15,7 @@ pub invariant_of-self-in-Some : goal.invariant_of-self-in-Some
 invariant_of-self-in-Some c =
     let issued = c.self.inside.issued.items in
     let ds = c.self.inside.disks.commands in
-    let items : c.push.new.self.items ≡ issued ++ c.args.command ∷ [] = c.in_ok-push.ensures.items ∙ ap (λ l. l ++ c.args.command ∷ []) c.in_ok-reserve.ensures.items in
+    let items : c.push.new.self.items ≡ issued ++ c.args.command ∷ [] = c.in_ok-push.ensures.items ∙ (λ i. c.in_ok-reserve.ensures.items i ++ c.new.ensures i ∷ []) in
     let cmds : c.submit.new.self.commands ≡ ds ++ new_command c.args.what ∷ [] = ap (λ d. d.commands) c.in_ok-number.ensures.ok in
     let longer : length c.push.new.self.items ≡ length issued + 1 = ap length items ∙ length-append issued (c.args.command ∷ []) in
     let more : length c.submit.new.self.commands ≡ length ds + 1 = ap length cmds ∙ length-append ds (new_command c.args.what ∷ []) in
@@ -39,7 +39,7 @@ pub invariant_of-self-in-None : goal.invariant_of-self-in-None
 invariant_of-self-in-None c =
     let issued = c.self.inside.issued.items in
     let ds = c.self.inside.disks.commands in
-    let items : c.push.new.self.items ≡ issued ++ c.args.command ∷ [] = c.in_ok-push.ensures.items ∙ ap (λ l. l ++ c.args.command ∷ []) c.in_ok-reserve.ensures.items in
+    let items : c.push.new.self.items ≡ issued ++ c.args.command ∷ [] = c.in_ok-push.ensures.items ∙ (λ i. c.in_ok-reserve.ensures.items i ++ c.new.ensures i ∷ []) in
     let cmds : c.submit.new.self.commands ≡ ds ++ new_command c.args.what ∷ [] = ap (λ d. d.commands) c.in_ok-number.ensures.ok in
     let longer : length c.push.new.self.items ≡ length issued + 1 = ap length items ∙ length-append issued (c.args.command ∷ []) in
     let more : length c.submit.new.self.commands ≡ length ds + 1 = ap length cmds ∙ length-append ds (new_command c.args.what ∷ []) in
