@@ -1,5 +1,5 @@
 // Crashes and starts.
-ghost use Rattle.std.specs.Prelude.{◌≡◌, ◌<◌, ◌≤◌, ◌^◌, ◌-◌, ◌++◌, [], false, map, set, slice_get, Some, OnOk, length};
+ghost use Rattle.std.specs.Prelude.{◌≡◌, ◌<◌, ◌≤◌, ◌^◌, ◌-◌, ◌++◌, [], false, map, set, slice_get, Some, OnErr, OnOk, length};
 ghost use Rattle.st_base.specs.declared.ids.NodeId.TheVariants as nodes;
 ghost use Rattle.st_rules.specs.Events as events;
 ghost use Rattle.st_rules.specs.Server as server_rules;
@@ -57,9 +57,10 @@ impl WorldClient {
         Ok(())
     }
 
-    /// Adds the client's present lives.
+    /// Adds the client's present lives. Where memory runs out the list stays as it was.
     pub(crate) fn push_lives(&self, found: &mut Vec<LeaseLife>) -> Result<(), AllocError>
-        ensures { OnOk result (found.new.items ≡ found.old.items ++ world.lives_of self.now.node.state) }
+        ensures added { OnOk result (found.new.items ≡ found.old.items ++ world.lives_of self.now.node.state) }
+        ensures kept { OnErr result (found.new.items ≡ found.old.items) }
     {
         self.node.push_lives(found)
     }
