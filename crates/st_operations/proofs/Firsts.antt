@@ -1,24 +1,50 @@
 -- Lists of operations by their places: which pass a test, and which are fit.
-use Rattle.std.proofs.Common.{◌≡◌, ℕ, zero, suc, ◌+◌, ◌-◌, ◌<◌, ◌≤◌, Bool, true, false, cond, List, [], ◌∷◌, ◌++◌, length, take, Some, None, refl, sym, ap, ◌∙◌, arith, append_assoc, add-one, true≢false}
-use Rattle.std.specs.Prelude.{filter, is_some, remove, slice_get, not, ◌&&◌, ◌||◌, nat_lt, IfSome, Option}
-use Rattle.std.specs.Option.{option_copied, option_to_list}
-use Rattle.std.specs.List.{list_all, list_any, position, position_or_len}
-use Rattle.std.proofs.lemmas.Bool.{and_parts, le-ltb, lt-ltb}
+use Rattle.std.proofs.Common.{◌≡◌, ℕ, zero, suc, ◌+◌, ◌-◌, ◌<◌, ◌≤◌, Bool, true, false, cond, List, [], ◌∷◌, ◌++◌, get_or, if◌then◌else◌, length, map, take, Some, None, refl, sym, ap, ◌∙◌, arith, append_assoc, add-one, true≢false}
+use Rattle.std.specs.Prelude.{filter, is_some, remove, slice_get, slice_set, ◌&&◌, ◌||◌, nat_lt, IfSome, Option}
+use Rattle.std.specs.Option.{option_to_list}
+use Rattle.std.specs.List.{list_all, list_any}
+use Rattle.std.proofs.lemmas.Bool.{and_parts, lt-ltb, ltb-true}
 use denote.Ref.{Bor}
 use Rattle.st_base.specs.declared.ids.ServerId.{ServerId}
 use Rattle.st_rules.specs.declared.client.Operation.{Operation}
-use Rattle.st_rules.specs.ClientState.{is_of}
-use Rattle.st_operations.specs.Pending.{AreCounted, AreFit, KeepsFirst, asks_sync, count_syncs, is_fit, marked, may_act}
+use Rattle.st_rules.specs.declared.client.Stage.TheVariants.{Sent}
+use Rattle.st_rules.specs.ClientState.{at_stage, is_of}
+use Rattle.st_operations.specs.Pending.{AreCounted, AreFit, asks_sync, count_syncs, is_fit, marked, may_act}
 
--- the next one is passed over, as the one at a place is to be marked
-pub marked_more : (i n : ℕ) (kept now all old rest : List Operation) → i < n → kept ++ marked (n - i) old ≡ all → KeepsFirst kept old now rest → now ++ marked (n - (i + 1)) rest ≡ all
-marked_more i n kept now all [] rest l h k = (λ j. k.same j ++ marked (n - (i + 1)) (k.none j)) ∙ h
-marked_more i n kept now all (x ∷ xs) rest l h k =
-    let m : n - i ≡ suc (n - (i + 1)) = omega arith in
-    (λ j. k.more j ++ marked (n - (i + 1)) (k.left j))
-    ∙ append_assoc kept (x ∷ []) (marked (n - (i + 1)) xs)
-    ∙ ap (λ d. kept ++ marked d (x ∷ xs)) (sym m)
-    ∙ h
+-- the one at a place
+pub got_at : {A : Type 0} (xs : List A) (i : ℕ) (x : A) → i < length xs → x ≡ get_or xs i x → Some x ≡ slice_get xs i
+got_at [] i x l e = absurd (omega (arith, l))
+got_at (y ∷ ys) zero x l e = ap Some e
+got_at (y ∷ ys) (suc i) x l e = got_at ys i x (omega (arith, l)) e
+
+-- the one at a place is marked
+pub mark_set : (os : List Operation) (i : ℕ) (o : Operation) → i < length os → o ≡ get_or os i o → slice_set os i (at_stage Sent o) ≡ marked i os
+mark_set [] i o l e = absurd (omega (arith, l))
+mark_set (x ∷ xs) zero o l e = ap (λ y. at_stage Sent y ∷ xs) e
+mark_set (x ∷ xs) (suc i) o l e = ap (λ ys. x ∷ ys) (mark_set xs i o (omega (arith, l)) e)
+
+-- there is none
+pub mark_none : (os : List Operation) (i : ℕ) → length os ≤ i → os ≡ marked i os
+mark_none [] i l = refl
+mark_none (x ∷ xs) zero l = absurd (omega (arith, l))
+mark_none (x ∷ xs) (suc i) l = ap (λ ys. x ∷ ys) (mark_none xs i (omega (arith, l)))
+
+marked_fit : (os : List Operation) (i : ℕ) → list_all is_fit (marked i os) ≡ list_all is_fit os
+marked_fit [] i = refl
+marked_fit (x ∷ xs) zero = refl
+marked_fit (x ∷ xs) (suc i) = ap (λ b. is_fit x && b) (marked_fit xs i)
+
+marked_count : (os : List Operation) (i : ℕ) → count_syncs (marked i os) ≡ count_syncs os
+marked_count [] i = refl
+marked_count (x ∷ xs) zero = refl
+marked_count (x ∷ xs) (suc i) = ap (λ n. (if asks_sync x then 1 else 0) + n) (marked_count xs i)
+
+-- what is asked stays
+pub counted_marked : (os : List Operation) (i n : ℕ) (new : List Operation) → new ≡ marked i os → AreCounted os n → AreCounted new n
+counted_marked os i n new e h = record {
+  fit = ap (list_all is_fit) e ∙ marked_fit os i ∙ h.fit;
+  count = h.count ∙ sym (marked_count os i) ∙ sym (ap count_syncs e);
+}
 
 -- the first ones that a test picks, and one more
 picked_suc : {A : Type 0} (p : A → Bool) (xs : List A) (i : ℕ) → filter p (take i xs) ++ filter p (option_to_list (slice_get xs i)) ≡ filter p (take (suc i) xs)
@@ -35,6 +61,20 @@ picked_suc p (y ∷ ys) (suc i) = by (p y) (picked_suc p ys i)
 pub picked_more : {A : Type 0} (p : A → Bool) (xs : List A) (i : ℕ) → filter p (take i xs) ++ filter p (option_to_list (slice_get xs i)) ≡ filter p (take (i + 1) xs)
 picked_more p xs i = picked_suc p xs i ∙ ap (λ n. filter p (take n xs)) (sym (add-one i))
 
+map_both : {A B : Type 0} (f : A → B) (xs ys : List A) → map f (xs ++ ys) ≡ map f xs ++ map f ys
+map_both f [] ys = refl
+map_both f (x ∷ xs) ys = ap (λ l. f x ∷ l) (map_both f xs ys)
+
+-- what is told of the first ones that a test picks, and of one more
+pub answered_more : {A B : Type 0} (f : A → B) (p : A → Bool) (xs : List A) (i : ℕ) (x : A) (first now next : List B) → i < length xs → x ≡ get_or xs i x →
+    now ≡ first ++ map f (filter p (take i xs)) → next ≡ now ++ map f (filter p (x ∷ [])) → next ≡ first ++ map f (filter p (take (i + 1) xs))
+answered_more f p xs i x first now next l e h k =
+    k ∙ ap (λ ys. ys ++ map f (filter p (x ∷ []))) h
+    ∙ append_assoc first (map f (filter p (take i xs))) (map f (filter p (x ∷ [])))
+    ∙ ap (λ ys. first ++ ys) (sym (map_both f (filter p (take i xs)) (filter p (x ∷ []))))
+    ∙ ap (λ o. first ++ map f (filter p (take i xs) ++ filter p (option_to_list o))) (got_at xs i x l e)
+    ∙ ap (λ ys. first ++ map f ys) (picked_more p xs i)
+
 -- all of a list
 pub take_whole : {A : Type 0} (xs : List A) (i : ℕ) → length xs ≤ i → take i xs ≡ xs
 take_whole [] zero l = refl
@@ -42,39 +82,15 @@ take_whole [] (suc i) l = refl
 take_whole (x ∷ xs) zero l = absurd (omega arith)
 take_whole (x ∷ xs) (suc i) l = ap (λ l. x ∷ l) (take_whole xs i (omega arith))
 
--- one that passes has a place
-placed_lt : {A : Type 0} (p : A → Bool) (xs : List A) → list_any p xs ≡ true → position_or_len p xs < length xs
-placed_lt p [] h = absurd (true≢false (sym h))
-placed_lt p (x ∷ xs) h = by (p x) h (placed_lt p xs)
-  where
-    by : (b : Bool) → (b || list_any p xs) ≡ true → (list_any p xs ≡ true → position_or_len p xs < length xs) → cond (not b) (1 + position_or_len p xs) 0 < suc (length xs)
-    by true h r = omega arith
-    by false h r = let l = r h in omega (arith, l)
-
-placed_past : {A : Type 0} (p : A → Bool) (xs : List A) → list_any p xs ≡ false → length xs ≤ position_or_len p xs
-placed_past p [] h = omega arith
-placed_past p (x ∷ xs) h = by (p x) h (placed_past p xs)
-  where
-    by : (b : Bool) → (b || list_any p xs) ≡ false → (list_any p xs ≡ false → length xs ≤ position_or_len p xs) → suc (length xs) ≤ cond (not b) (1 + position_or_len p xs) 0
-    by true h r = absurd (true≢false h)
-    by false h r = let l = r h in omega (arith, l)
-
-pub some_placed : {A : Type 0} (p : A → Bool) (xs : List A) → is_some (position p xs) ≡ list_any p xs
-some_placed p xs = by (list_any p xs) refl
-  where
-    by : (b : Bool) → list_any p xs ≡ b → is_some (cond (nat_lt (position_or_len p xs) (length xs)) (Some (position_or_len p xs)) None) ≡ b
-    by true h = ap (λ b. is_some (cond b (Some (position_or_len p xs)) None)) (lt-ltb (position_or_len p xs) (length xs) (placed_lt p xs h))
-    by false h = ap (λ b. is_some (cond b (Some (position_or_len p xs)) None)) (le-ltb (position_or_len p xs) (length xs) (placed_past p xs h))
-
 -- the operation at a place is fit
-pub fit_at : (os : List Operation) (i : ℕ) (r : Option (Bor Operation)) → AreFit os → option_copied r ≡ slice_get os i → IfSome r (λ o. is_fit o.now ≡ true)
-fit_at os i None h e = tt
-fit_at os i (Some b) h e = go os i h e
-  where
-    go : (os : List Operation) (i : ℕ) → AreFit os → Some b.now ≡ slice_get os i → is_fit b.now ≡ true
-    go [] i h e = cc
-    go (x ∷ xs) zero h e = let same : b.now ≡ x = cc in ap is_fit same ∙ (and_parts (is_fit x) (list_all is_fit xs) h).0
-    go (x ∷ xs) (suc i) h e = go xs i (and_parts (is_fit x) (list_all is_fit xs) h).1 e
+fit_in : (os : List Operation) (i : ℕ) (o : Operation) → AreFit os → i < length os → o ≡ get_or os i o → is_fit o ≡ true
+fit_in [] i o h l e = absurd (omega (arith, l))
+fit_in (x ∷ xs) zero o h l e = ap is_fit e ∙ (and_parts (is_fit x) (list_all is_fit xs) h).0
+fit_in (x ∷ xs) (suc i) o h l e = fit_in xs i o (and_parts (is_fit x) (list_all is_fit xs) h).1 (omega (arith, l)) e
+
+pub fit_got : (os : List Operation) (i : ℕ) (r : Option (Bor Operation)) → AreFit os → is_some r ≡ nat_lt i (length os) → IfSome r (λ o. o.now ≡ get_or os i o.now) → IfSome r (λ o. is_fit o.now ≡ true)
+fit_got os i None h l e = tt
+fit_got os i (Some b) h l e = fit_in os i b.now h (ltb-true i (length os) (sym l)) e
 
 -- the operations but for the one at a place are fit
 pub fit_removed : (os : List Operation) (i : ℕ) → AreFit os → AreFit (remove os i)

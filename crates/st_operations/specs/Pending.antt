@@ -1,5 +1,5 @@
 -- Pending operations: what is left where the first one is taken, and the operations after one was sent or is stuck.
-use Rattle.std.specs.Prelude.{◌≡◌, ℕ, zero, suc, ◌+◌, if◌then◌else◌, Bool, true, ◌&&◌, ◌||◌, List, [], ◌∷◌, ◌++◌, Option, Some, None}
+use Rattle.std.specs.Prelude.{◌≡◌, ℕ, zero, suc, ◌+◌, if◌then◌else◌, Bool, true, ◌&&◌, ◌||◌, List, [], ◌∷◌, Option, Some, None}
 use Rattle.std.specs.List.{list_all}
 use Rattle.st_base.specs.declared.ids.ServerId.{ServerId}
 use Rattle.st_messages.specs.Fits.{is_ask}
@@ -36,11 +36,6 @@ AreCounted os syncs = record { fit : AreFit os; count : syncs ≡ count_syncs os
 abbrev pub TakesFirst : {A : Type 0} → List A → Option A → List A → Type 0
 TakesFirst old None new = record { none : old ≡ []; left : new ≡ [] }
 TakesFirst old (Some x) new = old ≡ x ∷ new
-
--- the first of the later list goes behind the earlier one
-abbrev pub KeepsFirst : {A : Type 0} → List A → List A → List A → List A → Type 0
-KeepsFirst kept [] now rest = record { same : now ≡ kept; none : rest ≡ [] }
-KeepsFirst kept (x ∷ xs) now rest = record { more : now ≡ kept ++ x ∷ []; left : rest ≡ xs }
 
 -- the operation of the server's outstanding request is stuck
 abbrev pub stuck : ServerId → Operation → Operation

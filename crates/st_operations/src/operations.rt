@@ -1,16 +1,16 @@
-ghost use Rattle.std.specs.Prelude.{◌≡◌, ◌≤◌, ◌<◌, ◌^◌, ◌++◌, ◌∷◌, [], true, IfOk, IfSome, OnOk, filter, length, map, nat_le, not, remove, slice_get};
+ghost use Rattle.std.specs.Prelude.{◌≡◌, ◌≤◌, ◌<◌, ◌+◌, ◌^◌, ◌++◌, ◌∷◌, [], true, false, IfOk, IfSome, OnOk, Some, filter, if◌then◌else◌, length, map, nat_le, not, remove, slice_get};
 ghost use Rattle.std.specs.List.{list_any};
-ghost use Rattle.std.specs.Option.{option_copied, option_to_list};
+ghost use Rattle.std.specs.Option.{option_copied, option_map_or, option_to_list};
 ghost use Rattle.st_messages.specs.Fits.{is_ask};
 ghost use Rattle.st_rules.specs.ClientState as client_state;
-ghost use Rattle.st_operations.specs.Pending.{AreFit, KeepsFirst, TakesFirst, asks_sync, count_syncs, is_fit, marked, may_act, stuck};
+ghost use Rattle.st_operations.specs.Pending.{AreFit, TakesFirst, asks_sync, count_syncs, is_fit, marked, may_act, stuck};
 
 use crate::asks::{is_asked, is_sent, is_sync};
 use crate::picks::MayAct;
 use st_base::ServerId;
 use st_messages::{AppAnswer, Ask, Output};
 use st_rules::{Operation, Stage};
-use st_tables::{Ordered, Test};
+use st_tables::Test;
 use std::alloc::{AllocError, Global};
 use std::marker::Model;
 use std::mem;
@@ -20,7 +20,7 @@ use std::mem;
 #[derive(Drop)]
 pub struct Operations {
     alloc: Global,
-    rows: Ordered<Operation>,
+    rows: Vec<Operation>,
     /// How many of the rows are syncs.
     syncs: usize,
 }
@@ -33,9 +33,9 @@ impl Model for Operations {
 
     ghost use Rattle.st_operations.specs.Pending.{AreCounted};
 
-    ghost view = { λ o. o.rows };
+    ghost view = { λ o. o.rows.items };
 
-    ghost invariant = { λ o. AreCounted o.rows o.syncs };
+    ghost invariant = { λ o. AreCounted o.rows.items o.syncs };
 }
 
 /// One for a sync, and none for another operation.
@@ -45,13 +45,19 @@ fn count_one(operation: &Operation) -> usize
     if is_sync(&operation.ask) { 1 } else { 0 }
 }
 
-/// One for a sync, and none for another operation or for none.
-fn count_in(operation: &Option<Operation>) -> usize
-    ensures { result ≡ count_syncs (option_to_list operation.now) }
+/// Whether one of these passes the test.
+fn any_row<T: Test<Operation>>(rows: &[Operation], test: &T) -> bool
+    ensures { result ≡ list_any (T.passes test.now) rows.now }
 {
-    match operation {
-        None => 0,
-        Some(operation) => count_one(operation),
+    rows.iter().any(|row| test.test(row))
+}
+
+/// The request of the one at a place was sent, where there is one.
+fn mark_row(rows: &mut Vec<Operation>, place: usize)
+    ensures { rows.new.items ≡ marked place rows.old.items }
+{
+    if place < rows.len() {
+        rows[place].stage = Stage::Sent;
     }
 }
 
@@ -70,17 +76,6 @@ fn stick(server: ServerId, operation: Operation) -> Operation
     }
 }
 
-/// The operation's request was sent.
-fn sent(operation: Operation) -> Operation
-    ensures { result ≡ client_state.at_stage Stage.Sent operation }
-{
-    Operation {
-        op: operation.op,
-        ask: operation.ask,
-        stage: Stage::Sent,
-    }
-}
-
 fn push_answer(op: u32, answer: &AppAnswer, out: &mut Vec<Output>) -> Result<(), AllocError>
     ensures told { OnOk result (out.new.items ≡ out.old.items ++ Output.Answer op answer.now ∷ []) }
     ensures grows { length out.old.items ≤ length out.new.items }
@@ -92,6 +87,39 @@ fn push_answer(op: u32, answer: &AppAnswer, out: &mut Vec<Output>) -> Result<(),
     Ok(())
 }
 
+/// Answers the operation, if it passes the test.
+fn answer_row<T: Test<Operation>>(
+    operation: &Operation,
+    test: &T,
+    answer: &AppAnswer,
+    out: &mut Vec<Output>,
+) -> Result<(), AllocError>
+    ensures told { OnOk result (out.new.items ≡ out.old.items ++ map (client_state.answer_to answer.now) (filter (T.passes test.now) (operation.now ∷ []))) }
+    ensures grows { length out.old.items ≤ length out.new.items }
+{
+    if test.test(operation) {
+        push_answer(operation.op, answer, out)
+    } else {
+        Ok(())
+    }
+}
+
+/// Answers those that pass the test, in order.
+fn answer_rows<T: Test<Operation>>(
+    rows: &[Operation],
+    test: &T,
+    answer: &AppAnswer,
+    out: &mut Vec<Output>,
+) -> Result<(), AllocError>
+    ensures told { OnOk result (out.new.items ≡ out.old.items ++ map (client_state.answer_to answer.now) (filter (T.passes test.now) rows.now)) }
+    ensures grows { length out.old.items ≤ length out.new.items }
+{
+    for i in 0..rows.len() {
+        answer_row(&rows[i], test, answer, out)?;
+    }
+    Ok(())
+}
+
 impl Operations {
     /// No operation is pending. It does not allocate.
     pub fn new(alloc: Global) -> Operations
@@ -99,7 +127,7 @@ impl Operations {
     {
         Operations {
             alloc,
-            rows: Ordered::new(alloc),
+            rows: Vec::new(alloc),
             syncs: 0,
         }
     }
@@ -140,7 +168,7 @@ impl Operations {
         requires { is_fit operation ≡ true }
         ensures { OnOk result (self.new ≡ self.old ++ operation ∷ []) }
     {
-        let _len = self.rows.len();
+        let _len = self.len();
         let more = count_one(&operation);
         self.rows.push(operation)?;
         self.syncs += more;
@@ -163,7 +191,7 @@ impl Operations {
     pub fn any<T: Test<Operation>>(&self, test: &T) -> bool
         ensures { result ≡ list_any (T.passes test.now) self.now }
     {
-        self.rows.place(test).is_some()
+        any_row(&self.rows, test)
     }
 
     /// Whether a pending operation may do something at a server: each of its own, or its syncs alone. Where only syncs may, and
@@ -184,14 +212,14 @@ impl Operations {
     }
 
     /// Takes out the operation at a place. It does not allocate.
-    fn take(&mut self, place: usize) -> Option<Operation>
+    fn take(&mut self, place: usize) -> Operation
         requires { place < length self.old }
-        ensures taken { result ≡ slice_get self.old place }
+        ensures taken { Some result ≡ slice_get self.old place }
         ensures left { self.new ≡ remove self.old place }
         ensures fit { AreFit self.old }
     {
-        let operation = self.rows.take(place);
-        self.syncs -= count_in(&operation);
+        let operation = self.rows.remove(place);
+        self.syncs -= count_one(&operation);
         operation
     }
 
@@ -200,10 +228,10 @@ impl Operations {
         ensures taken { TakesFirst self.old result self.new }
         ensures fit { IfSome result (λ o. is_fit o ≡ true) }
     {
-        if self.rows.len() == 0 {
+        if self.rows.is_empty() {
             None
         } else {
-            self.take(0)
+            Some(self.take(0))
         }
     }
 
@@ -246,15 +274,40 @@ impl Operations {
         Ok(picked)
     }
 
-    /// Answers all operations, in order; none is pending any more.
-    fn answer_all(&mut self, answer: &AppAnswer, out: &mut Vec<Output>) -> Result<(), AllocError>
-        ensures told { OnOk result (out.new.items ≡ out.old.items ++ map (client_state.answer_to answer.now) self.old) }
-        ensures grows { length out.old.items ≤ length out.new.items }
+    /// Whether the operation at a place fails the test.
+    fn fails<T: Test<Operation>>(&self, place: usize, test: &T) -> bool
+        ensures { result ≡ option_map_or (λ o. not (T.passes test.now o)) (slice_get self.now place) false }
     {
-        while let Some(operation) = self.take_first() {
-            push_answer(operation.op, answer, out)?;
+        match self.get(place) {
+            Some(operation) => !test.test(operation),
+            None => false,
         }
-        Ok(())
+    }
+
+    /// The operation at a place stays where it fails the test, and else is pending no more. Returns the place of the next one.
+    fn sift<T: Test<Operation>>(&mut self, place: usize, test: &T) -> usize
+        requires { place < length self.old }
+        ensures left { self.new ≡ (if option_map_or (λ o. not (T.passes test.now o)) (slice_get self.old place) false then self.old else remove self.old place) }
+        ensures next { result ≡ (if option_map_or (λ o. not (T.passes test.now o)) (slice_get self.old place) false then place + 1 else place) }
+    {
+        let _len = self.len();
+        if self.fails(place, test) {
+            place + 1
+        } else {
+            self.remove(place);
+            place
+        }
+    }
+
+    /// The operations that pass the test are pending no more. It does not allocate.
+    fn drop_each<T: Test<Operation>>(&mut self, test: &T)
+        ensures { self.new ≡ filter (λ o. not (T.passes test.now o)) self.old }
+    {
+        let count = self.len();
+        let mut place = 0;
+        for _i in 0..count {
+            place = self.sift(place, test);
+        }
     }
 
     /// Answers the operations that pass the test, in order, behind the outputs so far; they are pending no more.
@@ -268,8 +321,9 @@ impl Operations {
         ensures told { OnOk result (out.new.items ≡ out.old.items ++ map (client_state.answer_to answer.now) (filter (T.passes test.now) self.old)) }
         ensures grows { length out.old.items ≤ length out.new.items }
     {
-        let mut picked = self.split(test)?;
-        picked.answer_all(answer, out)
+        answer_rows(&self.rows, test, answer, out)?;
+        self.drop_each(test);
+        Ok(())
     }
 
     /// The operation of the server's outstanding request is stuck, if it is still pending.
@@ -283,47 +337,11 @@ impl Operations {
         Ok(())
     }
 
-    /// All these operations go behind the others.
-    fn append(&mut self, mut rest: Operations) -> Result<(), AllocError>
-        ensures { OnOk result (self.new ≡ self.old ++ rest) }
-    {
-        while let Some(operation) = rest.take_first() {
-            self.keep(operation)?;
-        }
-        Ok(())
-    }
-
-    /// The first of these operations was sent; all of them go behind the others.
-    fn append_sent(&mut self, mut rest: Operations) -> Result<(), AllocError>
-        ensures { OnOk result (self.new ≡ self.old ++ marked 0 rest) }
-    {
-        match rest.take_first() {
-            None => Ok(()),
-            Some(operation) => {
-                self.keep(sent(operation))?;
-                self.append(rest)
-            }
-        }
-    }
-
-    fn keep_first(&mut self, rest: &mut Operations) -> Result<(), AllocError>
-        ensures { OnOk result (KeepsFirst self.old rest.old self.new rest.new) }
-    {
-        match rest.take_first() {
-            None => Ok(()),
-            Some(operation) => self.keep(operation),
-        }
-    }
-
     /// The request of the operation at a place was sent.
     pub fn mark_sent(&mut self, place: usize) -> Result<(), AllocError>
         ensures { OnOk result (self.new ≡ marked place self.old) }
     {
-        let mut rest = self.take_all();
-        for _i in 0..place {
-            self.keep_first(&mut rest)?;
-        }
-        self.append_sent(rest)?;
+        mark_row(&mut self.rows, place);
         Ok(())
     }
 
