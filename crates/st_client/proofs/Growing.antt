@@ -1,6 +1,6 @@
 -- What always stands of associations stands where numbers of commands and outputs grow.
-use Rattle.std.proofs.Common.{◌≡◌, ℕ, suc, zero, ◌+◌, ◌<◌, ◌≤◌, List, [], ◌∷◌, ◌++◌, length, map, ap, subst, ◌∙◌, arith}
-use Rattle.std.specs.Prelude.{Option, Some, None}
+use Rattle.std.proofs.Common.{◌≡◌, ℕ, suc, zero, ◌+◌, ◌<◌, ◌≤◌, List, [], ◌∷◌, ◌++◌, get_or, length, map, sym, ap, subst, ◌∙◌, arith}
+use Rattle.std.specs.Prelude.{Option, Some, None, insert, remove}
 use Rattle.st_client_association.proofs.Kept.{below_more}
 use Rattle.st_client_association.specs.Associations.{ClientAssociation, IsCounted, RequestsBelow}
 use Rattle.st_client_association.specs.Turns.{most_of}
@@ -35,18 +35,30 @@ module _ (n m : ℕ) (out more : List Output) (l : n ≤ m) (g : length out ≤ 
   in_more id config [] i = tt
   in_more id config (a ∷ xs) i = (record { id = i.0.id; config = i.0.config; counted = counted_more a.here i.0.counted }, in_more id config xs i.1)
 
--- one more association
-pub in_last : (id : ClientId) (config : Config) (n : ℕ) (out : List Output) (xs : List ClientAssociation) (a : ClientAssociation) → AreIn id config n out xs → IsIn id config n out a →
-    AreIn id config n out (xs ++ a ∷ [])
-in_last id config n out [] a i j = (j, tt)
-in_last id config n out (x ∷ xs) a i j = (i.0, in_last id config n out xs a i.1 j)
+-- one more association, at a place
+pub in_placed : (id : ClientId) (config : Config) (n : ℕ) (out : List Output) (xs : List ClientAssociation) (i : ℕ) (a : ClientAssociation) → AreIn id config n out xs → IsIn id config n out a →
+    AreIn id config n out (insert xs i a)
+in_placed id config n out xs zero a i j = (j, i)
+in_placed id config n out [] (suc k) a i j = (j, tt)
+in_placed id config n out (x ∷ xs) (suc k) a i j = (i.0, in_placed id config n out xs k a i.1 j)
 
--- the first one, and the others
-pub first_in : (id : ClientId) (config : Config) (n : ℕ) (out : List Output) (xs ys : List ClientAssociation) (a : ClientAssociation) → xs ≡ a ∷ ys → IsMachine id config n out xs → IsIn id config n out a
-first_in id config n out xs ys a e m = (subst (AreIn id config n out) e m.each).0
+-- the one at a place, and the others
+in_at : (id : ClientId) (config : Config) (n : ℕ) (out : List Output) (xs : List ClientAssociation) (i : ℕ) (a : ClientAssociation) → i < length xs → a ≡ get_or xs i a → AreIn id config n out xs → IsIn id config n out a
+in_at id config n out [] i a l e m = absurd (omega (arith, l))
+in_at id config n out (x ∷ xs) zero a l e m = subst (IsIn id config n out) (sym e) m.0
+in_at id config n out (x ∷ xs) (suc i) a l e m = in_at id config n out xs i a (omega (arith, l)) e m.1
 
-pub others_in : (id : ClientId) (config : Config) (n : ℕ) (out : List Output) (xs ys : List ClientAssociation) (a : ClientAssociation) → xs ≡ a ∷ ys → IsMachine id config n out xs → IsMachine id config n out ys
-others_in id config n out xs ys a e m = record { commands = m.commands; each = (subst (AreIn id config n out) e m.each).1 }
+in_others : (id : ClientId) (config : Config) (n : ℕ) (out : List Output) (xs : List ClientAssociation) (i : ℕ) → AreIn id config n out xs → AreIn id config n out (remove xs i)
+in_others id config n out [] zero m = m
+in_others id config n out [] (suc i) m = m
+in_others id config n out (x ∷ xs) zero m = m.1
+in_others id config n out (x ∷ xs) (suc i) m = (m.0, in_others id config n out xs i m.1)
+
+pub one_in : (id : ClientId) (config : Config) (n : ℕ) (out : List Output) (xs : List ClientAssociation) (i : ℕ) (a : ClientAssociation) → i < length xs → a ≡ get_or xs i a → IsMachine id config n out xs → IsIn id config n out a
+one_in id config n out xs i a l e m = in_at id config n out xs i a l e m.each
+
+pub others_in : (id : ClientId) (config : Config) (n : ℕ) (out : List Output) (xs ys : List ClientAssociation) (i : ℕ) → ys ≡ remove xs i → IsMachine id config n out xs → IsMachine id config n out ys
+others_in id config n out xs ys i e m = record { commands = m.commands; each = rw e (in_others id config n out xs i m.each) }
 
 -- one more output
 pub machine_said : (id : ClientId) (config : Config) (n : ℕ) (out more : List Output) (o : Output) (xs : List ClientAssociation) → more ≡ out ++ o ∷ [] → IsMachine id config n out xs → IsMachine id config n more xs
@@ -57,15 +69,10 @@ machine_said id config n out more o xs e i =
     record { commands = k; each = in_more n n out more (same_number n) g k id config xs i.each }
 
 -- one more association, after a rule at it
-pub machine_run : (id : ClientId) (config : Config) (n m : ℕ) (out more : List Output) (xs ys : List ClientAssociation) (a : ClientAssociation) → ys ≡ xs ++ a ∷ [] → n ≤ m → length out ≤ length more →
+pub machine_run : (id : ClientId) (config : Config) (n m : ℕ) (out more : List Output) (xs ys : List ClientAssociation) (p : ℕ) (a : ClientAssociation) → ys ≡ insert xs p a → n ≤ m → length out ≤ length more →
     IsIn id config m more a → IsMachine id config n out xs → IsMachine id config m more ys
-machine_run id config n m out more xs ys a e l g i k =
-    let c = i.counted.commands in record { commands = c; each = rw e (in_last id config m more xs a (in_more n m out more l g c id config xs k.each) i) }
-
--- one more association, where nothing was done
-pub machine_last : (id : ClientId) (config : Config) (n : ℕ) (out : List Output) (xs ys : List ClientAssociation) (a : ClientAssociation) → ys ≡ xs ++ a ∷ [] →
-    IsIn id config n out a → IsMachine id config n out xs → IsMachine id config n out ys
-machine_last id config n out xs ys a e i m = record { commands = m.commands; each = rw e (in_last id config n out xs a m.each i) }
+machine_run id config n m out more xs ys p a e l g i k =
+    let c = i.counted.commands in record { commands = c; each = rw e (in_placed id config m more xs p a (in_more n m out more l g c id config xs k.each) i) }
 
 -- one number more
 pub numbers_more : (first n : ℕ) → map fresh_association (numbers first (suc n)) ≡ map fresh_association (numbers first n) ++ fresh_association (first + n) ∷ []

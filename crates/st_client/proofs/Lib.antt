@@ -12,8 +12,8 @@ pub mod SoundPasses
 pub mod SoundRequests
 pub mod Sends
 pub mod Growing
-pub mod Rotating
-pub mod Idling
+pub mod Placing
+pub mod Returning
 pub mod Ending
 pub mod Advancing
 pub mod HearGrows

@@ -1,11 +1,12 @@
 -- A client's machine: what it has of each server, and what always stands of it.
-use Rattle.std.specs.Prelude.{◌≡◌, ℕ, ◌<◌, Bool, true, List, [], ◌∷◌, map, ⊤}
+use Rattle.std.specs.Prelude.{◌≡◌, ℕ, ◌<◌, Bool, true, List, [], ◌∷◌, insert, length, map, remove, slice_get, swap_remove, ◌+◌, ⊤}
+use Rattle.std.specs.Option.{option_map_or}
 use Rattle.st_client_association.specs.Associations.{ClientAssociation, Grows, IsCounted}
 use Rattle.st_client_association.specs.Turns.{most_of}
 use Rattle.st_base.specs.declared.config.Config.{Config}
 use Rattle.st_base.specs.declared.ids.ClientId.{ClientId}
 use Rattle.st_messages.specs.declared.output.Output.{Output}
-use Rattle.st_rules.specs.ClientState.{Association, ClientState, ClientTurn, Turn, client_turn, enter, leave, with_associations}
+use Rattle.st_rules.specs.ClientState.{Association, ClientState, ClientTurn, Turn, client_turn, enter, with_associations}
 use Rattle.st_client.specs.declared.parts.ClientParts.{ClientParts}
 
 -- the definitions' association
@@ -40,19 +41,30 @@ client_of p = record { id = p.id; config = p.config; associations = map here_of 
 abbrev pub turn_of : ClientParts → ClientTurn
 turn_of p = client_turn (client_of p) p.out.items
 
--- the rule at the first of these associations, which goes last
-abbrev pub first_of : (Turn → Turn) → ClientTurn → List Association → ClientTurn
-first_of rule t [] = t
-first_of rule t (a ∷ more) = leave (with_associations more t) (rule (enter t a))
+-- an association that a rule left comes to a place among the others
+abbrev pub leave_at : ℕ → ClientTurn → Turn → ClientTurn
+leave_at i t r =
+    record {
+      state = record t.state { associations = insert t.state.associations i r.here; operations = r.operations; next_command = r.next_command };
+      out = r.out;
+    }
 
--- the rule at the first association
-abbrev pub at_first : (Turn → Turn) → ClientTurn → ClientTurn
-at_first rule t = first_of rule t t.state.associations
+-- without the association at a place
+abbrev pub without_at : ℕ → ClientTurn → ClientTurn
+without_at i t = with_associations (remove t.state.associations i) t
 
--- the first of these, if there is one, passes the test
-abbrev pub is_first : (Association → Bool) → List Association → Bool
-is_first test [] = true
-is_first test (a ∷ more) = test a
+-- the rule at the association at a place, which stays there
+abbrev pub at_place : (Turn → Turn) → ℕ → ClientTurn → ClientTurn
+at_place rule i t = option_map_or (λ a. leave_at i (without_at i t) (rule (enter t a))) (slice_get t.state.associations i) t
+
+-- the association at a place, if there is one, passes the test
+abbrev pub is_ready_at : (Association → Bool) → ℕ → List Association → Bool
+is_ready_at test i associations = option_map_or test (slice_get associations i) true
+
+-- Of each list from which the one at this place was taken out, the last one coming there: the new list is that one, with this association at the place.
+abbrev pub IsBack : ℕ → List ClientAssociation → List ClientAssociation → ClientAssociation → Type 0
+IsBack i old new a =
+    (xs : List ClientAssociation) (b : ClientAssociation) → i < length xs → length old + 1 ≡ length xs → old ≡ swap_remove xs i b → new ≡ insert (remove xs i) i a
 
 -- a rule at one server stays one of the same client, with the same settings
 abbrev pub Stays : Turn → Turn → Type 0

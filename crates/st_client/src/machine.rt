@@ -1,7 +1,7 @@
-ghost use Rattle.std.specs.Prelude.{◌≡◌, true, false, IfOk, length};
+ghost use Rattle.std.specs.Prelude.{◌≡◌, ◌<◌, true, false, IfOk, OnOk, length};
 ghost use Rattle.std.specs.List.{list_all};
 ghost use Rattle.st_client.specs.Idle.{IsIdle};
-ghost use Rattle.st_client.specs.Machines.{IsIn, at_first, is_first};
+ghost use Rattle.st_client.specs.Machines.{IsBack, at_place, is_ready_at};
 ghost use Rattle.st_rules.specs.ClientState as client;
 
 use crate::parts::ClientParts;
@@ -28,15 +28,34 @@ impl Model for ClientMachine {
     ghost invariant = { λ m. IsMachineOf m.parts.value };
 }
 
+/// Puts an association in the place from which one was taken out: the last one, which came there, goes last again.
+fn put_back(
+    associations: &mut Vec<Association>,
+    place: usize,
+    a: Association,
+) -> Result<(), AllocError>
+    ensures { OnOk result (IsBack place associations.old.items associations.new.items a) }
+{
+    if place < associations.len() {
+        let last = mem::replace(&mut associations[place], a);
+        associations.push(last)?;
+        Ok(())
+    } else {
+        associations.push(a)?;
+        Ok(())
+    }
+}
+
 impl ClientMachine {
-    /// A rule at one association, which goes last then.
-    fn at_one<R: Rule>(self, rule: &R, a: Association) -> Result<ClientMachine, AllocError>
-        requires one { IsIn self.state.id self.state.config self.state.next_command self.out a }
-        requires ready { R.is_ready rule.now self.state.config a.here ≡ true }
-        ensures { IfOk result (λ m. m ≡ client.leave self (R.run rule.now (client.enter self a.here))) }
+    /// A rule at the association at a place, which stays there.
+    fn at_place<R: Rule>(self, rule: &R, place: usize) -> Result<ClientMachine, AllocError>
+        requires within { place < length self.state.associations }
+        requires ready { is_ready_at (R.is_ready rule.now self.state.config) place self.state.associations ≡ true }
+        ensures { IfOk result (λ m. m ≡ at_place (R.run rule.now) place self) }
     {
         let ClientMachine { mut parts } = self;
         let here: &mut ClientParts = &mut parts;
+        let a = here.associations.swap_remove(place);
         let operations = here.operations.take_all();
         let out = mem::replace(&mut here.out, Vec::new(here.alloc));
         let mut turn = a.enter(here.alloc, operations, here.next_command, out);
@@ -45,17 +64,7 @@ impl ClientMachine {
         here.operations = operations;
         here.next_command = next_command;
         here.out = out;
-        here.associations.push_back(a)?;
-        Ok(ClientMachine { parts })
-    }
-
-    /// An association where nothing is done goes last.
-    fn passed_by(self, a: Association) -> Result<ClientMachine, AllocError>
-        requires one { IsIn self.state.id self.state.config self.state.next_command self.out a }
-        ensures { IfOk result (λ m. m ≡ client.leave self (client.enter self a.here)) }
-    {
-        let ClientMachine { mut parts } = self;
-        parts.associations.push_back(a)?;
+        put_back(&mut here.associations, place, a)?;
         Ok(ClientMachine { parts })
     }
 
@@ -66,30 +75,24 @@ impl ClientMachine {
         rule.touches(a, &self.parts.operations)
     }
 
-    /// A rule at one association, where it may do anything there; the association goes last.
-    fn at_next<R: Rule>(self, rule: &R, a: Association) -> Result<ClientMachine, AllocError>
-        requires one { IsIn self.state.id self.state.config self.state.next_command self.out a }
-        requires ready { R.is_ready rule.now self.state.config a.here ≡ true }
-        ensures { IfOk result (λ m. m ≡ client.leave self (R.run rule.now (client.enter self a.here))) }
+    /// Whether a rule may do anything at the association at a place.
+    fn is_touched_at<R: Rule>(&self, rule: &R, place: usize) -> bool
+        requires { place < length self.now.state.associations }
+        ensures { result ≡ false → at_place (R.run rule.now) place self.now ≡ self.now }
     {
-        if self.is_touched(rule, &a) {
-            self.at_one(rule, a)
-        } else {
-            self.passed_by(a)
-        }
+        self.is_touched(rule, &self.parts.associations[place])
     }
 
-    /// A rule at the first association, which goes last.
-    fn at_first<R: Rule>(self, rule: &R) -> Result<ClientMachine, AllocError>
-        requires { is_first (R.is_ready rule.now self.state.config) self.state.associations ≡ true }
-        ensures { IfOk result (λ m. m ≡ at_first (R.run rule.now) self) }
+    /// A rule at the association at a place, which is not moved where the rule does nothing there.
+    fn at_next<R: Rule>(self, rule: &R, place: usize) -> Result<ClientMachine, AllocError>
+        requires within { place < length self.state.associations }
+        requires ready { is_ready_at (R.is_ready rule.now self.state.config) place self.state.associations ≡ true }
+        ensures { IfOk result (λ m. m ≡ at_place (R.run rule.now) place self) }
     {
-        let ClientMachine { mut parts } = self;
-        let first = parts.associations.pop_front();
-        let machine = ClientMachine { parts };
-        match first {
-            Some(a) => machine.at_next(rule, a),
-            None => Ok(machine),
+        if self.is_touched_at(rule, place) {
+            self.at_place(rule, place)
+        } else {
+            Ok(self)
         }
     }
 
@@ -107,33 +110,9 @@ impl ClientMachine {
     {
         let count = self.count();
         let mut machine = self;
-        for _ in 0..count {
-            machine = machine.at_first(rule)?;
+        for place in 0..count {
+            machine = machine.at_next(rule, place)?;
         }
         Ok(machine)
-    }
-
-    /// Whether a rule may do anything at any association.
-    fn is_touched_somewhere<R: Rule>(&self, rule: &R) -> bool
-        ensures { result ≡ false → client.at_each (R.run rule.now) self.now ≡ self.now }
-    {
-        for a in self.parts.associations.iter() {
-            if self.is_touched(rule, a) {
-                return true;
-            }
-        }
-        false
-    }
-
-    /// A rule at each association, in order. Where it does nothing anywhere, they stay as they are.
-    pub(crate) fn at_any<R: Rule>(self, rule: &R) -> Result<ClientMachine, AllocError>
-        requires { list_all (R.is_ready rule.now self.state.config) self.state.associations ≡ true }
-        ensures { IfOk result (λ m. m ≡ client.at_each (R.run rule.now) self) }
-    {
-        if self.is_touched_somewhere(rule) {
-            self.at_each(rule)
-        } else {
-            Ok(self)
-        }
     }
 }

@@ -21,7 +21,6 @@ use st_messages::Outputs;
 use st_operations::Operations;
 use st_rules::{ClientInput, LeaseLife, Phase};
 use std::alloc::{AllocError, Global};
-use std::collections::VecDeque;
 use std::marker::Model;
 use std::mem;
 
@@ -200,7 +199,7 @@ impl State {
             alloc,
             id,
             config: *config,
-            associations: VecDeque::new(alloc),
+            associations: Vec::new(alloc),
             operations: Operations::new(alloc),
             next_command: 1,
             out: Vec::new(alloc),
@@ -219,7 +218,7 @@ impl State {
         let State { mut parts } = self;
         let here: &mut ClientParts = &mut parts;
         let a = Association::new(here.alloc, here.id, &here.config, server, life)?;
-        here.associations.push_back(a)?;
+        here.associations.push(a)?;
         Ok(State { parts })
     }
 }

@@ -23,7 +23,7 @@ impl ClientMachine {
         ensures rule { IfOk result (λ m. m ≡ client.losses self now) }
         ensures last { IfOk result (λ m. all_last m.state now ≡ true) }
     {
-        self.at_any(&Lose { now })
+        self.at_each(&Lose { now })
     }
 
     /// A message, at each server.

@@ -1,21 +1,25 @@
 use Rattle.std.proofs.Common.{◌≤◌, arith}
-use Rattle.st_client.proofs.Rotating.{all_left, next_at, none_at, ready_at}
+use Rattle.st_client.proofs.Placing.{all_done, next_done, next_ready, next_within, none_done}
 use Rattle.st_client.proofs.machine.ClientMachine.at_each.Goals as goal
 
-pub loop-init : goal.loop-init
-loop-init g c = all_left (g.R.Rule.run c.args.rule.now) (g.R.Rule.is_ready c.args.rule.now) c.args.self c.count-count.result c.count-count.ensures c.requires
+pub loop-place-init : goal.loop-place-init
+loop-place-init g c = none_done (g.R.Rule.run c.args.rule.now) (g.R.Rule.is_ready c.args.rule.now) c.args.self c.count-count.result c.count-count.ensures c.requires
 
-pub at_first-requires : goal.at_first-requires
-at_first-requires g c =
-    ready_at (g.R.Rule.run c.args.rule.now) (g.R.Rule.is_ready c.args.rule.now) c.count-count.result c.loop.counter c.loop.machine _ c.loop-test.true c.loop.invariant
+pub at_next-requires-clause-within : goal.at_next-requires-clause-within
+at_next-requires-clause-within g c =
+    next_within (g.R.Rule.run c.args.rule.now) (g.R.Rule.is_ready c.args.rule.now) c.count-count.result c.loop-place.place c.loop-place.machine _ c.loop-place-test.true c.loop-place.invariant
 
-pub loop-preserved : goal.loop-preserved
-loop-preserved g c =
-    next_at (g.R.Rule.run c.args.rule.now) (g.R.Rule.is_ready c.args.rule.now) c.count-count.result c.loop.counter c.loop.machine c.in_ok-machine.machine _ c.loop-test.true c.in_ok-machine.ensures
-    c.loop.invariant
+pub at_next-requires-clause-ready : goal.at_next-requires-clause-ready
+at_next-requires-clause-ready g c =
+    next_ready (g.R.Rule.run c.args.rule.now) (g.R.Rule.is_ready c.args.rule.now) c.count-count.result c.loop-place.place c.loop-place.machine _ c.loop-place-test.true c.loop-place.invariant
+
+pub loop-place-preserved : goal.loop-place-preserved
+loop-place-preserved g c =
+    next_done (g.R.Rule.run c.args.rule.now) (g.R.Rule.is_ready c.args.rule.now) c.count-count.result c.loop-place.place c.loop-place.machine c.in_ok-machine.machine _ c.loop-place-test.true
+    c.in_ok-machine.ensures c.loop-place.invariant
 
 pub returns : goal.returns
 returns g c =
-    let l = c.loop-test.false in
-    let e : c.count-count.result ≤ c.loop.counter = omega (arith, l) in
-    none_at (g.R.Rule.run c.args.rule.now) (g.R.Rule.is_ready c.args.rule.now) c.count-count.result c.loop.counter c.loop.machine _ e c.loop.invariant
+    let l = c.loop-place-test.false in
+    let e : c.count-count.result ≤ c.loop-place.place = omega (arith, l) in
+    all_done (g.R.Rule.run c.args.rule.now) (g.R.Rule.is_ready c.args.rule.now) c.count-count.result c.loop-place.place c.loop-place.machine _ e c.loop-place.invariant

@@ -2,5 +2,5 @@ use Rattle.std.proofs.Common.{true, refl}
 use Rattle.st_client.proofs.AllLast.{all_same}
 use Rattle.st_client.proofs.machine.ClientMachine.losses.Goals as goal
 
-pub at_any-requires : goal.at_any-requires
-at_any-requires c = all_same true c.args.self.state.associations refl
+pub at_each-requires : goal.at_each-requires
+at_each-requires c = all_same true c.args.self.state.associations refl

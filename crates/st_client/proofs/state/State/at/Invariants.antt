@@ -1,6 +1,5 @@
-use Rattle.std.proofs.Common.{◌≡◌, map}
+use Rattle.std.proofs.Common.{◌≡◌, map, drop}
 use Rattle.std.specs.Prelude.{find}
-use Rattle.std.specs.VecDeque.Iter.{deque_iter_rest}
 use Rattle.st_client.specs.Machines.{here_of}
 use Rattle.st_client.specs.Nodes.{AreGiven}
 use Rattle.st_rules.specs.ClientState.{is_at}
@@ -8,6 +7,6 @@ use Rattle.st_client.proofs.state.State.at.Given as goal
 
 abbrev pub invariant-loop-a : goal.invariant-loop-a
 invariant-loop-a l = record {
-  found : find (is_at l.server) (map here_of (deque_iter_rest l.a-iterator)) ≡ find (is_at l.server) l.self.associations;
-  given : AreGiven l.self.id l.self.config l.self.next_command (deque_iter_rest l.a-iterator);
+  found : find (is_at l.server) (map here_of (drop l.a-index l.a-items)) ≡ find (is_at l.server) l.self.associations;
+  given : AreGiven l.self.id l.self.config l.self.next_command (drop l.a-index l.a-items);
 }

@@ -1,8 +1,7 @@
-use Rattle.std.proofs.Common.{◌≡◌, ◌++◌, map}
-use Rattle.std.specs.VecDeque.Iter.{deque_iter_rest}
+use Rattle.std.proofs.Common.{◌≡◌, ◌++◌, map, drop}
 use Rattle.st_client.specs.Machines.{here_of}
 use Rattle.st_client.specs.Nodes.{server_at}
 use Rattle.st_client.proofs.state.State.servers.Given as goal
 
 abbrev pub invariant-loop-a : goal.invariant-loop-a
-invariant-loop-a l = l.servers.items ++ map server_at (map here_of (deque_iter_rest l.a-iterator)) ≡ map server_at l.self.associations
+invariant-loop-a l = l.servers.items ++ map server_at (map here_of (drop l.a-index l.a-items)) ≡ map server_at l.self.associations

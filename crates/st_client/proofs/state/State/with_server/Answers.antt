@@ -8,6 +8,6 @@ invariant_of-result c =
     let x = c.deref_mut-here.result.now in
     let r = subst IsResting (sym c.deref_mut-here.ensures.value) c.self.invariant in
     record {
-      given = given_last x.id x.config x.next_command x.associations.items c.push_back.new.self.items c.in_ok-a.a c.args.life c.args.server c.in_ok-push_back.ensures.items c.in_ok-a.ensures r.given;
+      given = given_last x.id x.config x.next_command x.associations.items c.push.new.self.items c.in_ok-a.a c.args.life c.args.server c.in_ok-push.ensures.items c.in_ok-a.ensures r.given;
       empty = r.empty;
     }
