@@ -1,8 +1,11 @@
 -- Whether anything is in a list.
-use Rattle.std.proofs.Common.{◌≡◌, List, [], ◌∷◌, length, refl, arith}
-use Rattle.std.specs.Prelude.{false, is_some, nat_lt, slice_get}
+use Rattle.std.proofs.Common.{◌≡◌, ℕ, List, [], ◌∷◌, if◌then◌else◌, length, map, refl, sym, arith}
+use Rattle.std.specs.Prelude.{◌==◌, Bool, true, false, is_some, nat_lt, slice_get}
 use Rattle.std.proofs.lemmas.Bool.{lt-ltb}
+use Rattle.st_rules.specs.declared.client.DemandedFile.{DemandedFile}
 use Rattle.st_rules.specs.Client.{is_any}
+use Rattle.st_rules.specs.ClientLocks.{ino_of_demand}
+use Rattle.st_rules.specs.Keys.{past, placed, rising, with_key}
 
 pub any_is : {A : Type 0} (xs : List A) → nat_lt 0 (length xs) ≡ is_any xs
 any_is [] = refl
@@ -13,7 +16,19 @@ pub any_first : {A : Type 0} (xs : List A) → is_some (slice_get xs 0) ≡ is_a
 any_first [] = refl
 any_first (x ∷ xs) = refl
 
--- where there is none
-pub none_in : {A : Type 0} (xs : List A) → length xs ≡ 0 → is_any xs ≡ false
-none_in [] e = refl
-none_in (x ∷ xs) e = cc
+-- a key is in the list that it is put into
+any_placed : (k : ℕ) (xs : List ℕ) → is_any (with_key k xs) ≡ true
+unfolding with_key placed past
+any_placed k [] = refl
+any_placed k (x ∷ xs) = by (nat_lt k x) (k == x)
+  where
+    by : (a b : Bool) → is_any (if a then k ∷ (x ∷ xs) else (if b then x ∷ xs else x ∷ with_key k xs)) ≡ true
+    by true b = refl
+    by false true = refl
+    by false false = refl
+
+-- a file is demanded where there is a demand
+pub any_demanded : (ds : List DemandedFile) → is_any ds ≡ is_any (rising (map ino_of_demand ds))
+unfolding rising
+any_demanded [] = refl
+any_demanded (d ∷ ds) = sym (any_placed d.ino (rising (map ino_of_demand ds)))

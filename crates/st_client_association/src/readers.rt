@@ -85,7 +85,7 @@ impl Association {
         }
     }
 
-    /// Whether anything waits or is due at a session. It may say so of one where memory runs out.
+    /// Whether anything waits or is due at a session.
     fn is_session_awake(&self, session: &Session, now: Stamp, tick: bool) -> bool
         requires config { session.now.of.config ≡ self.now.config }
         ensures { result ≡ false → is_awake_by self.now.config now tick self.now.here.store (Some session.now.session) ≡ false }
@@ -93,7 +93,7 @@ impl Association {
         has_demands(session) || self.has_dirty() || may_send(session, now, tick)
     }
 
-    /// Whether anything waits or is due at the server, pending operations apart. It may say so where memory runs out.
+    /// Whether anything waits or is due at the server, pending operations apart.
     pub fn is_awake(&self, now: Stamp, tick: bool) -> bool
         ensures { result ≡ false → is_awake self.now.config now tick self.now.here ≡ false }
     {
@@ -157,13 +157,10 @@ fn may_send(session: &Session, now: Stamp, tick: bool) -> bool
     }
 }
 
-/// Whether a file is demanded. It may say so where memory runs out.
-#[tactic(auto, using(crate::proofs::Emptiness::none_in))]
+/// Whether a file is demanded.
+#[tactic(auto, using(crate::proofs::Emptiness::any_demanded))]
 fn has_demands(session: &Session) -> bool
-    ensures { result ≡ false → client.is_any (locks.demanded_files session.now.session.locks) ≡ false }
+    ensures { result ≡ client.is_any (locks.demanded_files session.now.session.locks) }
 {
-    match session.demanded_files() {
-        Ok(files) => !files.is_empty(),
-        Err(_) => true,
-    }
+    session.has_demands()
 }

@@ -2,6 +2,7 @@
 ghost use Rattle.std.specs.Prelude.{◌≡◌, ◌≤◌, ◌^◌, true, false, None, IfOk, OnOk, is_some, option_map};
 ghost use Rattle.st_client_association.specs.Turns.{Reduces, SendsAgain, TakesRelease, again_if_due, has_session, session_of};
 ghost use Rattle.st_requests.specs.ServerRequests.{body_of};
+ghost use Rattle.st_rules.specs.Client.{is_any};
 ghost use Rattle.st_rules.specs.ClientInvariants.{lasts_here};
 ghost use Rattle.st_rules.specs.ClientLease as leases;
 ghost use Rattle.st_rules.specs.ClientLocks as locks;
@@ -105,6 +106,14 @@ impl Turn {
         ensures { result ≡ is_some (session_of self.now).requests.asked }
     {
         self.session().has_asked()
+    }
+
+    /// Whether a file is demanded. It does not allocate.
+    pub fn has_demands(&self) -> bool
+        requires { has_session self.now ≡ true }
+        ensures { result ≡ is_any (session_of self.now).locks.demanded }
+    {
+        self.session().has_demands()
     }
 
     /// The files that are demanded, in rising order.

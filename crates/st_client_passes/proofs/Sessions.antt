@@ -1,10 +1,11 @@
 -- What is done with a session, by the session that there is.
-use Rattle.std.proofs.Common.{◌≡◌, ℕ, Bool, true, false, not, List, Option, Some, None, refl, sym, ap, ◌∙◌, true≢false}
+use Rattle.std.proofs.Common.{◌≡◌, ℕ, Bool, true, false, not, List, [], ◌∷◌, map, Option, Some, None, refl, sym, ap, ◌∙◌, true≢false}
 use Rattle.std.specs.Prelude.{is_some}
 use Rattle.st_base.specs.declared.ids.Stamp.{Stamp}
 use Rattle.st_rules.specs.declared.client.Operation.{Operation}
 use Rattle.st_rules.specs.declared.client.StandingKind.{StandingKind}
 use Rattle.st_rules.specs.declared.client.StandingKind.TheVariants as kinds
+use Rattle.st_rules.specs.Client.{is_any}
 use Rattle.st_rules.specs.ClientInvariants.{lasts_here, lasts_in}
 use Rattle.st_rules.specs.ClientLease.{may_use, must_discard, standing_of}
 use Rattle.st_rules.specs.ClientLocks as locks
@@ -12,6 +13,7 @@ use Rattle.st_rules.specs.ClientLocks.{LockCache}
 use Rattle.st_rules.specs.ClientPages as pages
 use Rattle.st_rules.specs.ClientPasses.{operate_by, operate_under, reduce, reduce_idle, reductions, reduce_each, files_demanded, writes, writes_by, write_each, greeting, greeting_by, greet, requests, requests_by, requests_under}
 use Rattle.st_rules.specs.ClientState.{ClientSession, Turn, keep, is_serving}
+use Rattle.st_rules.specs.Keys.{rising}
 use Rattle.st_client_association.specs.Turns.{has_session, session_of}
 
 -- with this session, or none
@@ -52,6 +54,19 @@ reduce_without t ino h = ap (reduce t ino) (no_session t h)
 pub reductions_with : (t : Turn) → has_session t ≡ true → reductions t ≡ reduce_each (locks.demanded_files (session_of t).locks) t
 unfolding reductions
 reductions_with t h = ap (λ s. reduce_each (files_demanded s) t) (session_is t h)
+
+nothing_in : {A : Type 0} (xs : List A) → is_any xs ≡ false → xs ≡ []
+nothing_in [] e = refl
+nothing_in (x ∷ xs) e = absurd (true≢false e)
+
+-- where no lock is demanded, no file is
+pub none_demanded : (c : LockCache) → is_any c.demanded ≡ false → locks.demanded_files c ≡ []
+unfolding rising
+none_demanded c e = ap (λ ds. rising (map locks.ino_of_demand ds)) (nothing_in c.demanded e)
+
+pub reductions_none : (t : Turn) → has_session t ≡ true → is_any (session_of t).locks.demanded ≡ false → reductions t ≡ t
+unfolding reduce_each
+reductions_none t h e = reductions_with t h ∙ ap (λ files. reduce_each files t) (none_demanded (session_of t).locks e)
 
 pub reductions_without : (t : Turn) → has_session t ≡ false → reductions t ≡ t
 unfolding reductions reduce_each

@@ -89,12 +89,24 @@ fn reduce_all(t: &mut Turn) -> Result<(), AllocError>
     reduce_each(t, files.as_slice())
 }
 
+/// Where no file is demanded there are none.
+fn reduce_demanded(t: &mut Turn) -> Result<(), AllocError>
+    requires { has_session t.old ≡ true }
+    ensures { OnOk result (t.new ≡ passes.reductions t.old) }
+{
+    if t.has_demands() {
+        reduce_all(t)
+    } else {
+        Ok(())
+    }
+}
+
 /// Reductions, by rising file.
 pub fn reductions(t: &mut Turn) -> Result<(), AllocError>
     ensures { OnOk result (t.new ≡ passes.reductions t.old) }
 {
     if t.has_session() {
-        reduce_all(t)
+        reduce_demanded(t)
     } else {
         Ok(())
     }

@@ -1,5 +1,5 @@
 // Writes of dirty pages to their disks.
-ghost use Rattle.std.specs.Prelude.{◌≡◌, false, true, IfOk, OnOk};
+ghost use Rattle.std.specs.Prelude.{◌≡◌, false, true, OnOk};
 ghost use Rattle.std.specs.Option.{option_map_or};
 ghost use Rattle.st_client_association.specs.Turns.{has_session, session_of};
 ghost use Rattle.st_rules.specs.ClientInvariants.{lasts_here};
@@ -174,16 +174,12 @@ fn write_all(t: &mut Turn, now: Stamp, tick: bool) -> Result<(), AllocError>
 }
 
 /// Whether a file is wanted: one is demanded, or an operation waits for its pages.
-fn wants(t: &Turn) -> Result<bool, AllocError>
+fn wants(t: &Turn) -> bool
     requires { has_session t.now ≡ true }
-    ensures { IfOk result (λ b. b ≡ false → MayRest t.now) }
+    ensures { result ≡ false → MayRest t.now }
 {
     let here = WantsWrites { server: t.server() };
-    if t.operations().any(&here) {
-        return Ok(true);
-    }
-    let files = t.demanded_files()?;
-    Ok(!files.is_empty())
+    t.has_demands() || t.operations().any(&here)
 }
 
 /// In other phases than flush: where no file is wanted, no page is looked at.
@@ -193,7 +189,7 @@ fn write_wanted(t: &mut Turn, now: Stamp, tick: bool) -> Result<(), AllocError>
     requires other { drains_at t.old now ≡ false }
     ensures { OnOk result (t.new ≡ passes.writes now tick t.old) }
 {
-    if wants(t)? {
+    if wants(t) {
         write_all(t, now, tick)
     } else {
         Ok(())

@@ -1,6 +1,7 @@
 // The locks of a session, its waits and its releases.
 ghost use Rattle.std.specs.Prelude.{◌≡◌, ◌∷◌, ◌++◌, [], true, Some, None, IfOk, OnOk, OnErr, slice_get};
 ghost use Rattle.st_client_session.specs.Sessions.{with_session};
+ghost use Rattle.st_rules.specs.Client.{is_any};
 ghost use Rattle.st_rules.specs.ClientLocks as locks;
 ghost use Rattle.st_rules.specs.ClientReplies as replies;
 ghost use Rattle.st_rules.specs.ClientState as client;
@@ -32,6 +33,13 @@ impl Session {
         ensures { result ≡ locks.is_demanded self.now.session.locks ino }
     {
         self.locks.demanded(ino)
+    }
+
+    /// Whether a file is demanded. It does not allocate.
+    pub fn has_demands(&self) -> bool
+        ensures { result ≡ is_any self.now.session.locks.demanded }
+    {
+        self.locks.has_demands()
     }
 
     /// The files that are demanded, in rising order.

@@ -1,3 +1,4 @@
 pub mod Once
 pub mod Tables
 pub mod Kept
+pub mod Emptiness

@@ -1,8 +1,11 @@
 ghost use Rattle.std.specs.Prelude.{◌≡◌, ◌≤◌, true, Some, None, IfOk, OnOk, OnErr};
+ghost use Rattle.st_rules.specs.Client.{is_any};
 ghost use Rattle.st_rules.specs.ClientLocks as locks;
 ghost use Rattle.st_lock_cache.specs.Calls.{Demands, Installs, IsCached, Reduces, no_locks_of, with_locks};
 
-use crate::demands::{demand_of, demanded_files, drop_demand, is_demanded, put_demand};
+use crate::demands::{
+    demand_of, demanded_files, drop_demand, has_demands, is_demanded, put_demand,
+};
 use crate::held::{lock_of, lower_rows, push_lock, put_lock, put_over, seen_row};
 use crate::rows::{LockRow, SeenRow, key};
 use st_base::{GrantNo, Mode, ServerId};
@@ -112,6 +115,13 @@ impl LockCache {
         ensures { result ≡ locks.is_demanded self.now.locks ino }
     {
         is_demanded(&self.demands, ino)
+    }
+
+    /// Whether a file is demanded. It does not allocate.
+    pub fn has_demands(&self) -> bool
+        ensures { result ≡ is_any self.now.locks.demanded }
+    {
+        has_demands(&self.demands)
     }
 
     /// The files of which a lock is demanded, in rising order.

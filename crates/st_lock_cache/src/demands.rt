@@ -1,6 +1,7 @@
 // What is demanded of a client's locks: a list, of which a file is in at most once.
 ghost use Rattle.std.specs.Prelude.{◌≡◌, ◌≤◌, ◌<◌, IfOk, find, map, vec_capacity, vec_len};
 ghost use Rattle.std.specs.List.{list_any};
+ghost use Rattle.st_rules.specs.Client.{is_any};
 ghost use Rattle.st_rules.specs.ClientLocks as locks;
 ghost use Rattle.st_rules.specs.Keys.{rising};
 
@@ -20,6 +21,14 @@ pub fn is_demanded(demands: &[DemandedFile], ino: u32) -> bool
     ensures { result ≡ list_any (locks.is_demand_on ino) demands.now }
 {
     demands.iter().any(|demand| demand.ino == ino)
+}
+
+/// Whether there is a demand.
+#[tactic(auto, using(crate::proofs::Emptiness::any_is))]
+pub fn has_demands(demands: &[DemandedFile]) -> bool
+    ensures { result ≡ is_any demands.now }
+{
+    demands.len() > 0
 }
 
 /// Takes out the demand on the file.

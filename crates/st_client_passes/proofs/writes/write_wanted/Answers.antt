@@ -5,7 +5,7 @@ use Rattle.st_client_passes.proofs.Idle.{writes_idle}
 use Rattle.st_client_passes.proofs.Sessions.{session_is}
 use Rattle.st_client_passes.proofs.writes.write_wanted.Goals as goal
 
-pub returns-else-branch : goal.returns-else-branch
-returns-else-branch c =
-    let rest : MayRest c.args.t.now = c.in_ok-wants.ensures c.if-branch.false in
+pub returns-else-wants : goal.returns-else-wants
+returns-else-wants c =
+    let rest : MayRest c.args.t.now = c.wants.ensures c.if-wants.false in
     sym (writes_idle (session_of c.args.t.now) c.args.now c.args.tick c.args.t.now (session_is c.args.t.now c.requires.session) c.requires.other rest.demanded rest.waiting)

@@ -1,0 +1,6 @@
+use Rattle.std.proofs.Common.{◌∙◌, sym}
+use Rattle.st_client_passes.proofs.Sessions.{reductions_none}
+use Rattle.st_client_passes.proofs.reductions.reduce_demanded.Goals as goal
+
+pub returns-else-has_demands : goal.returns-else-has_demands
+returns-else-has_demands c = sym (reductions_none c.args.t.now c.requires (sym c.has_demands.ensures ∙ c.if-has_demands.false))
