@@ -125,6 +125,7 @@ impl PageBytes {
         ensures whole { result ≡ 4096 }
         ensures page { length self.now ≡ 4096 }
     {
+        // Read for what always holds of a page: its bytes are 4,096.
         let _content = &self.content;
         4096
     }

@@ -18,6 +18,7 @@ impl Turn {
         ensures matched { AreMatched self.now.here.store.pages.dirty self.now.here.store.commands }
         ensures apart { AreApart self.now.here.store.commands }
     {
+        // For the clauses `matched` of the first and `apart` of the second: the commands match the dirty pages, and are apart.
         let _dirty = self.here.store.dirty_count();
         let _on = self.here.store.command_on(0, PageNo(0));
         match self.here.store.command(number) {

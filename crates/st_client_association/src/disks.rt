@@ -50,6 +50,7 @@ impl Turn {
             at: mapping.at,
             what: Command::Read { at: mapping.at },
         })?;
+        // For its clause `small`: numbers of commands have room for one more output.
         let _count = count(&self.out);
         let here = &mut *self.here;
         match &mut here.session {
@@ -94,6 +95,7 @@ impl Turn {
         requires serving { client.is_serving self.old.config (session_of self.old) now ≡ true }
         ensures { IfOk result (λ v. Changes self.old self.new v ino page bytes.now note) }
     {
+        // For its clause `small`: numbers of commands have room for one more output.
         let _count = count(&self.out);
         self.out.reserve(1)?;
         let here = &mut *self.here;
@@ -141,6 +143,7 @@ impl Turn {
                 bytes: dirty.bytes,
             },
         })?;
+        // For its clause `small`: numbers of commands have room for one more output.
         let _count = count(&self.out);
         let here = &mut *self.here;
         match &mut here.session {

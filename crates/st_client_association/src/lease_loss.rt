@@ -82,6 +82,7 @@ impl Turn {
         requires lives { self.old.here.life.0 + 1 < most_of self.old.out }
         ensures { self.new ≡ node.empty_here self.old }
     {
+        // For its clause `small`: the number of the next life has room.
         let _count = crate::outputs::count(&self.out);
         match self.here.session.take() {
             Some(session) => session.end_lost(&mut self.here.store, now),

@@ -308,6 +308,7 @@ impl Turn {
         requires free { (session_of self.old).requests.asked ≡ None }
         ensures { OnOk result (self.new ≡ passes.ask self.old (session_of self.old) now body cutting) }
     {
+        // For its clause `small`: the number of the next request has room.
         let _count = count(&self.out);
         self.out.reserve(1)?;
         let message = match &mut self.here.session {

@@ -173,6 +173,7 @@ fn finish_command(
     requires outstanding { pages.command_of t.old.here.store.commands c.number ≡ Some c }
     ensures { OnOk result (t.new ≡ rules.finish_command t.old c ok block.now) }
 {
+    // For its clauses `matched` and `apart`: no other outstanding command writes the page, unless it is not dirty.
     let _c = t.command(c.number);
     let version = t.version(c.ino, c.page);
     let ended = t.end_command(c.number, ok, version);

@@ -113,6 +113,7 @@ impl Session {
         ensures asked { self.new.session.requests ≡ self.old.session.requests }
         ensures err { OnErr result (self.new ≡ self.old) }
     {
+        // Whether the cache took the lock is not asked: the grant is above the greatest seen.
         let _taken = self.locks.install(ino, g, mode)?;
         Ok(())
     }

@@ -109,6 +109,7 @@ impl Session {
     pub fn begin_epoch(&mut self, epoch: Epoch)
         ensures { self.new ≡ with_session (replies.in_epoch epoch self.old.session) self.old }
     {
+        // The body of the request that was outstanding is dropped.
         let _body = self.requests.new_epoch();
         self.epoch = epoch;
         self.cutting = None;

@@ -100,6 +100,7 @@ impl Session {
     pub fn is_condemned(&self) -> bool
         ensures { result ≡ self.now.session.lease.condemned }
     {
+        // Read for what always holds of a session: its own mark is the one of the lease.
         let _lease = &self.lease;
         self.condemned
     }

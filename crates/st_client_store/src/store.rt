@@ -53,6 +53,7 @@ impl Store {
         ensures count { result ≡ length self.now.store.pages.dirty }
         ensures matched { AreMatched self.now.store.pages.dirty self.now.store.commands }
     {
+        // Read for what always holds of a store: its commands match its dirty pages.
         let _commands = &self.commands;
         self.pages.dirty_count()
     }

@@ -44,6 +44,7 @@ fn keep(indexes: &mut IndexMap<PlaceKey, usize>, key: PlaceKey, index: usize)
     requires { 0 < spare indexes.old }
     ensures { (q : PlaceKey) → get same_place indexes.new q ≡ (if same_place key q then Some index else get same_place indexes.old q) }
 {
+    // The index that stood there is dropped; there is room, so no memory is taken.
     let _old = indexes.insert(key, index).unwrap();
 }
 

@@ -115,6 +115,7 @@ pub fn take_first(runs: &mut VecDeque<FreeRun>, place: u32)
     let last = runs.len() - 1;
     let end = runs[last].end;
     if end == place + 1 {
+        // The run is empty now.
         let _gone = runs.pop_back();
     } else {
         write(

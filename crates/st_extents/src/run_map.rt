@@ -52,6 +52,7 @@ fn write(map: &mut RunMap, key: RunKey, run: Run)
     ensures ordered { IsOrdered run_order map.new }
 {
     let done: Result<_, _> = map.insert(key, run);
+    // The run that stood there is dropped; its key is there, so no memory is taken.
     let _old = done.unwrap();
 }
 

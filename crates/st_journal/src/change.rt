@@ -124,6 +124,7 @@ fn put_rename(
 fn has_word(dir: u32) -> bool
     ensures { result ≡ changes.is_word32 dir }
 {
+    // Read for its range: a number of four bytes.
     let _dir = dir;
     true
 }

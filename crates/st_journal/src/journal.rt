@@ -213,6 +213,7 @@ impl<D: Store + Drop> Journal<D> {
         if self.broken {
             return Err(JournalFault::Broken);
         }
+        // For its clause: the numbers of the change have the widths of its bytes.
         let _words = change.has_words();
         match append_at(self.alloc, &mut self.store, self.gate, change) {
             Ok(count) => {

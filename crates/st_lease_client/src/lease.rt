@@ -99,6 +99,7 @@ impl Lease {
         ensures lease { self.new ≡ leases.begun stamp self.old }
         ensures standing { result ≡ leases.settled self.new now }
     {
+        // The receipt is spent; where it was given does not matter.
         let _at = receipt.spend();
         self.held = Some(HeldLease::new(stamp));
         self.standing(now)
@@ -115,6 +116,7 @@ impl Lease {
         ensures lease { self.new ≡ leases.renewed stamp self.old }
         ensures standing { result ≡ leases.settled self.new now }
     {
+        // The standing is spent; its moment is `now`.
         let _at = standing.spend();
         self.held = self.held.map(|held| held.renewed(stamp));
         self.standing(now)
@@ -138,6 +140,7 @@ impl Lease {
         requires server { receipt.server ≡ self.old.server }
         ensures { self.new ≡ self.old }
     {
+        // The receipt is spent, and nothing else happens.
         let _at = receipt.spend();
     }
 

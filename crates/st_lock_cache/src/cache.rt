@@ -79,6 +79,7 @@ impl LockCache {
         ensures count { result ≡ locks.count self.now.locks }
         ensures cached { IsCached self.now.locks }
     {
+        // Read for what always holds of a cache (`cached`).
         let _server = &self.server;
         self.rows.len()
     }

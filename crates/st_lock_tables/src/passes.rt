@@ -131,6 +131,7 @@ impl PlainTable {
         ensures lock { IfSome result (λ w. is_lock w.mode ≡ true) }
         ensures free { IfSome result (λ w. list_any (locks.stands_against w.client w.ino w.mode) self.now.rows ≡ false) }
     {
+        // For its clause `clients`: who waits is one of clients 1 to 16.
         let _waits = self.waits.len();
         let w = self.waits.first_on(ino)?;
         if self.rows.stands_against(w.client, w.ino, w.mode) {
@@ -291,6 +292,7 @@ impl PlainTable {
     ) -> Result<Vec<ClientId>, AllocError>
         ensures { IfOk result (λ v. v.items ≡ locks.unanswered self.now now config) }
     {
+        // For its clause `clients`: the rows are of clients 1 to 16.
         let _rows = self.rows.len();
         let late = self.rows.overdue(now, config);
         let mut found = Vec::new(alloc);

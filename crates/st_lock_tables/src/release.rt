@@ -143,6 +143,7 @@ impl PlainTable {
     pub fn answered(&mut self, client: ClientId, ino: u32, g: GrantNo)
         ensures { self.new ≡ locks.demand_seen self.old client ino g }
     {
+        // For its clause `distinct`: a client has one row of a file.
         let _rows = self.rows.len();
         if let Some(row) = self.row_at(client, ino) {
             if row.g.0 == g.0 {

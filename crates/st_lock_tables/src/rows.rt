@@ -282,6 +282,7 @@ impl Rows {
     pub fn overdue(&self, now: Stamp, config: Config) -> [bool; 17]
         ensures { (c : ℕ) → c < 17 → slice_index_or result c false ≡ list_any (λ r. locks.is_overdue config now r && (r.client.0 == c)) self.now }
     {
+        // For its clauses `distinct` and `clients`: a demand that `since` lists is of one row, of a client from 1 to 16.
         let _len = self.table.len();
         overdue(&self.since, config.demand, now)
     }

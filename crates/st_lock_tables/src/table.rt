@@ -184,6 +184,7 @@ impl PlainTable {
         ensures epoch { result ≡ self.now.epoch }
         ensures valid { IsLockTable self.now }
     {
+        // For their clauses `distinct`, which are parts of `valid`.
         let _rows = self.rows.len();
         let _waits = self.waits.len();
         self.epoch
@@ -337,6 +338,7 @@ impl PlainTable {
     ) -> Result<Vec<ClientId>, AllocError>
         ensures { IfOk result (λ v. v.items ≡ locks.in_the_way self.now client ino mode) }
     {
+        // For their clauses `clients`: rows and waits are of clients 1 to 16.
         let _rows = self.rows.len();
         let _waits = self.waits.len();
         let waiting = self.waits.queue(ino);
@@ -406,6 +408,7 @@ impl PlainTable {
     fn has_few(&self, client: ClientId) -> Result<bool, AllocError>
         ensures { IfOk result (λ few. few ≡ nat_lt (length (locks.files_of self.now client)) 1024) }
     {
+        // For their clauses `distinct`: a client has one row and one wait of a file.
         let _rows = self.rows.len();
         let _waits = self.waits.len();
         let rows = self.rows.count(client);

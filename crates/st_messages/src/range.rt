@@ -17,6 +17,7 @@ pub fn within(least: u64, most: u64, number: u64) -> bool
 pub(crate) fn is_word(number: u64) -> bool
     ensures { result ≡ kinds.is_word64 number }
 {
+    // Read for its range, which its type gives.
     let _value = number;
     true
 }
@@ -95,6 +96,7 @@ pub(crate) fn is_same_block(a: BlockAt, b: BlockAt) -> bool
 pub(crate) fn is_number(number: u32) -> bool
     ensures { result ≡ fits.is_word32 number }
 {
+    // Read for its range, which its type gives.
     let _value = number;
     true
 }
@@ -103,6 +105,7 @@ pub(crate) fn is_number(number: u32) -> bool
 pub(crate) fn is_any_block(at: BlockAt) -> bool
     ensures { result ≡ fits.is_any_block at }
 {
+    // Read for its range, which its type gives.
     let _disk = at.disk.0;
     is_number(at.block)
 }

@@ -86,6 +86,7 @@ fn put(rows: &mut IndexMap<FilePage, Places>, page: FilePage, places: Places)
     requires { 0 < spare rows.old }
     ensures { (q : FilePage) → by_page.at rows.new q ≡ (if by_page.same_file_page page q then places else by_page.at rows.old q) }
 {
+    // The places that stood there are dropped; there is room, so no memory is taken.
     let _old = rows.insert(page, places).unwrap();
 }
 

@@ -124,6 +124,7 @@ impl FlatLog {
         self.entries.push(entry).unwrap();
         let number = self.entries.len() as u64;
         self.pending.push(self.entries.len() - 1).unwrap();
+        // The number that stood there is dropped; room was reserved.
         let _old = self
             .latest
             .insert(client_page(of.client, of.file, of.page), number)
@@ -214,6 +215,7 @@ impl FlatLog {
         };
         self.entries.push(entry).unwrap();
         let number = self.entries.len() as u64;
+        // The number that stood there is dropped; room was reserved.
         let _old = self
             .latest
             .insert(client_page(ClientId(0), file, from), number)

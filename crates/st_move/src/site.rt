@@ -77,6 +77,7 @@ fn release(locks: &mut LockTable, c: u32) -> bool
     match locks.row(ONE, c) {
         None => false,
         Some((g, _)) => {
+            // It finds the row: this is its grant number.
             let _found = locks.released(ONE, Life(1), c, g, Mode::None);
             true
         }

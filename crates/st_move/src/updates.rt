@@ -59,6 +59,7 @@ impl Updates {
         ensures few { result ≤ 60000 }
         ensures updates { updates.AreUpdates self.now }
     {
+        // Read for what always holds of updates: how many they are, and their lengths.
         let _bytes = self.bytes;
         self.items.len()
     }

@@ -80,6 +80,7 @@ fn drop_inode(inodes: &mut Vec<Inode>, ino: u32)
     if inodes[place].ino != ino {
         return;
     }
+    // The inode is dropped.
     let _inode = inodes.remove(place);
 }
 

@@ -56,6 +56,7 @@ impl PageCache {
         ensures count { result ≡ length self.now.pages.dirty }
         ensures pages { ArePages self.now.pages }
     {
+        // For its clauses `few` and `once`, which are parts of `pages`.
         let _clean = self.clean.len();
         self.dirty.len()
     }

@@ -66,6 +66,7 @@ impl CleanPages {
         ensures err { OnErr result (self.new ≡ self.old) }
     {
         let at = key(page.ino, page.page);
+        // The page that goes is dropped. `len` is called for its clauses `few` and `once`.
         let _old = self.pages.put(at, page)?;
         let _len = self.pages.len();
         Ok(())
@@ -75,6 +76,7 @@ impl CleanPages {
     pub fn remove(&mut self, ino: u32, page: PageNo)
         ensures { self.new ≡ pages.without_clean ino page self.old }
     {
+        // The page is dropped. `len` is called for its clauses `few` and `once`.
         let _old = self.pages.pop(&key(ino, page));
         let _len = self.pages.len();
     }
@@ -83,6 +85,7 @@ impl CleanPages {
     pub fn touch(&mut self, ino: u32, page: PageNo)
         ensures { self.new ≡ touched (find (pages.is_clean_of ino page) self.old) self.old }
     {
+        // Where it is not there nothing changes. `len` is called for its clauses `few` and `once`.
         let _found = self.pages.promote(&key(ino, page));
         let _len = self.pages.len();
     }

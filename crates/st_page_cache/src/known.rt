@@ -20,6 +20,7 @@ fn store(rows: &mut IndexMap<PageKey, KnownExtent>, extent: KnownExtent)
     ensures room { spare rows.old ≤ spare rows.new + 1 }
     ensures unique { IsUnique same_key rows.new }
 {
+    // What was known is dropped; there is room, so no memory is taken.
     let _old = rows.insert(key(extent.ino, extent.page), extent).unwrap();
 }
 

@@ -71,6 +71,7 @@ fn byte_of(bytes: &[u8]) -> u8
 fn page_byte(bytes: &PageBytes) -> u8
     ensures { result ≡ grammar.byte_of bytes.now }
 {
+    // For its clause `page`: there are 4,096 bytes, so there is a first one.
     let _len = bytes.len();
     *bytes.get(0)
 }

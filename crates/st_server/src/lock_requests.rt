@@ -89,6 +89,7 @@ impl ServerMachine {
         ensures released { answered self.new (Some result) ≡ server.released self.old h ino g to }
         ensures kept { Keeps self.old self.new }
     {
+        // The answer is the same whether a row was found or not.
         let _found = self.locks.released(sender(h), Life(h.life), ino, g, to);
         Body::Ack
     }

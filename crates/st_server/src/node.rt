@@ -191,6 +191,7 @@ pub fn answers_are_named(
     ensures named { AnswersAreNamed node.old.state now message }
     ensures fault { IfErr result (λ f. f ≡ Memory) }
 {
+    // For its clause `sound`: what always holds of a node that runs.
     let _running = node.running();
     node.step(now, ServerInput::Control(message))
 }

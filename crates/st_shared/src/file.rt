@@ -53,6 +53,7 @@ impl SharedFile {
     fn is_led_rightly(&self)
         ensures { IsLedRightly self.now }
     {
+        // Read for what always holds of a shared file: calls on a fresh one lead to its state.
         let _machine = &self.machine;
         every_history_is_right();
     }

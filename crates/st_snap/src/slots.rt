@@ -34,6 +34,7 @@ fn write_block(disks: &mut Disks, at: BlockAt, tag: Tag, bytes: PageBytes) -> Re
     if disks.effect(number).is_err() {
         return Err(AllocError);
     }
+    // It is reported: it was outstanding, and had its effect.
     let _reported = disks.done(number, true);
     Ok(())
 }

@@ -116,10 +116,12 @@ impl<V: Drop> Ordered<V> {
         ensures left { self.new ≡ (if option_map_or (T.passes test.now) (slice_get self.old place) false then self.old else remove self.old place) }
         ensures next { result ≡ (if option_map_or (T.passes test.now) (slice_get self.old place) false then place + 1 else place) }
     {
+        // For its clause `small`: the next place has a number.
         let _len = self.len();
         if self.passes(place, test) {
             place + 1
         } else {
+            // The value is dropped.
             let _value = self.take(place);
             place
         }

@@ -200,6 +200,7 @@ impl<V: Row> ClientTable<V> {
             lose(&mut self.owned, key.first, key.second);
             return Err(AllocError);
         }
+        // For its clause `small`: the count of the client's rows has room for one more.
         let _len = self.table.len();
         count_up(&mut self.counts, key.first);
         Ok(())
@@ -233,6 +234,7 @@ impl<V: Row> ClientTable<V> {
         ensures { self.new ≡ filter (λ v. not (has_key V.key_of key v)) self.old }
     {
         if self.table.holds(key) {
+            // For its clause `distinct`: the key has one row.
             let _len = self.table.len();
             self.table.remove(key);
             leave(&mut self.queues, key.second, key.first);
@@ -291,6 +293,7 @@ impl<V: Row> ClientTable<V> {
     pub fn drop_on(&mut self, second: u32)
         ensures { self.new ≡ filter (λ v. not ((V.key_of v).second == second)) self.old }
     {
+        // For its clause `clients`: the rows are of clients 1 to 16.
         let _len = self.len();
         for i in 0..16u32 {
             self.remove(Key {
@@ -357,6 +360,7 @@ impl<V: Row> ClientTable<V> {
     ) -> Result<Vec<ClientId>, AllocError>
         ensures { IfOk result (λ cs. cs.items ≡ map keys.client (firsts_on V.key_of second (T.passes test.now) self.now)) }
     {
+        // For its clause `clients`: the rows are of clients 1 to 16.
         let _len = self.len();
         let waiting = self.queue(second);
         let mut found = Vec::new(alloc);

@@ -24,6 +24,7 @@ fn write<V: Copy>(rows: &mut IndexMap<u64, V>, place: u64, row: V)
 fn keep_rows<V: Row, T: Test<V>>(rows: &mut IndexMap<u64, V>, test: &T)
     ensures { (q : ℕ) → row_at rows.new.entries q ≡ kept (T.passes test.now) (row_at rows.old.entries q) }
 {
+    // Read for what always holds of the map: a key has one entry.
     let _len = rows.len();
     rows.retain(|_place, row| test.test(row));
 }
@@ -32,6 +33,7 @@ fn keep_rows<V: Row, T: Test<V>>(rows: &mut IndexMap<u64, V>, test: &T)
 fn keep_places<V: Row>(places: &mut IndexMap<Key, u64>, rows: &IndexMap<u64, V>)
     ensures { (k : Key) → place_of places.new.entries k ≡ kept (λ i. is_some (row_at rows.now.entries i)) (place_of places.old.entries k) }
 {
+    // Read for what always holds of the map: a key has one entry.
     let _len = places.len();
     places.retain(|_key, place| rows.contains_key(&*place));
 }
@@ -155,6 +157,7 @@ impl<V: Row> Table<V> {
     pub fn has<T: Test<V>>(&self, key: Key, test: &T) -> bool
         ensures { result ≡ list_any (λ v. has_key V.key_of key v && T.passes test.now v) self.now }
     {
+        // For its clause `distinct`: the key has one row.
         let _len = self.len();
         match self.get(key) {
             Some(row) => test.test(row),
@@ -223,6 +226,7 @@ impl<V: Row> Table<V> {
         ensures { self.new ≡ filter (λ v. not (has_key V.key_of key v)) self.old }
     {
         if let Some(place) = self.places.swap_remove(&key) {
+            // The row is dropped.
             let _row = self.rows.swap_remove(&place);
         }
     }

@@ -56,6 +56,7 @@ fn attach_and_serve<L: Link, C: Clock>(
     ensures causes { HasCauses result (L.Source.faults link.old) (L.Source.faults link.new) }
     ensures names { AttachesBy result (L.attached link.old) (L.attached link.new) name.now }
 {
+    // Read for the ranges of its numbers, which its type gives.
     let _id = id;
     match link.attach(name) {
         Ok(()) => serve(alloc, link, clock, node),

@@ -33,6 +33,7 @@ fn raise(drift: &mut Drift, steps: &[u64], config: &Config)
     requires accepted { first_excess (drift_after drift.old steps.now config.now.num config.now.den) config.now.den config.now.grain ≡ None }
     ensures { drift.new ≡ drift_after drift.old steps.now config.now.num config.now.den }
 {
+    // It is accepted, so there is no verdict to look at.
     let _judged = drift.step(steps, config.num, config.den, config.grain);
 }
 

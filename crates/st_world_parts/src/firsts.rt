@@ -39,6 +39,7 @@ fn put(firsts: &mut IndexMap<LifeKey, LeaseLife>, key: LifeKey, life: LeaseLife)
     requires { 0 < spare firsts.old }
     ensures { (q : LifeKey) → get same_key firsts.new q ≡ (if same_key key q then Some life else get same_key firsts.old q) }
 {
+    // The life that stood there is dropped; there is room, so no memory is taken.
     let _old = firsts.insert(key, life).unwrap();
 }
 
