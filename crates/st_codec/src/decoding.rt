@@ -1,3 +1,4 @@
+// A message from its bytes, field by field from the left, with the first fault that is met.
 ghost use Rattle.std.specs.Prelude.{◌≡◌, ◌⊎◌, IfOk};
 ghost use Rattle.st_codec.specs.Grammar.{Spells};
 ghost use Rattle.st_codec.specs.Reading as reading;

@@ -1,3 +1,4 @@
+// Asks, answers, and disk commands with their results, from their bytes.
 ghost use Rattle.std.specs.Prelude.{◌≡◌};
 ghost use Rattle.st_codec.specs.Reading as reading;
 ghost use Rattle.st_codec_fields.specs.Reading as fields;

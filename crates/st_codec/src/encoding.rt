@@ -1,3 +1,4 @@
+// The bytes of a message: the fields of its kind, one after the other.
 ghost use Rattle.std.specs.Prelude.{◌≡◌, ◌++◌, true, IfOk, OnOk};
 ghost use Rattle.st_messages.specs.Fits as fits;
 ghost use Rattle.st_codec.specs.Spelling as spells;

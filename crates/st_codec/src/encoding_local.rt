@@ -1,3 +1,4 @@
+// The bytes of asks, of answers, and of disk commands with their results.
 ghost use Rattle.std.specs.Prelude.{◌≡◌, ◌++◌, ◌≤◌, true, length, OnOk};
 ghost use Rattle.st_messages.specs.Fits as fits;
 ghost use Rattle.st_codec.specs.Spelling as spells;

@@ -1,3 +1,4 @@
+// Frames in a stream of bytes: which one stands in front, and what is left behind it.
 ghost use Rattle.std.specs.Prelude.{◌≡◌, ◌≤◌, ◌+◌, ℕ, true, IfOk, IfSome, OnOk, OnErr, None, length};
 ghost use Rattle.st_messages.specs.Fits as fits;
 ghost use Rattle.st_codec.specs.Frames as frames;

@@ -1,3 +1,4 @@
+// What is asked of names, and what answers it, from its bytes.
 ghost use Rattle.std.specs.Prelude.{◌≡◌};
 ghost use Rattle.st_codec_fields.specs.Reading as reading;
 

@@ -1,3 +1,4 @@
+// The bytes of what is asked of names, and of what answers it.
 ghost use Rattle.std.specs.Prelude.{◌≡◌, ◌++◌, ◌≤◌, true, length, OnOk};
 ghost use Rattle.st_messages.specs.Fits as fits;
 ghost use Rattle.st_codec_fields.specs.Spelling as spells;

@@ -1,3 +1,4 @@
+// Fields from their bytes: numbers, places, names and pages, each with the fault that it may have.
 ghost use Rattle.std.specs.Prelude.{◌≡◌, ◌≤◌, IfOk, length};
 ghost use Rattle.st_codec_fields.specs.Reading as reading;
 

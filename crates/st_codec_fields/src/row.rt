@@ -1,3 +1,4 @@
+// The bytes of rows, both ways.
 ghost use Rattle.std.specs.Prelude.{◌≡◌, ◌++◌, ◌∷◌, ◌≤◌, ℕ, true, List, OnOk, Result, length, All};
 ghost use Rattle.st_messages.specs.Fits as fits;
 ghost use Rattle.st_codec_fields.specs.Reading as reading;

@@ -1,3 +1,4 @@
+// The bytes of fields: numbers with their highest byte first, places, names and pages.
 ghost use Rattle.std.specs.Prelude.{◌≡◌, ◌++◌, ◌≤◌, ◌<◌, ◌^◌, OnOk, length};
 ghost use Rattle.st_codec_fields.specs.Spelling as spells;
 

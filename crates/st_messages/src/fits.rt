@@ -1,3 +1,4 @@
+// Whether each field of a message is in its range.
 ghost use Rattle.std.specs.Prelude.{◌≡◌, ◌&&◌, ◌-◌};
 ghost use Rattle.st_messages.specs.Kinds as kinds;
 ghost use Rattle.st_messages.specs.Fits as fits;

@@ -1,3 +1,4 @@
+// The kinds of messages: their numbers, and between whom they go.
 ghost use Rattle.std.specs.Prelude.{◌≡◌};
 ghost use Rattle.st_messages.specs.Kinds as kinds;
 

@@ -1,3 +1,4 @@
+// Messages: the header, and the bodies of all kinds.
 ghost use Rattle.std.specs.Prelude.{◌≡◌, IfOk};
 
 use crate::answer::AppAnswer;

@@ -1,3 +1,4 @@
+// A piece of the source: the lines that are whole with it are played, and the bytes behind them held.
 ghost use Rattle.std.specs.Prelude.{◌≡◌, ◌+◌, ◌≤◌, ◌<◌, ◌∷◌, ◌++◌, [], ℕ, List, OnOk, length};
 ghost use Rattle.st_schedule.specs.declared.fault.ScheduleRefusal.TheVariants.{LineTooLong};
 ghost use Rattle.st_runs.specs.declared.fault.LineRefusal.TheVariants as why;

@@ -1,3 +1,4 @@
+// The end of a report, once the source has ended.
 ghost use Rattle.std.specs.Prelude.{◌≡◌, IfOk};
 ghost use Rattle.st_rules.specs.Events as rules;
 ghost use Rattle.st_runs.specs.Replay.{Replay, Whole, behind, text as text_of};

@@ -1,3 +1,4 @@
+// The last line of a report: of a run that went through the end, or of a line that stopped it.
 ghost use Rattle.std.specs.Prelude.{◌≡◌, ◌++◌, [], ◌∷◌, IfOk, OnOk, Ok};
 ghost use Rattle.st_rules.specs.Events as rules;
 ghost use Rattle.st_schedule.specs.Reader.{read_end};

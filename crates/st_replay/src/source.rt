@@ -1,3 +1,4 @@
+// A whole replay: the source is taken to its end, and the report written as the run goes on.
 ghost use Rattle.std.specs.Prelude.{◌≡◌, [], None, IfOk, IfSome};
 ghost use Rattle.std.specs.Io.KnownBytes.{IsAtEnd};
 ghost use Rattle.st_rules.specs.Events as rules;

@@ -1,3 +1,4 @@
+// The fields of the body of a message in the line of that message.
 ghost use Rattle.std.specs.Prelude.{◌≡◌, ◌++◌, OnOk, length};
 ghost use Rattle.std.specs.List.{flat_map};
 ghost use Rattle.st_base.specs.Mode.{number_of};

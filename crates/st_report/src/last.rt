@@ -1,3 +1,4 @@
+// The last line of a report that goes through its end.
 ghost use Rattle.std.specs.Prelude.{◌≡◌, ◌++◌, OnOk, codes};
 ghost use Rattle.st_rules.specs.Report as text;
 

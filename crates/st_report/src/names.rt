@@ -1,3 +1,4 @@
+// What is asked of names, and what answers it, in a report.
 ghost use Rattle.std.specs.Prelude.{◌≡◌, ◌++◌, OnOk};
 ghost use Rattle.std.specs.List.{flat_map};
 ghost use Rattle.st_rules.specs.Report as text;

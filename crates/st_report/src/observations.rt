@@ -1,3 +1,4 @@
+// The line of each observation.
 ghost use Rattle.std.specs.Prelude.{◌≡◌, ◌++◌, OnOk};
 ghost use Rattle.st_rules.specs.Report as text;
 ghost use Rattle.st_rules.specs.declared.observation.Observation.TheVariants as seen;

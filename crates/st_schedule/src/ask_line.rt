@@ -1,3 +1,4 @@
+// Asks, from the words of their lines.
 ghost use Rattle.std.specs.Prelude.{◌≡◌, ◌≤◌, ◌+◌, IfOk, replicate};
 ghost use Rattle.st_schedule_words.specs.Words.{words_behind};
 ghost use Rattle.st_schedule.specs.Reading.{Gives};

@@ -1,3 +1,4 @@
+// Events from the words of their lines; asks have a file of their own.
 ghost use Rattle.std.specs.Prelude.{◌≡◌};
 ghost use Rattle.st_schedule_words.specs.Words.{split, words_behind};
 ghost use Rattle.st_schedule.specs.Grammar.{least_step as least_step_of};

@@ -1,3 +1,4 @@
+// The text of a head and of each event.
 ghost use Rattle.std.specs.Prelude.{◌≡◌, ◌∷◌, ◌++◌, IfOk, OnOk, get_or, length, map};
 ghost use Rattle.st_schedule_words.specs.Words.{line_of, spaced};
 ghost use Rattle.st_schedule.specs.Grammar as grammar;

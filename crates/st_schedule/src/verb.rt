@@ -1,3 +1,4 @@
+// The words for events, asks, results and forms.
 ghost use Rattle.std.specs.Prelude.{◌≡◌};
 ghost use Rattle.st_schedule.specs.Reading as reading;
 

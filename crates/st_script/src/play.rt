@@ -1,3 +1,4 @@
+// The lines of a script: each is played, and its answer written, up to the end or to the line that stops it.
 ghost use Rattle.std.specs.Prelude.{ℕ, ◌≡◌, ◌≤◌, ◌<◌, ◌+◌, ◌++◌, OnOk, OnErr, IfErr, Err};
 ghost use Rattle.std.specs.Io.KnownBytes.{Appends};
 ghost use Rattle.st_link.specs.Prefixes.{AppendsPrefix};

@@ -1,3 +1,4 @@
+// A whole script: read to its end, played, and answered.
 ghost use Rattle.std.specs.Prelude.{ℕ, ◌≡◌, ⊤, OnOk, IfOk, IfErr, IfSome};
 ghost use Rattle.std.specs.Io.KnownBytes.{Consumes, IsAtEnd};
 ghost use Rattle.st_schedule_words.specs.Lines.{lines_of};

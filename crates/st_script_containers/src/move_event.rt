@@ -1,3 +1,4 @@
+// The events of containers that move, from their lines.
 ghost use Rattle.std.specs.Prelude.{◌≡◌, ◌≤◌, IfOk, true};
 ghost use Rattle.std.specs.List.{list_all};
 ghost use Rattle.st_move.specs.Updates.{is_update};

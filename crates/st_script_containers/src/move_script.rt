@@ -1,3 +1,4 @@
+// The script of containers that move: its state, and what each event does and answers.
 ghost use Rattle.std.specs.Prelude.{◌≡◌, ◌++◌, ◌∷◌, [], OnOk, ⊤, IfSome, flat_map, map};
 ghost use Rattle.std.specs.Io.KnownBytes.{IsAtEnd};
 ghost use Rattle.st_move.specs.Law.{NoUpdateIsLost};

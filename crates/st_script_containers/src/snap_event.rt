@@ -1,3 +1,4 @@
+// The events of a volume with images, from their lines.
 ghost use Rattle.std.specs.Prelude.{◌≡◌, ◌≤◌, IfOk};
 ghost use Rattle.std.specs.Str.{bytes_eq};
 ghost use Rattle.st_schedule.specs.Reading.{Gives};

@@ -1,3 +1,4 @@
+// The script of a volume with images: its state, and what each event does and answers.
 ghost use Rattle.std.specs.Prelude.{◌≡◌, ◌≤◌, ◌++◌, ◌∷◌, [], ℕ, List, OnOk, ⊤, IfSome};
 ghost use Rattle.std.specs.Io.KnownBytes.{IsAtEnd};
 ghost use Rattle.st_base.specs.Page.{filled};

@@ -1,3 +1,4 @@
+// The events of a journal, from their lines.
 ghost use Rattle.std.specs.Prelude.{◌≡◌, ◌≤◌, ◌+◌, true};
 ghost use Rattle.std.specs.Str.{bytes_eq};
 ghost use Rattle.st_journal.specs.Changes.{is_ranged};

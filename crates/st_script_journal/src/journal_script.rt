@@ -1,3 +1,4 @@
+// The script of a metadata journal: its state, and what each event does and answers.
 ghost use Rattle.std.specs.Prelude.{◌≡◌, ◌++◌, ◌∷◌, [], ℕ, OnOk, IsOk, IfErr, IfOk, IfSome, Some};
 ghost use Rattle.std.specs.Io.KnownBytes.{IsAtEnd};
 ghost use Rattle.st_script.specs.Ends.{HasCauses};

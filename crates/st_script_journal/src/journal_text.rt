@@ -1,3 +1,4 @@
+// The lines that answer the events of a journal.
 ghost use Rattle.std.specs.Prelude.{◌≡◌, ◌++◌, ◌∷◌, [], OnOk};
 ghost use Rattle.st_journal.specs.Parts.{stable_of};
 ghost use Rattle.st_script_journal.specs.JournalRuns.{answer_text};

@@ -1,3 +1,4 @@
+// The lines that answer the events of a shared file.
 ghost use Rattle.std.specs.Prelude.{◌≡◌, ◌∷◌, ◌++◌, [], OnOk};
 ghost use Rattle.st_rules.specs.Report.{field};
 ghost use Rattle.st_script.specs.Scripts.{answer_lines};

@@ -1,3 +1,4 @@
+// The script of a shared file: its state, and what each event does and answers.
 ghost use Rattle.std.specs.Prelude.{◌≡◌, ◌++◌, ◌&&◌, nat_le, OnOk, IfSome, IfNone, ⊤};
 ghost use Rattle.std.specs.Io.KnownBytes.{IsAtEnd};
 ghost use Rattle.st_base.specs.Page.{filled};

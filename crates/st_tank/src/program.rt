@@ -1,3 +1,4 @@
+// The program: which command its words ask for, what it runs over which streams, and the status that it ends with.
 ghost use Rattle.std.specs.Prelude.{◌≡◌, ◌≤◌, ◌⊎◌, true, false, Some, IfSome, IsTrue, map, string_bytes};
 ghost use Rattle.std.specs.Io.KnownBytes.{Appends, IsAtEnd};
 ghost use Rattle.st_generate.specs.GeneratedText.{generate_text, work_text};
