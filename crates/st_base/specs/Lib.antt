@@ -2,3 +2,4 @@ pub mod Page
 pub mod Content
 pub mod Config
 pub mod Mode
+pub mod Nodes

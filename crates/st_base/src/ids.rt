@@ -1,3 +1,6 @@
+ghost use Rattle.std.specs.Prelude.{◌≡◌};
+ghost use Rattle.st_base.specs.Nodes.{HasNode, server_node};
+
 /// The number of a client, from 1.
 #[derive(Clone, Copy, Debug, PartialEq, Eq, PartialOrd, Ord)]
 pub struct ClientId(pub u16);
@@ -5,6 +8,26 @@ pub struct ClientId(pub u16);
 /// The number of a metadata server, from 1.
 #[derive(Clone, Copy, Debug, PartialEq, Eq, PartialOrd, Ord)]
 pub struct ServerId(pub u16);
+
+impl ServerId {
+    /// What is added to a server's own number to make its number as a node. Numbers below it are of clients.
+    pub const BASE: u16 = 32_768;
+
+    /// The number of the server as a node, as messages have it.
+    pub fn node(self) -> u16
+        requires { HasNode self }
+        ensures { result ≡ server_node self }
+    {
+        ServerId::BASE + self.0
+    }
+
+    /// The number of the server as a node, whatever the server's own number is. It has sixteen bits where that is below 32,768.
+    pub fn node_as_u32(self) -> u32
+        ensures { result ≡ server_node self }
+    {
+        u32::from(ServerId::BASE) + u32::from(self.0)
+    }
+}
 
 /// The number of a shared disk, from 1.
 #[derive(Clone, Copy, Debug, PartialEq, Eq, PartialOrd, Ord)]

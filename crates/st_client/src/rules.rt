@@ -15,7 +15,7 @@ use std::alloc::AllocError;
 fn is_from(header: &Header, server: ServerId) -> bool
     ensures { result ≡ (header.now.from == server_node server) }
 {
-    u32::from(header.from) == 32_768 + u32::from(server.0)
+    u32::from(header.from) == server.node_as_u32()
 }
 
 /// Whether two servers are one.

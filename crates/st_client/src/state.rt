@@ -4,6 +4,7 @@ ghost use Rattle.std.specs.List.{list_all};
 ghost use Rattle.std.specs.Option.{option_copied, option_map};
 ghost use Rattle.st_base.specs.Config as settings;
 ghost use Rattle.st_base.specs.declared.ids.ServerId.{ServerId};
+ghost use Rattle.st_base.specs.Nodes.{HasNode};
 ghost use Rattle.st_client.specs.Ends.{end_in};
 ghost use Rattle.st_client.specs.Inputs.{comes_fit};
 ghost use Rattle.st_client.specs.Nodes.{association_told, is_server, server_at, with_more};
@@ -212,7 +213,7 @@ impl State {
     /// One more server, of which the client has nothing in this life.
     pub(crate) fn with_server(self, server: ServerId, life: Life) -> Result<State, AllocError>
         requires checked { IsOk (settings.check self.config) }
-        requires node { server.0 < 32768 }
+        requires node { HasNode server }
         ensures { IfOk result (λ s. s ≡ with_more (client.association_of life server ∷ []) self) }
     {
         let State { mut parts } = self;

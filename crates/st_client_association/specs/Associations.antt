@@ -6,6 +6,7 @@ use Rattle.st_base.specs.declared.config.Config.{Config}
 use Rattle.st_base.specs.declared.ids.ClientId.{ClientId}
 use Rattle.st_base.specs.declared.ids.Life.{Life}
 use Rattle.st_base.specs.declared.ids.ServerId.{ServerId}
+use Rattle.st_base.specs.Nodes.{HasNode}
 use Rattle.st_client_session.specs.Sessions.{ServerSession}
 use Rattle.st_messages.specs.declared.output.Output.{Output}
 use Rattle.st_rules.specs.ClientInvariants.{is_below}
@@ -23,7 +24,7 @@ pub record ClientAssociation : Type 0 where
 -- What always stands: the settings are checked, and the parts are of one server.
 pub record IsAssociation (client : ClientId) (config : Config) (server : ServerId) (life : Life) (session : Option ServerSession) (store : ServerStore) : Type 0 where
   pub checked : check config ≡ Ok tt
-  pub node : server.0 < 32768
+  pub node : HasNode server
   pub parties : IsOf (parties_of client server life config) session
   pub stored : store.server ≡ server
 

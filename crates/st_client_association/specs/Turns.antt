@@ -10,6 +10,7 @@ use Rattle.st_base.specs.declared.ids.ServerId.{ServerId}
 use Rattle.st_base.specs.declared.ids.Life.{Life}
 use Rattle.st_base.specs.declared.ids.PageNo.{PageNo}
 use Rattle.st_base.specs.declared.ids.Stamp.{Stamp}
+use Rattle.st_base.specs.Nodes.{HasNode}
 use Rattle.st_client_session.specs.Sessions.{Parties, ServerSession}
 use Rattle.st_messages.specs.declared.output.Output.{Output}
 use Rattle.st_messages.specs.declared.message.Message.{Message}
@@ -61,7 +62,7 @@ most_of out = 2 ^ 62 + length out
 -- is at its end.
 pub record IsTurn (client : ClientId) (config : Config) (server : ServerId) (life : Life) (session : Option ServerSession) (store : ServerStore) (next : ℕ) (out : List Output) : Type 0 where
   pub checked : check config ≡ Ok tt
-  pub node : server.0 < 32768
+  pub node : HasNode server
   pub parties : IsOf (parties_of client server life config) session
   pub stored : store.server ≡ server
   pub given : list_all (is_below next) store.store.commands ≡ true

@@ -1,5 +1,6 @@
 ghost use Rattle.std.specs.Prelude.{◌≡◌, ◌<◌, IsOk, IfOk};
 ghost use Rattle.st_base.specs.Config as settings;
+ghost use Rattle.st_base.specs.Nodes.{HasNode};
 ghost use Rattle.st_client_association.specs.Associations.{IsCounted, left_as};
 ghost use Rattle.st_rules.specs.Client as client;
 
@@ -64,7 +65,7 @@ impl Association {
         life: Life,
     ) -> Result<Association, AllocError>
         requires checked { IsOk (settings.check config.now) }
-        requires node { server.0 < 32768 }
+        requires node { HasNode server }
         ensures { IfOk result (λ a. a ≡ record { id = id; config = config.now; here = client.association_of life server }) }
     {
         let parts = AssociationParts {

@@ -42,7 +42,7 @@ impl Turn {
     {
         Header {
             from: self.here.id.0,
-            to: 32_768 + self.here.server.0,
+            to: self.here.server.node(),
             life: self.here.life.0,
             epoch,
             number,

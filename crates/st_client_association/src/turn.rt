@@ -119,7 +119,7 @@ impl Turn {
     pub fn node(&self) -> u16
         ensures { result ≡ server_node self.now.here.server }
     {
-        32_768 + self.here.server.0
+        self.here.server.node()
     }
 
     /// A session begins in this epoch. Its lease has this stamp, and is not over yet.

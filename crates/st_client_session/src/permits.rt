@@ -1,6 +1,7 @@
 // The lease of a session: it begins, is renewed, condemned and lost; and what its permits are spent for.
 ghost use Rattle.std.specs.Prelude.{◌≡◌, ◌+◌, ◌<◌, ◌≤◌, ◌^◌, true, false, Some, None, IsOk, OnOk, OnErr, is_some};
 ghost use Rattle.st_base.specs.Config as settings;
+ghost use Rattle.st_base.specs.Nodes.{HasNode};
 ghost use Rattle.st_client_session.specs.Sessions.{lasts, with_session};
 ghost use Rattle.st_lease_client.specs.Standings.{kind_of, moment_of, server_of};
 ghost use Rattle.st_rules.specs.ClientLease as leases;
@@ -80,7 +81,7 @@ impl Session {
         now: Stamp,
     ) -> Session
         requires checked { IsOk (settings.check config.now) }
-        requires node { server.0 < 32768 }
+        requires node { HasNode server }
         requires past { stamp.0 ≤ now.0 }
         requires living { now.0 < stamp.0 + config.now.lease }
         requires reading { now.0 ≤ 2 ^ 62 }

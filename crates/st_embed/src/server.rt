@@ -16,7 +16,6 @@ ghost use Rattle.st_journal.specs.Changes as spelling;
 ghost use Rattle.st_messages.specs.Fits.{fits};
 ghost use Rattle.st_node.specs.Runs.{handle, server_frame};
 ghost use Rattle.st_node.specs.declared.node.Node.TheVariants as nodes;
-ghost use Rattle.st_rules.specs.Keys.{server_node};
 ghost use Rattle.st_rules.specs.Server as server;
 ghost use Rattle.st_server.specs.Restored.{crashed_node};
 ghost use Rattle.st_server.specs.Room.{HasRoom};
@@ -201,13 +200,6 @@ fn may_change(body: &Body) -> bool
     }
 }
 
-/// The number of a server on the wire.
-fn number_of(id: ServerId) -> u32
-    ensures { result ≡ server_node id }
-{
-    32_768 + u32::from(id.0)
-}
-
 /// The outputs of a node's step for a message; `None` where the message is no input of the node.
 #[tactic(auto, unfolding(st_node::specs::Runs::handle))]
 fn outputs_for(
@@ -227,7 +219,7 @@ fn outputs_for(
     ensures asked { IfOk result (λ o. IfSome o (λ out. IsAskedBy message.body server.new.changed)) }
     ensures starved { OnErr result (IsStarved server.old.node server.new.node now message) }
 {
-    if u32::from(message.header.to) != number_of(server.node().id()) {
+    if u32::from(message.header.to) != server.node().id().node_as_u32() {
         return Ok(None);
     }
     match server_input_of(message) {

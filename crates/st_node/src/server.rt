@@ -2,7 +2,6 @@
 ghost use Rattle.std.specs.Prelude.{◌≡◌, ◌≤◌, ◌+◌, ◌++◌, ◌^◌, ℕ, true, OnOk, IfSome};
 ghost use Rattle.std.specs.List.{list_all, flat_map};
 ghost use Rattle.st_messages.specs.Fits.{fits};
-ghost use Rattle.st_rules.specs.Keys.{server_node};
 ghost use Rattle.st_rules.specs.Server as machine;
 ghost use Rattle.st_server.specs.Ready.{comes_fit};
 ghost use Rattle.st_server.specs.Sound.{is_sent};
@@ -11,7 +10,7 @@ ghost use Rattle.st_node.specs.Runs as runs;
 ghost use Rattle.st_node.specs.declared.node.Node.TheVariants as nodes;
 
 use crate::frames::put_frame;
-use st_base::{ServerId, Stamp};
+use st_base::Stamp;
 use st_messages::{Message, Output, Party, StepFault};
 use st_rules::ServerInput;
 use st_server::ServerNode;
@@ -77,13 +76,6 @@ fn step(
     }
 }
 
-/// The number of a server on the wire.
-fn number_of(id: ServerId) -> u32
-    ensures { result ≡ server_node id }
-{
-    32_768 + u32::from(id.0)
-}
-
 /// Takes a message at this moment: one step where it is an input of the server, and nothing else. Appends the frames of what the
 /// server sends.
 #[tactic(auto, unfolding(crate::specs::Runs::handle))]
@@ -100,7 +92,7 @@ pub(crate) fn handle_server(
     ensures node { OnOk result (nodes.Server server.new ≡ (runs.handle (nodes.Server server.old) now message).node) }
     ensures out { OnOk result (out.new.items ≡ out.old.items ++ (runs.handle (nodes.Server server.old) now message).out) }
 {
-    if u32::from(message.header.to) != number_of(server.id()) {
+    if u32::from(message.header.to) != server.id().node_as_u32() {
         return Ok(());
     }
     match input_of(message) {

@@ -162,7 +162,7 @@ fn node_of(n: u16) -> NodeId
     if n <= 16 {
         NodeId::Client(ClientId(n))
     } else {
-        NodeId::Server(ServerId(n.saturating_sub(32_768)))
+        NodeId::Server(ServerId(n.saturating_sub(ServerId::BASE)))
     }
 }
 

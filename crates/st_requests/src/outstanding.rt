@@ -1,5 +1,6 @@
 // A request that was sent and not answered yet.
 ghost use Rattle.std.specs.Prelude.{◌≡◌, ◌+◌, ◌<◌, IfOk};
+ghost use Rattle.st_base.specs.Nodes.{HasNode};
 ghost use Rattle.st_rules.specs.ClientState as client_state;
 ghost use Rattle.st_requests.specs.Outstanding.{under_of};
 ghost use Rattle.st_requests.specs.ServerRequests as shown;
@@ -20,12 +21,12 @@ pub struct OutstandingRequest {
 impl OutstandingRequest {
     /// What stands in front of the request, if it is sent now.
     fn header(&self, client: ClientId, server: ServerId, now: Stamp) -> Header
-        requires { server.0 < 32768 }
+        requires { HasNode server }
         ensures { result ≡ shown.header client server (under_of self.now) self.now.request.number now }
     {
         Header {
             from: client.0,
-            to: 32_768 + server.0,
+            to: server.node(),
             life: self.life.0,
             epoch: self.epoch.0,
             number: self.request.number,
@@ -40,7 +41,7 @@ impl OutstandingRequest {
         server: ServerId,
         now: Stamp,
     ) -> Result<Message, AllocError>
-        requires { server.0 < 32768 }
+        requires { HasNode server }
         ensures { IfOk result (λ m.
             m ≡ shown.message client server (under_of self.now) self.now.request.number self.now.request.body now) }
     {

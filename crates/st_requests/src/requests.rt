@@ -1,4 +1,5 @@
 ghost use Rattle.std.specs.Prelude.{◌≡◌, ◌+◌, ◌<◌, ◌^◌, IfOk, None, OnErr, OnOk, nat_lt, option_map};
+ghost use Rattle.st_base.specs.Nodes.{HasNode};
 ghost use Rattle.st_requests.specs.ServerRequests as shown;
 
 use crate::outstanding::OutstandingRequest;
@@ -30,6 +31,7 @@ pub struct Requests {
 
 impl Model for Requests {
     ghost use Rattle.std.specs.Prelude.{◌<◌, option_map};
+    ghost use Rattle.st_base.specs.Nodes.{HasNode};
     ghost use Rattle.st_requests.specs.ServerRequests.{ServerRequests};
     ghost use Rattle.st_requests.specs.Outstanding.{request_of, under_of};
 
@@ -43,13 +45,13 @@ impl Model for Requests {
       requests = record { next = r.next; asked = option_map request_of r.asked };
     } };
 
-    ghost invariant = { λ r. r.server.0 < 32768 };
+    ghost invariant = { λ r. HasNode r.server };
 }
 
 impl Requests {
     /// Nothing was asked yet. An unanswered request is sent again `retry` ticks after it was last sent.
     pub fn new(client: ClientId, server: ServerId, retry: u64) -> Requests
-        requires node { server.0 < 32768 }
+        requires node { HasNode server }
         ensures { result ≡ shown.no_requests client server retry }
     {
         Requests {

@@ -5,6 +5,7 @@ use Rattle.st_base.specs.declared.ids.ServerId.{ServerId}
 use Rattle.st_base.specs.declared.disk.Command.TheVariants as commands
 use Rattle.st_base.specs.declared.disk.Tag.{Tag}
 use Rattle.st_base.specs.declared.rows.LostRow.{LostRow}
+use Rattle.st_base.specs.Nodes.{SERVER_BASE}
 use Rattle.st_messages.specs.declared.answer.AppAnswer.{AppAnswer}
 use Rattle.st_messages.specs.declared.message.Body.{Body}
 use Rattle.st_messages.specs.declared.output.Note.{Note}
@@ -35,12 +36,12 @@ between s n l e number moment body =
 
 -- a message of a server to the first client
 abbrev pub told : ℕ → ℕ → ℕ → ℕ → ℕ → Body → ClientInput
-told s l e number moment body = between (32768 + s) 1 l e number moment body
+told s l e number moment body = between (SERVER_BASE + s) 1 l e number moment body
 
 -- what the first client says to a server
 abbrev pub says : ℕ → ℕ → ℕ → ℕ → ℕ → Body → Output
 says s l e number moment body =
-    outputs.Send (record { header = record { from = 1; to = 32768 + s; life = l; epoch = e; number = number; stamp = moment }; body = body })
+    outputs.Send (record { header = record { from = 1; to = SERVER_BASE + s; life = l; epoch = e; number = number; stamp = moment }; body = body })
 
 -- a read of a block, and a write of one: command, disk, block, and the tag's server, inode, page and birth
 abbrev pub reads : ℕ → ℕ → ℕ → Output

@@ -8,6 +8,7 @@ use Rattle.st_base.specs.declared.ids.NodeId.{NodeId}
 use Rattle.st_base.specs.declared.ids.NodeId.TheVariants as nodes
 use Rattle.st_base.specs.declared.config.Config.{Config}
 use Rattle.st_base.specs.declared.disk.BlockAt.{BlockAt}
+use Rattle.st_base.specs.Nodes.{SERVER_BASE}
 use Rattle.st_rules.specs.declared.log.LogOwner.{LogOwner}
 use Rattle.st_rules.specs.declared.log.LogEntry.{LogEntry}
 use Rattle.st_rules.specs.declared.world.SentMessage.{SentMessage}
@@ -165,9 +166,9 @@ same_node (nodes.Client c) (nodes.Client d) = same_client c d
 same_node (nodes.Server s) (nodes.Server t) = same_server s t
 same_node a b = false
 
--- the node of a number in a message: a client, or a server from 32769 on
+-- the node of a number in a message: a client, or a server, above SERVER_BASE
 unfoldable pub node_at : ℕ → NodeId
-node_at n = if nat_le n 16 then nodes.Client (client n) else nodes.Server (server (n - 32768))
+node_at n = if nat_le n 16 then nodes.Client (client n) else nodes.Server (server (n - SERVER_BASE))
 
 -- the clients of the world, in order
 abbrev pub all_clients : World → List ClientId

@@ -34,7 +34,7 @@ impl ServerMachine {
         ensures { result ≡ server.reply_header self.now.state h }
     {
         Header {
-            from: 32_768 + self.id.0,
+            from: self.id.node(),
             to: h.from,
             life: h.life,
             epoch: self.stable.epoch.0,
@@ -47,7 +47,7 @@ impl ServerMachine {
         ensures { result ≡ server.own_header self.now.state client life }
     {
         Header {
-            from: 32_768 + self.id.0,
+            from: self.id.node(),
             to: client.0,
             life: life.0,
             epoch: self.stable.epoch.0,

@@ -222,7 +222,7 @@ impl ServerMachine {
     fn is_for(&self, h: Header) -> bool
         ensures { result ≡ server.is_for self.now.state h }
     {
-        h.to == 32_768 + self.id.0 && (1 <= h.from && h.from <= 16)
+        h.to == self.id.node() && (1 <= h.from && h.from <= 16)
     }
 
     /// A message comes.

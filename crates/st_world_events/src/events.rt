@@ -27,7 +27,7 @@ pub fn node_of_number(n: u16) -> NodeId
     if n <= 16 {
         NodeId::Client(ClientId(n))
     } else {
-        NodeId::Server(ServerId(n.saturating_sub(32_768)))
+        NodeId::Server(ServerId(n.saturating_sub(ServerId::BASE)))
     }
 }
 

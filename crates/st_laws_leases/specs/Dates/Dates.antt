@@ -5,6 +5,7 @@ use Rattle.st_base.specs.declared.ids.ServerId.{ServerId}
 use Rattle.st_base.specs.declared.ids.Life.{Life}
 use Rattle.st_base.specs.declared.ids.Stamp.{Stamp}
 use Rattle.st_base.specs.declared.ids.NodeId.TheVariants as nodes
+use Rattle.st_base.specs.Nodes.{SERVER_BASE}
 use Rattle.st_messages.specs.declared.message.Message.{Message}
 use Rattle.st_rules.specs.declared.client.Request.{Request}
 use Rattle.st_rules.specs.declared.authority.Suspect.{Suspect}
@@ -41,7 +42,7 @@ is_dating m = dating.may_date m.header.number m.body
 
 -- a message from a client: every server has a node number from 32,768 on
 abbrev pub is_from_client : Message → Bool
-is_from_client m = nat_lt m.header.from 32768
+is_from_client m = nat_lt m.header.from SERVER_BASE
 
 -- the sender's clock shows the message's stamp
 abbrev pub is_stamped_by : World → Message → Bool

@@ -8,6 +8,7 @@ use Rattle.st_rules.specs.ClientState.{Association}
 use Rattle.st_rules.specs.Server.{ServerNode, is_client_node}
 use Rattle.st_rules.specs.World.{World, ClientSite, node_of, server, site_of}
 use Rattle.st_base.specs.declared.ids.ServerId.{ServerId}
+use Rattle.st_base.specs.Nodes.{SERVER_BASE}
 use Rattle.st_protocol.specs.Assoc.{Config, Msg}
 use Rattle.st_lemmas.specs.Lists.{Has}
 use Rattle.st_laws_refine.specs.Views.Halves.{Ghost}
@@ -65,7 +66,7 @@ pub record Unseen (s : ℕ) (w v : World) : Type 0 where
   pub found : node_of v (server s) ≡ node_of w (server s)
   pub messages : (m : SentMessage) → Has m v.net.messages →
       ((x : SentMessage) × Has x w.net.messages × (x.message ≡ m.message)) ⊎
-      ((m.message.header.from ≢ 32768 + s) × (is_client_node m.message.header.from ≡ true → ⊥))
+      ((m.message.header.from ≢ SERVER_BASE + s) × (is_client_node m.message.header.from ≡ true → ⊥))
 
 -- each grant that any server sent has a mode
 abbrev pub GrantsHaveModes : World → Type 0

@@ -1,5 +1,6 @@
 -- The replies by which leases are dated: each answers a request that was sent, and was sent before every timer that runs for its client.
 use Rattle.std.specs.Prelude.{◌≡◌, ℕ, ◌+◌, ◌<◌, ◌≤◌, true, Some, Ok, is_some}
+use Rattle.st_base.specs.Nodes.{SERVER_BASE}
 use Rattle.st_messages.specs.declared.event.Event.{Event}
 use Rattle.st_rules.specs.declared.input.ServerInput.TheVariants.{Control}
 use Rattle.st_rules.specs.declared.world.SentMessage.{SentMessage}
@@ -15,7 +16,7 @@ use Rattle.st_laws_refine.specs.Server.Stands.{Known, StepsAt}
 
 -- a message of this server by which a lease may be dated
 abbrev pub DatesLease : ℕ → SentMessage → Type 0
-DatesLease s m = record { from : m.message.header.from ≡ 32768 + s; dates : may_date m.message.header.number m.message.body ≡ true }
+DatesLease s m = record { from : m.message.header.from ≡ SERVER_BASE + s; dates : may_date m.message.header.number m.message.body ≡ true }
 
 -- The replies of server s: each that may date a lease has its request among the messages, and no timer that runs for its client
 -- started before it was sent; the timers of the server in the history are those of clients that it suspects, while it runs.

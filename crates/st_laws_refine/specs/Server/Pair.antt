@@ -3,6 +3,7 @@ use Rattle.std.specs.Prelude.{◌≡◌, ℕ, ◌+◌, ◌*◌, ◌<◌, ◌≤�
 use Rattle.st_base.specs.declared.config.Config.{Config}
 use Rattle.st_base.specs.declared.ids.Stamp.{Stamp}
 use Rattle.st_base.specs.declared.ids.NodeId.TheVariants as nodes
+use Rattle.st_base.specs.Nodes.{SERVER_BASE}
 use Rattle.st_messages.specs.declared.message.Message.{Message}
 use Rattle.st_rules.specs.declared.world.SentMessage.{SentMessage}
 use Rattle.st_rules.specs.declared.world.LeaseLife.{LeaseLife}
@@ -56,8 +57,8 @@ EndedBy c s ended es = (e : LeaseLife) → Has e es → e.client.0 ≡ c → e.s
 
 -- a message between the two
 pub record Wire (c s : ℕ) (m : Message) (N : List Msg) : Type 0 where
-  pub to_client : m.header.from ≡ 32768 + s → m.header.to ≡ c → Shown m N
-  pub to_server : m.header.to ≡ 32768 + s → is_client_node m.header.from ≡ true → m.header.from ≡ c → Heard m.header m.body N
+  pub to_client : m.header.from ≡ SERVER_BASE + s → m.header.to ≡ c → Shown m N
+  pub to_server : m.header.to ≡ SERVER_BASE + s → is_client_node m.header.from ≡ true → m.header.from ≡ c → Heard m.header m.body N
 
 -- all messages between the two
 abbrev pub Wires : ℕ → ℕ → List SentMessage → List Msg → Type 0
